@@ -16,7 +16,7 @@
 --                                                                                           stm_driver, Runs.antt
 --
 -- What every attempt reads, aborted ones too, and that an irrevocable one ends committed, is said of the calls that `run` makes (stm_tx): MODEL and PROMISES name those clauses.
-use Rattle.std.specs.Prelude.{ℕ, ◌≡◌, true, length, List, Option, Some, Ok}
+use Rattle.std.specs.Prelude.{ℕ, ◌≡◌, true, false, length, List, Option, Some, Ok}
 use Rattle.std.specs.Borrow.{Bor}
 use Rattle.stm_profile.specs.declared.policy.Policy.{Policy}
 use Rattle.stm_profile.specs.Policies.{ruling}
@@ -46,7 +46,7 @@ pub record RanRight (policy : Policy) (text said : List ℕ) (closed : Ended) : 
   pub shows : Shows closed.history closed.opening closed.clock workload report
   pub along : GoesAlong (regions_of workload.header) (script_of workload.items) closed.history (zeros workload.header.words) (zeros workload.header.words) report.rows
   pub callers : length closed.installs ≡ workload.header.callers
-  pub installs : AreInstalls true (ruling policy workload.header.policy) workload report.rows 0 closed.installs
+  pub installs : AreInstalls false true (ruling policy workload.header.policy) workload report.rows 0 closed.installs
 
 -- a text was read, its run under this policy was right, and what it says was written whole
 pub record ReadAndRan {S : Type 0} (left : S → Option (List ℕ)) (source : S) {K : Type 0} (held : K → Option (List ℕ)) (sink sink' : K) (last : Option Ended) (policy : Policy) : Type 0 where

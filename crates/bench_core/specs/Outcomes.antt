@@ -1,5 +1,5 @@
 -- What a call of `bench` read and wrote, by the status that it answers.
-use Rattle.std.specs.Prelude.{ℕ, ◌≡◌, ◌≤◌, ◌++◌, length, List, Option, Some, None, Ok, Err, MatchOption}
+use Rattle.std.specs.Prelude.{ℕ, ◌≡◌, ◌≤◌, ◌++◌, false, length, List, Option, Some, None, Ok, Err, MatchOption}
 use Rattle.std.specs.Borrow.{Bor}
 use Rattle.stm_profile.specs.declared.policy.Policy.{Policy}
 use Rattle.stm_profile.specs.declared.policy.Policy.TheVariants.{Fixed}
@@ -29,7 +29,7 @@ use Rattle.stm_words.specs.Asking.{Asks, texts_of}
 pub record RanToEnd (policy : Policy) (w : Workload) (closed : Ended) (said : List ℕ) : Type 0 where
   pub report : Report
   pub fits : ReportFits report
-  pub shown : IsShown (ruling policy w.header.policy) w report closed
+  pub shown : IsShown false (ruling policy w.header.policy) w report closed
   pub is : said ≡ report_bytes report
 
 -- the run came to a transaction at the clock's limit
@@ -94,7 +94,7 @@ SaidOf m policy text (No line) closed said = ⊥
 -- the run of the workload that is drawn went to its end, and what is said is the summary of a report that replays it and shows the closed memory's history; the number of transactions alone tells which
 pub record RanToSummary (n t seed : ℕ) (closed : Ended) (said : List ℕ) : Type 0 where
   pub report : Report
-  pub shown : IsShown Fixed (generated n t seed) report closed
+  pub shown : IsShown false Fixed (generated n t seed) report closed
   pub is : said ≡ summary_bytes (summary_of report)
   pub counted : summary_of report ≡ summary_for n
 

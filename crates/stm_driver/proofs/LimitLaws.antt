@@ -80,13 +80,13 @@ module _ {K : Type 0} where
   left_items [] = 0
   left_items (r ∷ rs) = length r.items_left.now + left_items rs
 
-module _ {K : Type 0} (good : List ℕ → Type 0) (policy : Policy) (w : Workload) (stm : Stm K) (items : All (BuiltItem w.header) w.items) (sized : stm.config ≡ config_of w.header) where
+module _ {K : Type 0} (good : List ℕ → Type 0) (cut : Bool) (policy : Policy) (w : Workload) (stm : Stm K) (items : All (BuiltItem w.header) w.items) (sized : stm.config ≡ config_of w.header) where
   -- one that met the limit has fewer rows than scripts
-  met-short : (n : ℕ) (r : Worker K) (clock : ℕ) → Stood good policy w stm sized n r → MetLimit r clock → suc (length r.rows.items) ≤ length (scripts_of n w.items)
+  met-short : (n : ℕ) (r : Worker K) (clock : ℕ) → Stood good cut policy w stm sized n r → MetLimit r clock → suc (length r.rows.items) ≤ length (scripts_of n w.items)
   met-short n r clock s met =
-      let own : All (λ i. caller_in i ≡ n) r.items_left.now = subst (λ k. All (λ i. caller_in i ≡ k) r.items_left.now) (stood-caller good policy w stm sized n r s) (own-items good stm.config.words (caller_of r.desc.who.role) r.regions.now r.items_left.now s.sound.fits) in
+      let own : All (λ i. caller_in i ≡ n) r.items_left.now = subst (λ k. All (λ i. caller_in i ≡ k) r.items_left.now) (stood-caller good cut policy w stm sized n r s) (own-items good stm.config.words (caller_of r.desc.who.role) r.regions.now r.items_left.now s.sound.fits) in
       let some = left-some n r.items_left.now met.2 own in
-      let todo = ap length (stood-todo good policy w stm sized n r s) in
+      let todo = ap length (stood-todo good cut policy w stm sized n r s) in
       drop-some (length r.rows.items) (scripts_of n w.items) (omega arith)
 
   -- what follows from one that met the limit
@@ -96,11 +96,11 @@ module _ {K : Type 0} (good : List ℕ → Type 0) (policy : Policy) (w : Worklo
     pub short : suc (length (rows_of rs)) ≤ total n (length rs) w.items
     pub left : 1 ≤ left_items rs
 
-  met-first : (n : ℕ) (rs : List (Worker K)) (closed : Ended) (clock : ℕ) → Each (Stood good policy w stm sized) n rs → AllTold closed n (descs_of rs) → MetSome rs clock → MetFirst n rs closed clock
+  met-first : (n : ℕ) (rs : List (Worker K)) (closed : Ended) (clock : ℕ) → Each (Stood good cut policy w stm sized) n rs → AllTold closed n (descs_of rs) → MetSome rs clock → MetFirst n rs closed clock
   met-first n [] closed clock h told is = absurd is
   met-first n (r ∷ rs) closed clock h told (inl met) =
       let one = met-short n r clock h.0 met in
-      let rest = rows-total good policy w stm sized (suc n) rs h.1 in
+      let rest = rows-total good cut policy w stm sized (suc n) rs h.1 in
       let both = length-append r.rows.items (rows_of rs) in
       let some = before-some r.items_left.now met.2 in
       record {
@@ -111,18 +111,18 @@ module _ {K : Type 0} (good : List ℕ → Type 0) (policy : Policy) (w : Worklo
       }
   met-first n (r ∷ rs) closed clock h told (inr met) =
       let rest = met-first (suc n) rs closed clock h.1 told.1 met in
-      let one = stood-within good policy w stm sized n r h.0 in
+      let one = stood-within good cut policy w stm sized n r h.0 in
       let both = length-append r.rows.items (rows_of rs) in
       let short = rest.short in
       let l = rest.left in
       record { low = rest.low; high = rest.high; short = omega (arith, one, both, short); left = omega (arith, l) }
 
-  made-total : (n : ℕ) (rs : List (Worker K)) (closed : Ended) → Each (Stood good policy w stm sized) n rs → All (λ (r : Worker K). r.phase ≡ Between) rs → AllTold closed n (descs_of rs) → dealt (λ (e : Entry). 1) n (length rs) closed.history ≤ length (rows_of rs)
+  made-total : (n : ℕ) (rs : List (Worker K)) (closed : Ended) → Each (Stood good cut policy w stm sized) n rs → All (λ (r : Worker K). r.phase ≡ Between) rs → AllTold closed n (descs_of rs) → dealt (λ (e : Entry). 1) n (length rs) closed.history ≤ length (rows_of rs)
   made-total n [] closed h between told = omega arith
   made-total n (r ∷ rs) closed h between told =
       let P : Worker K → Type 0 = λ (r : Worker K). r.phase ≡ Between in
       let made : (known r.desc).made ≡ made_by n closed.history = told.0.made in
-      let few = made-few r.rows.items (known r.desc).made (stood-works good policy w stm sized n r h.0 (All-head P r rs between)).writers in
+      let few = made-few r.rows.items (known r.desc).made (stood-works good cut policy w stm sized n r h.0 (All-head P r rs between)).writers in
       let count = ones (made_by n closed.history) in
       let same = ap length made in
       let rest = made-total (suc n) rs closed h.1 (All-tail P r rs between) told.1 in
@@ -130,7 +130,7 @@ module _ {K : Type 0} (good : List ℕ → Type 0) (policy : Policy) (w : Worklo
       omega arith
 
   -- with nothing open all that was raised is counted
-  raised-all : (n : ℕ) (r : Worker K) → Stood good policy w stm sized n r → r.phase ≡ Between → raised (known r.desc) ≡ r.desc.view.steps.rises
+  raised-all : (n : ℕ) (r : Worker K) → Stood good cut policy w stm sized n r → r.phase ≡ Between → raised (known r.desc) ≡ r.desc.view.steps.rises
   raised-all n r s between =
       let idle : IsIdle (known r.desc) = subst (λ p. IsAt good stm.config (caller_of r.desc.who.role) p (known r.desc)) between s.sound.at in
       ap (λ b. if b then (known r.desc).base else (known r.desc).rises) idle.1
@@ -144,7 +144,7 @@ module _ {K : Type 0} (good : List ℕ → Type 0) (policy : Policy) (w : Worklo
   enough-first most u none (inr e) = inr (e.0, none, e.1)
 
   rises-total : (each most : ℕ) → IsEnough most → most + 3 ≤ each → ((a b : ℕ) → each * (a + b) ≡ each * a + each * b) → (n : ℕ) (us rs : List (Worker K)) → StartCovered w.header.alg n us → AreCoveredFor stm us rs
-      → Each (Stood good policy w stm sized) n rs → All (λ (r : Worker K). r.phase ≡ Between) rs → sum_by (λ (d : Handle K). d.view.steps.rises) (descs_of rs) ≤ each * all_items n (length rs) w.items + length (first_installs w.header.alg n)
+      → Each (Stood good cut policy w stm sized) n rs → All (λ (r : Worker K). r.phase ≡ Between) rs → sum_by (λ (d : Handle K). d.view.steps.rises) (descs_of rs) ≤ each * all_items n (length rs) w.items + length (first_installs w.header.alg n)
   rises-total each most much wide over n [] [] starts covered h between = omega arith
   rises-total each most much wide over n [] (r ∷ rs) starts covered h between = absurd covered
   rises-total each most much wide over n (u ∷ us) [] starts covered h between = absurd covered
@@ -158,7 +158,7 @@ module _ {K : Type 0} (good : List ℕ → Type 0) (policy : Policy) (w : Worklo
       let both = over (length (items_of n w.items)) (all_items (suc n) (length rs) w.items) in
       omega (arith, alone, all, whole, rest, cons, both)
 
-  rises-most : (us rs : List (Worker K)) → StartCovered w.header.alg 0 us → AreCoveredFor stm us rs → Each (Stood good policy w stm sized) 0 rs → All (λ (r : Worker K). r.phase ≡ Between) rs
+  rises-most : (us rs : List (Worker K)) → StartCovered w.header.alg 0 us → AreCoveredFor stm us rs → Each (Stood good cut policy w stm sized) 0 rs → All (λ (r : Worker K). r.phase ≡ Between) rs
       → sum_by (λ (d : Handle K). d.view.steps.rises) (descs_of rs) ≤ most_rises w.header.callers * length w.items + 1
   rises-most us rs starts covered h between = by (w.header.callers == 1) refl
     where
@@ -178,7 +178,7 @@ module _ {K : Type 0} (good : List ℕ → Type 0) (policy : Policy) (w : Worklo
           omega (arith, r, f)
 
   -- none has anything open, and one met the limit
-  pub full : Forms good w → (us rs : List (Worker K)) (ws : List ℕ) (closed : Ended) (clock : ℕ) → RanSome AreFirst policy w closed → StartCovered w.header.alg 0 us → AreCoveredFor stm us rs → Each (Stood good policy w stm sized) 0 rs → All (λ (r : Worker K). r.phase ≡ Between) rs → length rs ≡ stm.config.callers → MetSome rs clock → Closes good stm.config (descs_of rs) ws closed
+  pub full : Forms good w → (us rs : List (Worker K)) (ws : List ℕ) (closed : Ended) (clock : ℕ) → RanSome false AreFirst policy w closed → StartCovered w.header.alg 0 us → AreCoveredFor stm us rs → Each (Stood good cut policy w stm sized) 0 rs → All (λ (r : Worker K). r.phase ≡ Between) rs → length rs ≡ stm.config.callers → MetSome rs clock → Closes good stm.config (descs_of rs) ws closed
       → IsFull policy w clock closed
   full forms us rs ws closed clock ran starts covered stood between len is c =
       let met = met-first 0 rs closed clock stood c.told is in
@@ -191,7 +191,7 @@ module _ {K : Type 0} (good : List ℕ → Type 0) (policy : Policy) (w : Worklo
       let risen = c.clock in
       let rises = rises-most us rs starts covered stood between in
       let made = made-total 0 rs closed stood between c.told in
-      let all = all-made good policy w stm items sized (λ (e : Entry). 1) rs ws closed len c ∙ ones closed.history in
+      let all = all-made good cut policy w stm items sized (λ (e : Entry). 1) rs ws closed len c ∙ ones closed.history in
       record { opening = c.opening ∙ opening; found = omega arith; limit = omega arith; history = history-of good w forms stm.config sized (descs_of rs) ws closed c; ran = ran; left = omega arith; bound = omega arith }
 
   -- the clock that was found is at its limit, and at most the last
@@ -205,9 +205,9 @@ module _ {K : Type 0} (good : List ℕ → Type 0) (policy : Policy) (w : Worklo
   found-within n (v ∷ vs) (x ∷ ws) closed clock e t (inr f) = found-within (suc n) vs ws closed clock e.1 t.1 f
 
   -- a call of one found the clock full, whatever the others have open
-  pub cut : Forms good w → policy ≡ w.header.policy → (begun ran : List (Worker K)) (gos : List Go) (lines : List Line) (clock : ℕ) (closed : Ended) → gos ≡ w.schedule → Begun good policy w stm items sized begun → Drives stm.config gos begun ran lines (Err (ClockFull clock))
-      → CutShort good stm ran closed → RanSome ArePart policy w closed → IsCut w lines clock closed
-  cut forms ruled begun ran gos lines clock closed is b drives c some =
+  pub cut-short : Forms good w → policy ≡ w.header.policy → (begun ran : List (Worker K)) (gos : List Go) (lines : List Line) (clock : ℕ) (closed : Ended) → gos ≡ w.schedule → Begun good cut policy w stm items sized begun → Drives stm.config gos begun ran lines (Err (ClockFull clock))
+      → CutShort good stm ran closed → RanSome true ArePart policy w closed → IsCut w lines clock closed
+  cut-short forms ruled begun ran gos lines clock closed is b drives c some =
       let found = found-within 0 ran c.after closed clock c.idle c.closes.told drives.2 in
       let low = found.0 in
       let high = found.1 in
@@ -225,6 +225,6 @@ module _ {K : Type 0} (good : List ℕ → Type 0) (policy : Policy) (w : Worklo
         found = omega (arith, low, high, limit);
         limit = omega (arith, low, high, limit);
         history = history-of good w forms stm.config sized (descs_of c.after) c.words closed c.closes;
-        ran = subst (λ (p : Policy). RanSome ArePart p w closed) ruled some;
+        ran = subst (λ (p : Policy). RanSome true ArePart p w closed) ruled some;
         bound = omega (arith, low, high, limit, opening, risen, rises, covered, none);
       }

@@ -1,5 +1,6 @@
 -- The callers of a memory that caller 0 has installed an algorithm in.
 use Rattle.std.proofs.Common.{ℕ, zero, suc, ◌≡◌, ◌<◌, ◌+◌, List, [], ◌∷◌, length, get_or, set, refl, sym, ap, ◌∙◌, subst, arith}
+use Rattle.std.specs.Prelude.{All}
 use Rattle.stm_rule.specs.declared.stm.Stm.{Stm}
 use Rattle.rule_base.specs.Opening.{first_view}
 use Rattle.stm_model.specs.declared.alg.Alg.{Alg}
@@ -40,6 +41,15 @@ module _ {K : Type 0} (stm : Stm K) (alg : Alg) where
     (long.0 ∙ (ap (λ (q : Handle K). (known q).reads_limit) is ∙ (long-first c h.2 h.3).0), long.1 ∙ (ap (λ (q : Handle K). (known q).writes_limit) is ∙ (long-first c h.2 h.3).1)),
     new-others 0 ds h.4,
   )
+
+  -- where it is alone, it knows the algorithm
+  pub all-know : (ds : List (Handle K)) (d : Handle K) → 0 < length ds → length ds ≡ stm.config.callers → (stm.config.callers ≡ 1 → (known d).alg ≡ alg) → All (λ (x : Handle K). stm.config.callers ≡ 1 → (known x).alg ≡ alg) (set ds 0 d)
+  all-know [] d some long knows = absurd (omega arith)
+  all-know (c ∷ ds) d some long knows = each
+    where
+      each : (i : ℕ) (x : Handle K) → i < suc (length ds) → stm.config.callers ≡ 1 → (known (get_or (d ∷ ds) i x)).alg ≡ alg
+      each zero x lt one = knows one
+      each (suc i) x lt one = absurd (omega (arith, lt, long, one))
 
   -- each is the caller of its place
   pub numbered : (n : ℕ) (ds : List (Handle K)) → AllNew stm alg n ds → (k : ℕ) (d : Handle K) → k < length ds → caller_of (get_or ds k d).who.role ≡ n + k

@@ -1,6 +1,6 @@
 -- From the workers before the first turn to what a run came to.
 use Rattle.std.proofs.Common.{ℕ, suc, ◌≡◌, ◌<◌, ◌≤◌, List, [], ◌∷◌, ◌++◌, length, get_or, take, drop, refl, sym, ap, ◌∙◌, arith, subst, inl, inr}
-use Rattle.std.specs.Prelude.{Result, Ok, Err, OnOk, All, IsPermutation}
+use Rattle.std.specs.Prelude.{Bool, true, false, Result, Ok, Err, OnOk, All, IsPermutation}
 use Rattle.std.proofs.lemmas.List.{append-nil}
 use Rattle.std.proofs.lemmas.List.Elements.{All-head, All-tail}
 use Rattle.stm_profile.specs.declared.policy.Policy.{Policy}
@@ -36,7 +36,7 @@ use Rattle.stm_driver.specs.Preparings.{BuiltItem, Forms, WorkloadKeeps, IsPrepa
 use Rattle.stm_driver.specs.Runs.{AreFirst, ArePart, IsShown, IsStopped, IsTraced, HasRun, HasStepped, RanSome}
 use Rattle.stm_driver.specs.Schedules.{places, AreSame, AreSound, Drives}
 use Rattle.stm_driver.proofs.IdleLaws.{idle-length, idle-still}
-use Rattle.stm_driver.proofs.LimitLaws.{MetSome, full, cut}
+use Rattle.stm_driver.proofs.LimitLaws.{MetSome, full, cut-short}
 use Rattle.stm_driver.proofs.PartingLaws.{all-cons, written}
 use Rattle.stm_driver.proofs.PartLaws.{ran-some}
 use Rattle.stm_driver.proofs.PreparedLaws.{AreOwn, Begun, begun, own-callers, own-same, sizes-of}
@@ -89,42 +89,42 @@ module _ {K : Type 0} where
   how-between ws (Ok x) between = between
   how-between ws (Err halt) between = tt
 
-module _ {K : Type 0} (good : List ℕ → Type 0) (policy : Policy) (w : Workload) (stm : Stm K) (items : All (BuiltItem w.header) w.items) (sized : stm.config ≡ config_of w.header) where
+module _ {K : Type 0} (good : List ℕ → Type 0) (cut : Bool) (policy : Policy) (w : Workload) (stm : Stm K) (items : All (BuiltItem w.header) w.items) (sized : stm.config ≡ config_of w.header) where
   -- the workers after their turns, as closing wants them
   pub record Turned (ran : List (Worker K)) : Type 0 where
     pub sound : AreSound good stm ran
-    pub own : AreOwn policy w 0 ran
+    pub own : AreOwn cut policy w 0 ran
     pub callers : AreCallers 0 ran
     pub count : length ran ≡ stm.config.callers
     pub rows : length (rows_of ran) ≤ length w.items
 
-  pub turned : (begun ran : List (Worker K)) → Begun good policy w stm items sized begun → AreSame begun ran → AreSound good stm ran → Turned ran
+  pub turned : (begun ran : List (Worker K)) → Begun good cut policy w stm items sized begun → AreSame cut begun ran → AreSound good stm ran → Turned ran
   turned begun ran b same sound =
-      let own = own-same policy w 0 begun ran same b.own in
+      let own = own-same cut policy w 0 begun ran same b.own in
       let count = same-length begun ran same in
       let many = b.count in
       let sizes = ap (λ (c : Config). c.callers) sized in
       record {
         sound = sound;
         own = own;
-        callers = own-callers policy w 0 ran own;
+        callers = own-callers cut policy w 0 ran own;
         count = omega (arith, count, many, sizes);
-        rows = rows-few good policy w stm sized 0 ran (stood-each good policy w stm sized 0 ran sound own);
+        rows = rows-few good cut policy w stm sized 0 ran (stood-each good cut policy w stm sized 0 ran sound own);
       }
 
-  stands : (ran : List (Worker K)) → Turned ran → Each (Stood good policy w stm sized) 0 ran
-  stands ran t = stood-each good policy w stm sized 0 ran t.sound t.own
+  stands : (ran : List (Worker K)) → Turned ran → Each (Stood good cut policy w stm sized) 0 ran
+  stands ran t = stood-each good cut policy w stm sized 0 ran t.sound t.own
 
   -- the workers, lent as a slice for their turns, and what came back
   pub record Done (rs ran left : List (CachePadded (Runner K))) : Type 0 where
-    pub begun : Begun good policy w stm items sized (workers_in rs)
+    pub begun : Begun good cut policy w stm items sized (workers_in rs)
     pub is : left ≡ ran
     pub turned : Turned (workers_in left)
 
   pub done : WorkloadKeeps good w → (parts : List (List Item)) → parts ≡ parted w.header.callers w.items → (rs lent ran : List (CachePadded (Runner K))) (n : ℕ) → IsPrepared w.header policy parts stm (workers_in rs) → lent ≡ rs → length lent ≡ n
-      → AreSame (workers_in lent) (workers_in ran) → AreSound good stm (workers_in ran) → Done rs ran (take n (ran ++ drop (length ran) rs))
+      → AreSame cut (workers_in lent) (workers_in ran) → AreSound good stm (workers_in ran) → Done rs ran (take n (ran ++ drop (length ran) rs))
   done keeps parts parting rs lent ran n p same long kept sound =
-      let first = begun good policy w stm items sized keeps parts (workers_in rs) parting p in
+      let first = begun good cut policy w stm items sized keeps parts (workers_in rs) parting p in
       let also = ap length same in
       let count = same-length (workers_in lent) (workers_in ran) kept in
       let a = workers-length lent in
@@ -133,12 +133,12 @@ module _ {K : Type 0} (good : List ℕ → Type 0) (policy : Policy) (w : Worklo
       record {
         begun = first;
         is = is;
-        turned = subst (λ l. Turned (workers_in l)) (sym is) (turned (workers_in rs) (workers_in ran) first (subst (λ l. AreSame (workers_in l) (workers_in ran)) same kept) sound);
+        turned = subst (λ l. Turned (workers_in l)) (sym is) (turned (workers_in rs) (workers_in ran) first (subst (λ l. AreSame cut (workers_in l) (workers_in ran)) same kept) sound);
       }
 
   -- what all threads did
   pub record RanAll (lent ran : List (CachePadded (Runner K))) : Type 0 where
-    pub same : AreSame (workers_in lent) (workers_in ran)
+    pub same : AreSame false (workers_in lent) (workers_in ran)
     pub sound : AreSound good stm (workers_in ran)
     pub between : All (λ (w : Worker K). w.phase ≡ Between) (workers_in ran)
     pub through : AllThrough ran
@@ -166,19 +166,19 @@ module _ {K : Type 0} (good : List ℕ → Type 0) (policy : Policy) (w : Worklo
 
   module _ (theorem : ReportReplays good) (forms : Forms good w) where
     -- what was done: with nothing open the first items of each caller
-    ran-first : (ran : List (Worker K)) (closed : Ended) → Turned ran → All (λ (w : Worker K). w.phase ≡ Between) ran → CutShort good stm ran closed → RanSome AreFirst policy w closed
+    ran-first : (ran : List (Worker K)) (closed : Ended) → Turned ran → All (λ (w : Worker K). w.phase ≡ Between) ran → CutShort good stm ran closed → RanSome cut AreFirst policy w closed
     ran-first ran closed t between c =
-        ran-some good policy w stm items sized theorem forms AreFirst (λ (w : Worker K). w.phase ≡ Between) (λ n v x s h p. (v.items_left.now, sym s.own.all ∙ h.did.calm p))
+        ran-some good cut policy w stm items sized theorem forms AreFirst (λ (w : Worker K). w.phase ≡ Between) (λ n v x s h p. (v.items_left.now, sym s.own.all ∙ h.did.calm p))
         ran c.after c.words closed (stands ran t) between c.idle (idle-length good stm ran c.after c.idle ∙ t.count) c.closes
 
     -- and else a part of them
-    ran-part : (ran : List (Worker K)) (closed : Ended) → Turned ran → CutShort good stm ran closed → RanSome ArePart policy w closed
+    ran-part : (ran : List (Worker K)) (closed : Ended) → Turned ran → CutShort good stm ran closed → RanSome cut ArePart policy w closed
     ran-part ran closed t c =
-        ran-some good policy w stm items sized theorem forms ArePart (λ (w : Worker K). Unit {0}) (λ n v x s h p. (v.items_left.now, subst (λ l. IsPart l v.items_left.now h.did.items) s.own.all h.did.part))
+        ran-some good cut policy w stm items sized theorem forms ArePart (λ (w : Worker K). Unit {0}) (λ n v x s h p. (v.items_left.now, subst (λ l. IsPart l v.items_left.now h.did.items) s.own.all h.did.part))
         ran c.after c.words closed (stands ran t) (λ i d lt. tt) c.idle (idle-length good stm ran c.after c.idle ∙ t.count) c.closes
 
     -- nothing is open, and the memory is closed
-    stopped-between : (ran : List (Worker K)) (closed : Ended) → Turned ran → All (λ (w : Worker K). w.phase ≡ Between) ran → CutShort good stm ran closed → IsStopped AreFirst policy w closed
+    stopped-between : (ran : List (Worker K)) (closed : Ended) → Turned ran → All (λ (w : Worker K). w.phase ≡ Between) ran → CutShort good stm ran closed → IsStopped cut AreFirst policy w closed
     stopped-between ran closed t between c = record {
       opening = c.closes.opening ∙ ap (λ (x : Config). x.clock) sized;
       history = history-of good w forms stm.config sized (descs_of c.after) c.words closed c.closes;
@@ -186,37 +186,40 @@ module _ {K : Type 0} (good : List ℕ → Type 0) (policy : Policy) (w : Worklo
     }
 
     -- what `run` came to
-    pub has-run : (lent ran : List (CachePadded (Runner K))) (how : Result (Unit {0}) Halt) (outcome : Outcome) → Begun good policy w stm items sized (workers_in lent) → RanAll lent ran → Turned (workers_in ran) → how ≡ how_all ran → Came good stm (workers_in ran) how outcome → HasRun policy w outcome
-    has-run lent ran how outcome b r t is came = by how (sym is) outcome came
+    pub has-run : cut ≡ false → (lent ran : List (CachePadded (Runner K))) (how : Result (Unit {0}) Halt) (outcome : Outcome) → Begun good cut policy w stm items sized (workers_in lent) → RanAll lent ran → Turned (workers_in ran) → how ≡ how_all ran → Came good stm (workers_in ran) how outcome → HasRun policy w outcome
+    has-run uncut lent ran how outcome b r t is came = by how (sym is) outcome came
       where
         by : (h : Result (Unit {0}) Halt) → how_all ran ≡ h → (o : Outcome) → Came good stm (workers_in ran) h o → HasRun policy w o
-        by (Ok x) e (ToEnd report closed) c = shown good policy w stm items sized theorem forms (workers_in ran) c.words closed report (stands (workers_in ran) t) t.count (none-left ran r.through r.between e) c.closes c.is
+        by (Ok x) e (ToEnd report closed) c = subst (λ b. IsShown b policy w report closed) uncut (shown good cut policy w stm items sized theorem forms (workers_in ran) c.words closed report (stands (workers_in ran) t) t.count (none-left ran r.through r.between e) c.closes c.is)
         by (Ok x) e (ToLimit clock closed) c = absurd c
-        by (Ok x) e (OutOfMemory closed) c = (let q = c.1 in inl (c.0, shown good policy w stm items sized theorem forms (workers_in ran) q.words closed c.0 (stands (workers_in ran) t) t.count (none-left ran r.through r.between e) q.closes q.is))
+        by (Ok x) e (OutOfMemory closed) c = (let q = c.1 in inl (c.0, subst (λ b. IsShown b policy w c.0 closed) uncut (shown good cut policy w stm items sized theorem forms (workers_in ran) q.words closed c.0 (stands (workers_in ran) t) t.count (none-left ran r.through r.between e) q.closes q.is)))
         by (Err (ClockFull found)) e (ToEnd report closed) c = absurd c
         by (Err (ClockFull found)) e (ToLimit clock closed) c =
             let after = idle-still good stm (workers_in ran) c.1.after r.between c.1.idle in
-            full good policy w stm items sized forms (workers_in lent) (workers_in ran) c.1.words closed clock (ran-first (workers_in ran) closed t r.between c.1) b.covered r.covered (stands (workers_in ran) t) r.between t.count (met-some ran clock r.through (e ∙ ap (λ k. Err (ClockFull k)) (sym c.0)))
+            full good cut policy w stm items sized forms (workers_in lent) (workers_in ran) c.1.words closed clock (subst (λ b. RanSome b AreFirst policy w closed) uncut (ran-first (workers_in ran) closed t r.between c.1)) b.covered r.covered (stands (workers_in ran) t) r.between t.count (met-some ran clock r.through (e ∙ ap (λ k. Err (ClockFull k)) (sym c.0)))
             (subst (λ ws. Closes good stm.config (descs_of ws) c.1.words closed) after c.1.closes)
         by (Err (ClockFull found)) e (OutOfMemory closed) c = absurd c
         by (Err Memory) e (ToEnd report closed) c = absurd c
         by (Err Memory) e (ToLimit clock closed) c = absurd c
-        by (Err Memory) e (OutOfMemory closed) c = inr (stopped-between (workers_in ran) closed t r.between c)
+        by (Err Memory) e (OutOfMemory closed) c = inr (subst (λ b. IsStopped b AreFirst policy w closed) uncut (stopped-between (workers_in ran) closed t r.between c))
 
-    module _ (ruled : policy ≡ w.header.policy) where
-      traced : (begun ran : List (Worker K)) (gos : List Go) (lines : List Line) (report : Report) (closed : Ended) → gos ≡ w.schedule → Begun good policy w stm items sized begun → Turned ran → Drives stm.config gos begun ran lines (Ok tt)
+    module _ (ruled : policy ≡ w.header.policy) (may : cut ≡ true) where
+      whole-shown : (ran : List (Worker K)) (report : Report) (closed : Ended) → Turned ran → All IsOver (places ran) → Reported good stm ran report closed → IsShown true w.header.policy w report closed
+      whole-shown ran report closed t over r = subst (λ b. IsShown b w.header.policy w report closed) may (subst (λ (p : Policy). IsShown cut p w report closed) ruled (shown good cut policy w stm items sized theorem forms ran r.words closed report (stands ran t) t.count over r.closes r.is))
+
+      traced : (begun ran : List (Worker K)) (gos : List Go) (lines : List Line) (report : Report) (closed : Ended) → gos ≡ w.schedule → Begun good cut policy w stm items sized begun → Turned ran → Drives stm.config gos begun ran lines (Ok tt)
           → Reported good stm ran report closed → IsTraced w lines report closed
       traced begun ran gos lines report closed is b t drives r =
           let whole = drives.0 w.header (sizes-of stm.config w.header sized) report.rows (subst (λ rows. IsPermutation rows report.rows) (sym (told-rows ran)) r.is.moved) in
           let sorted = subst (λ ps. fits.IsWhole w.header ps gos lines report.rows) (b.starts ruled) whole in
           record {
             fits = subst (λ s. fits.IsWhole w.header (first_places w) s lines report.rows) is sorted;
-            shown = subst (λ (p : Policy). IsShown p w report closed) ruled (shown good policy w stm items sized theorem forms ran r.words closed report (stands ran t) t.count drives.1 r.closes r.is);
+            shown = whole-shown ran report closed t drives.1 r;
           }
 
       -- all was done, and no report of it was made
-      stopped-whole : (begun ran : List (Worker K)) (gos : List Go) (lines : List Line) (report : Report) (closed : Ended) → Begun good policy w stm items sized begun → Turned ran → Drives stm.config gos begun ran lines (Ok tt) → Reported good stm ran report closed
-          → IsStopped ArePart w.header.policy w closed
+      stopped-whole : (begun ran : List (Worker K)) (gos : List Go) (lines : List Line) (report : Report) (closed : Ended) → Begun good cut policy w stm items sized begun → Turned ran → Drives stm.config gos begun ran lines (Ok tt) → Reported good stm ran report closed
+          → IsStopped true ArePart w.header.policy w closed
       stopped-whole begun ran gos lines report closed b t d r = record {
         opening = r.closes.opening ∙ ap (λ (x : Config). x.clock) sized;
         history = history-of good w forms stm.config sized (descs_of ran) r.words closed r.closes;
@@ -225,23 +228,23 @@ module _ {K : Type 0} (good : List ℕ → Type 0) (policy : Policy) (w : Worklo
           header = refl;
           each = λ n lt. ([], (items_of n w.items, sym (append-nil (items_of n w.items)), inl refl));
           report = report;
-          shown = shown-some w.header.policy w report closed (subst (λ (p : Policy). IsShown p w report closed) ruled (shown good policy w stm items sized theorem forms ran r.words closed report (stands ran t) t.count d.1 r.closes r.is));
+          shown = shown-some true w.header.policy w report closed (whole-shown ran report closed t d.1 r);
         };
       }
 
       -- what `step` came to
-      pub has-stepped : (begun ran : List (Worker K)) (gos : List Go) (lines : List Line) (how : Result (Unit {0}) Halt) (outcome : Outcome) → gos ≡ w.schedule → Begun good policy w stm items sized begun → Turned ran → Drives stm.config gos begun ran lines how
+      pub has-stepped : (begun ran : List (Worker K)) (gos : List Go) (lines : List Line) (how : Result (Unit {0}) Halt) (outcome : Outcome) → gos ≡ w.schedule → Begun good cut policy w stm items sized begun → Turned ran → Drives stm.config gos begun ran lines how
           → Came good stm ran how outcome → HasStepped w lines outcome
       has-stepped begun ran gos lines (Ok x) (ToEnd report closed) is b t d c = traced begun ran gos lines report closed is b t d c
       has-stepped begun ran gos lines (Ok x) (ToLimit clock closed) is b t d c = absurd c
       has-stepped begun ran gos lines (Ok x) (OutOfMemory closed) is b t d c = stopped-whole begun ran gos lines c.0 closed b t d c.1
       has-stepped begun ran gos lines (Err (ClockFull found)) (ToEnd report closed) is b t d c = absurd c
       has-stepped begun ran gos lines (Err (ClockFull found)) (ToLimit clock closed) is b t d c =
-          cut good policy w stm items sized forms ruled begun ran gos lines clock closed is b (subst (λ k. Drives stm.config gos begun ran lines (Err (ClockFull k))) (sym c.0) d) c.1 (ran-part ran closed t c.1)
+          cut-short good cut policy w stm items sized forms ruled begun ran gos lines clock closed is b (subst (λ k. Drives stm.config gos begun ran lines (Err (ClockFull k))) (sym c.0) d) c.1 (subst (λ b. RanSome b ArePart policy w closed) may (ran-part ran closed t c.1))
       has-stepped begun ran gos lines (Err (ClockFull found)) (OutOfMemory closed) is b t d c = absurd c
       has-stepped begun ran gos lines (Err Memory) (ToEnd report closed) is b t d c = absurd c
       has-stepped begun ran gos lines (Err Memory) (ToLimit clock closed) is b t d c = absurd c
-      has-stepped begun ran gos lines (Err Memory) (OutOfMemory closed) is b t d c = record { opening = c.closes.opening ∙ ap (λ (x : Config). x.clock) sized; history = history-of good w forms stm.config sized (descs_of c.after) c.words closed c.closes; ran = subst (λ (p : Policy). RanSome ArePart p w closed) ruled (ran-part ran closed t c) }
+      has-stepped begun ran gos lines (Err Memory) (OutOfMemory closed) is b t d c = record { opening = c.closes.opening ∙ ap (λ (x : Config). x.clock) sized; history = history-of good w forms stm.config sized (descs_of c.after) c.words closed c.closes; ran = subst (λ b. RanSome b ArePart w.header.policy w closed) may (subst (λ (p : Policy). RanSome cut ArePart p w closed) ruled (ran-part ran closed t c)) }
 
 pub driven-between : {K : Type 0} (config : Config) (gos : List Go) (begun ran : List (Worker K)) (lines : List Line) (how : Result (Unit {0}) Halt) → Drives config gos begun ran lines how → OnOk how (All (λ (w : Worker K). w.phase ≡ Between) ran)
 driven-between config gos begun ran lines (Ok x) d = over-between ran d.1

@@ -110,13 +110,13 @@ begins-tx first (Switch caller alg ∷ left) did n = absurd n
 begins-tx first (Reserve caller reads writes ∷ left) did n = absurd n
 
 -- what a caller installed that did these items, with these rows
-pub record InstalledSome (callers : ℕ) (policy : Policy) (alg : Alg) (n : ℕ) (items : List Item) (rows : List Row) (installs : List Alg) : Type 0 where
+pub record InstalledSome (cut : Bool) (callers : ℕ) (policy : Policy) (alg : Alg) (n : ℕ) (items : List Item) (rows : List Row) (installs : List Alg) : Type 0 where
   pub more : List Alg
   pub first : installs ≡ first_installs alg n ++ more
   pub done : Bool
-  pub by : InstallsBy callers done (policy_for policy n) items (kinds rows) more
+  pub by : InstallsBy cut callers done (policy_for policy n) alg items (kinds rows) more
 
-module _ {K : Type 0} (good : List ℕ → Type 0) (policy : Policy) (w : Workload) (stm : Stm K) (items : All (BuiltItem w.header) w.items) (sized : stm.config ≡ config_of w.header) where
+module _ {K : Type 0} (good : List ℕ → Type 0) (cut : Bool) (policy : Policy) (w : Workload) (stm : Stm K) (items : All (BuiltItem w.header) w.items) (sized : stm.config ≡ config_of w.header) where
   pub record IsDid (some : List Item → List Item → Type 0) (closed : Ended) (n : ℕ) (d : Did) : Type 0 where
     pub is : some (items_of n w.items) d.items
     pub own : All (λ i. caller_in i ≡ n) d.items
@@ -126,31 +126,31 @@ module _ {K : Type 0} (good : List ℕ → Type 0) (policy : Policy) (w : Worklo
     pub begins : BeginsWith closed.history d.part.seen d.part.front
     pub made : d.part.made ≡ made_by n closed.history
     pub whole : length d.part.rows ≡ length (scripts_of n d.items)
-    pub installs : InstalledSome w.header.callers policy w.header.alg n d.items d.part.rows d.installs
+    pub installs : InstalledSome cut w.header.callers policy w.header.alg n d.items d.part.rows d.installs
 
   -- the installs of a caller that was left idle are those of the part that it did
-  installs-part : (n : ℕ) (v x : Worker K) → Stood good policy w stm sized n v → (h : MadeIdle good stm v x) → InstalledSome w.header.callers policy w.header.alg n h.did.items h.did.rows (known x.desc).installs
+  installs-part : (n : ℕ) (v x : Worker K) → Stood good cut policy w stm sized n v → (h : MadeIdle good stm v x) → InstalledSome cut w.header.callers policy w.header.alg n h.did.items h.did.rows (known x.desc).installs
   installs-part n v x s h =
       let own = s.own in
       let left : own.start.left ≡ v.all.now = own.left ∙ sym own.all in
       let installed = all_installed own.course in
-      let by_policy : (done : Bool) → InstallsBy w.header.callers done own.start.policy h.did.items (kinds h.did.rows) installed → InstalledSome w.header.callers policy w.header.alg n h.did.items h.did.rows (known x.desc).installs =
-      λ done by. record { more = installed; first = h.keeps.installs ∙ own.installs; done = done; by = subst (λ p. InstallsBy w.header.callers done p h.did.items (kinds h.did.rows) installed) own.by by } in
+      let by_policy : (done : Bool) → InstallsBy cut w.header.callers done own.start.policy w.header.alg h.did.items (kinds h.did.rows) installed → InstalledSome cut w.header.callers policy w.header.alg n h.did.items h.did.rows (known x.desc).installs =
+      λ done by. record { more = installed; first = h.keeps.installs ∙ own.installs; done = done; by = subst (λ p. InstallsBy cut w.header.callers done p w.header.alg h.did.items (kinds h.did.rows) installed) own.by by } in
       of by_policy left h.did.behind
     where
-      of : ((done : Bool) → InstallsBy w.header.callers done s.own.start.policy h.did.items (kinds h.did.rows) (all_installed s.own.course) → InstalledSome w.header.callers policy w.header.alg n h.did.items h.did.rows (known x.desc).installs)
+      of : ((done : Bool) → InstallsBy cut w.header.callers done s.own.start.policy w.header.alg h.did.items (kinds h.did.rows) (all_installed s.own.course) → InstalledSome cut w.header.callers policy w.header.alg n h.did.items h.did.rows (known x.desc).installs)
           → s.own.start.left ≡ v.all.now
           → ((v.all.now ≡ h.did.items ++ v.items_left.now) × (h.did.rows ≡ v.rows.items) ⊎ (v.phase ≡ Inside) × ((first : List Item) × (v.all.now ≡ first ++ v.items_left.now) × BeginsNext first v.items_left.now h.did.items) × ((row : Row) × (h.did.rows ≡ v.rows.items ++ row ∷ [])))
-          → InstalledSome w.header.callers policy w.header.alg n h.did.items h.did.rows (known x.desc).installs
+          → InstalledSome cut w.header.callers policy w.header.alg n h.did.items h.did.rows (known x.desc).installs
       of give left (inl b) =
-          let i = first-installs w.header s.own.start (place_of v) s.own.course s.own.fresh s.own.went h.did.items (left ∙ b.0) in
-          give i.0 (subst (λ rows. InstallsBy w.header.callers i.0 s.own.start.policy h.did.items (kinds rows) (all_installed s.own.course)) (sym b.1) i.2)
+          let i = first-installs cut w.header s.own.start (place_of v) s.own.course w.header.alg (known v.desc).alg s.own.fresh s.own.went s.own.uncut s.own.alone h.did.items (left ∙ b.0) in
+          give i.0 (subst (λ rows. InstallsBy cut w.header.callers i.0 s.own.start.policy w.header.alg h.did.items (kinds rows) (all_installed s.own.course)) (sym b.1) i.2)
       of give left (inr b) =
           let next = begins-tx b.1.0 v.items_left.now h.did.items b.1.2 in
-          let i = open-installs w.header s.own.start (place_of v) s.own.course s.own.fresh s.own.went b.1.0 (left ∙ b.1.1) b.0 next.0 next.1 b.2.0.kind in
+          let i = open-installs cut w.header s.own.start (place_of v) s.own.course w.header.alg (known v.desc).alg s.own.fresh s.own.went s.own.uncut s.own.alone b.1.0 (left ∙ b.1.1) b.0 next.0 next.1 b.2.0.kind in
           let rows : kinds h.did.rows ≡ kinds v.rows.items ++ b.2.0.kind ∷ [] = ap kinds b.2.1 ∙ map-append (λ (r : Row). r.kind) v.rows.items (b.2.0 ∷ []) in
-          give false (subst (λ l. InstallsBy w.header.callers false s.own.start.policy l (kinds h.did.rows) (all_installed s.own.course)) (sym next.2)
-          (subst (λ k. InstallsBy w.header.callers false s.own.start.policy (b.1.0 ++ Tx next.0 next.1 ∷ []) k (all_installed s.own.course)) (sym rows) i))
+          give false (subst (λ l. InstallsBy cut w.header.callers false s.own.start.policy w.header.alg l (kinds h.did.rows) (all_installed s.own.course)) (sym next.2)
+          (subst (λ k. InstallsBy cut w.header.callers false s.own.start.policy w.header.alg (b.1.0 ++ Tx next.0 next.1 ∷ []) k (all_installed s.own.course)) (sym rows) i))
 
   did-of : (n : ℕ) (v x : Worker K) → MadeIdle good stm v x → Did
   did-of n v x h = record {
@@ -159,7 +159,7 @@ module _ {K : Type 0} (good : List ℕ → Type 0) (policy : Policy) (w : Worklo
     installs = (known x.desc).installs;
   }
 
-  did-is : (some : List Item → List Item → Type 0) (closed : Ended) (n : ℕ) (v x : Worker K) → Stood good policy w stm sized n v → (h : MadeIdle good stm v x) → Told closed n x.desc → some (items_of n w.items) h.did.items → IsDid some closed n (did-of n v x h)
+  did-is : (some : List Item → List Item → Type 0) (closed : Ended) (n : ℕ) (v x : Worker K) → Stood good cut policy w stm sized n v → (h : MadeIdle good stm v x) → Told closed n x.desc → some (items_of n w.items) h.did.items → IsDid some closed n (did-of n v x h)
   unfolding did-of
   did-is some closed n v x s h told is =
       let did = h.did.items in
@@ -172,7 +172,7 @@ module _ {K : Type 0} (good : List ℕ → Type 0) (policy : Policy) (w : Worklo
       let works : Works good w.header.words (regions_of w.header) did n (known x.desc) h.did.rows =
       subst (λ k. Works good k (regions_of w.header) did n (known x.desc) h.did.rows) words
       (subst (λ rs. Works good stm.config.words rs did n (known x.desc) h.did.rows) s.own.over
-      (subst (λ k. Works good stm.config.words v.regions.now did k (known x.desc) h.did.rows) (stood-caller good policy w stm sized n v s) h.did.works)) in
+      (subst (λ k. Works good stm.config.words v.regions.now did k (known x.desc) h.did.rows) (stood-caller good cut policy w stm sized n v s) h.did.works)) in
       record {
         is = is;
         own = λ i d lt. (each i d lt).0;
@@ -181,7 +181,7 @@ module _ {K : Type 0} (good : List ℕ → Type 0) (policy : Policy) (w : Worklo
         worked = works;
         begins = told.seen;
         made = told.made;
-        whole = h.did.whole ∙ ap (λ k. length (scripts_of k did)) (stood-caller good policy w stm sized n v s);
+        whole = h.did.whole ∙ ap (λ k. length (scripts_of k did)) (stood-caller good cut policy w stm sized n v s);
         installs = installs-part n v x s h;
       }
 
@@ -192,8 +192,8 @@ module _ {K : Type 0} (good : List ℕ → Type 0) (policy : Policy) (w : Worklo
     count : length dids ≡ length ws
     installs : map (λ (d : Handle K). installs_of d.view) (descs_of ws) ≡ map (λ (d : Did). d.installs) dids
 
-  are-did : (some : List Item → List Item → Type 0) (P : Worker K → Type 0) → ((n : ℕ) (v x : Worker K) → Stood good policy w stm sized n v → (h : MadeIdle good stm v x) → P v → some (items_of n w.items) h.did.items)
-      → (closed : Ended) (n : ℕ) (vs ws : List (Worker K)) → Each (Stood good policy w stm sized) n vs → All P vs → AreMadeIdle good stm vs ws → AllTold closed n (descs_of ws) → AreDid some closed n ws
+  are-did : (some : List Item → List Item → Type 0) (P : Worker K → Type 0) → ((n : ℕ) (v x : Worker K) → Stood good cut policy w stm sized n v → (h : MadeIdle good stm v x) → P v → some (items_of n w.items) h.did.items)
+      → (closed : Ended) (n : ℕ) (vs ws : List (Worker K)) → Each (Stood good cut policy w stm sized) n vs → All P vs → AreMadeIdle good stm vs ws → AllTold closed n (descs_of ws) → AreDid some closed n ws
   unfolding did-of
   are-did some P is closed n [] [] s p h t = record { dids = []; each = tt; count = refl; installs = refl }
   are-did some P is closed n [] (x ∷ ws) s p h t = absurd h
@@ -284,7 +284,7 @@ module _ {K : Type 0} (good : List ℕ → Type 0) (policy : Policy) (w : Worklo
         let cons = sum_by-cons (λ (p : Part). sum_by count p.made) d.part (map (λ (e : Did). e.part) ds) in
         omega (arith, head, rest, cons)
 
-    installs-in : (rows : List Row) (n : ℕ) (ds : List Did) → Each IsIn n ds → Each (λ k p. kinds (own_rows k rows) ≡ kinds p.rows) n (map (λ (d : Did). d.part) ds) → AreInstalls false policy some_of rows n (map (λ (d : Did). d.installs) ds)
+    installs-in : (rows : List Row) (n : ℕ) (ds : List Did) → Each IsIn n ds → Each (λ k p. kinds (own_rows k rows) ≡ kinds p.rows) n (map (λ (d : Did). d.part) ds) → AreInstalls cut false policy some_of rows n (map (λ (d : Did). d.installs) ds)
     unfolding some_of
     installs-in rows n [] h told = tt
     installs-in rows n (d ∷ ds) h told =
@@ -294,13 +294,13 @@ module _ {K : Type 0} (good : List ℕ → Type 0) (policy : Policy) (w : Worklo
             first = i.first;
             done = i.done;
             all = λ e. absurd cc;
-            by = subst (λ k. InstallsBy w.header.callers i.done (policy_for policy n) (items_of n whole) k i.more) (sym told.0) (subst (λ l. InstallsBy w.header.callers i.done (policy_for policy n) l (kinds d.part.rows) i.more) (sym h.0.here) i.by);
+            by = subst (λ k. InstallsBy cut w.header.callers i.done (policy_for policy n) w.header.alg (items_of n whole) k i.more) (sym told.0) (subst (λ l. InstallsBy cut w.header.callers i.done (policy_for policy n) w.header.alg l (kinds d.part.rows) i.more) (sym h.0.here) i.by);
           },
           installs-in rows (suc n) ds h.1 told.1,
         )
 
-  pub ran-some : ReportReplays good → Forms good w → (some : List Item → List Item → Type 0) (P : Worker K → Type 0) → ((n : ℕ) (v x : Worker K) → Stood good policy w stm sized n v → (h : MadeIdle good stm v x) → P v → some (items_of n w.items) h.did.items)
-      → (vs xs : List (Worker K)) (ws : List ℕ) (closed : Ended) → Each (Stood good policy w stm sized) 0 vs → All P vs → AreMadeIdle good stm vs xs → length xs ≡ stm.config.callers → Closes good stm.config (descs_of xs) ws closed → RanSome some policy w closed
+  pub ran-some : ReportReplays good → Forms good w → (some : List Item → List Item → Type 0) (P : Worker K → Type 0) → ((n : ℕ) (v x : Worker K) → Stood good cut policy w stm sized n v → (h : MadeIdle good stm v x) → P v → some (items_of n w.items) h.did.items)
+      → (vs xs : List (Worker K)) (ws : List ℕ) (closed : Ended) → Each (Stood good cut policy w stm sized) 0 vs → All P vs → AreMadeIdle good stm vs xs → length xs ≡ stm.config.callers → Closes good stm.config (descs_of xs) ws closed → RanSome cut some policy w closed
   unfolding some_of
   ran-some theorem forms some P is vs xs ws closed stood p idle len c =
       let a = are-did some P is closed 0 vs xs stood p idle c.told in
@@ -337,6 +337,6 @@ module _ {K : Type 0} (good : List ℕ → Type 0) (policy : Policy) (w : Worklo
           history = history-of good part forms stm.config sized (descs_of xs) ws closed c;
           callers = ap length (c.installs ∙ a.installs) ∙ (length-map ds (λ (d : Did). d.installs) ∙ callers);
           along = goes-along good part closed.history closed.clock parts report gathered part.header.clock both.0 both.1;
-          installs = subst (AreInstalls false policy part report.rows 0) (sym (c.installs ∙ a.installs)) (installs-in some closed whole report.rows 0 ds each (kinds-each good part closed.history closed.clock parts report gathered both.0));
+          installs = subst (AreInstalls cut false policy part report.rows 0) (sym (c.installs ∙ a.installs)) (installs-in some closed whole report.rows 0 ds each (kinds-each good part closed.history closed.clock parts report gathered both.0));
         };
       }

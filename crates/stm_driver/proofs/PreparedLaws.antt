@@ -1,6 +1,6 @@
 -- The workers before the first turn, and what stays so of them.
 use Rattle.std.proofs.Common.{ℕ, suc, ◌≡◌, ◌<◌, ◌≤◌, ◌+◌, ◌*◌, ◌++◌, List, [], ◌∷◌, length, get_or, map, refl, sym, ap, ◌∙◌, arith, subst}
-use Rattle.std.specs.Prelude.{All, slice_index_or, if◌then◌else◌}
+use Rattle.std.specs.Prelude.{Bool, false, All, slice_index_or, if◌then◌else◌}
 use Rattle.std.proofs.lemmas.List.{append-nil}
 use Rattle.std.proofs.lemmas.List.Elements.{All-head, All-tail}
 use Rattle.std.proofs.lemmas.List.Sums.{sum_by-cons}
@@ -26,8 +26,8 @@ use Rattle.stm_trace.specs.Fits.{first_place, first_places}
 use Rattle.stm_trace.specs.Places.{Place, caller_in, items_of}
 use Rattle.stm_worker.specs.declared.worker.Worker.{Worker}
 use Rattle.stm_trace.specs.Turns.{HasSizes}
-use Rattle.stm_worker.specs.Courses.{IsFresh, Went, all_installed}
-use Rattle.stm_worker.specs.InstallLaws.{installed-on, went-append}
+use Rattle.stm_worker.specs.Courses.{IsFresh, IsUncut, Knows, Went, all_installed}
+use Rattle.stm_worker.specs.InstallLaws.{installed-on, knows-append, uncut-append, went-append}
 use Rattle.stm_worker.specs.Workers.{place_of, Sound, Starts}
 use Rattle.stm_worker.specs.Workers.{ItemsFit as OwnItems}
 use Rattle.stm_worker.specs.RiseCovers.{CountsNext, CoversBut, due_of, raised}
@@ -73,7 +73,7 @@ sizes-of config h e =
 
 module _ {K : Type 0} where
   -- each is its caller's, from caller n on, has that caller's items, and went its course from the start
-  pub record IsOwn (policy : Policy) (w : Workload) (n : ℕ) (x : Worker K) : Type 0 where
+  pub record IsOwn (cut : Bool) (policy : Policy) (w : Workload) (n : ℕ) (x : Worker K) : Type 0 where
     pub role : x.desc.who.role ≡ Caller n
     pub all : x.all.now ≡ items_of n w.items
     pub over : x.regions.now ≡ regions_of w.header
@@ -84,21 +84,24 @@ module _ {K : Type 0} where
     pub by : start.policy ≡ policy_for policy n
     pub course : List Said
     pub went : Went w.header start course (place_of x)
+    pub uncut : cut ≡ false → IsUncut course
     pub installs : (known x.desc).installs ≡ first_installs w.header.alg n ++ all_installed course
+    -- who is alone runs under what it installed last, first under the header's algorithm
+    pub alone : w.header.callers ≡ 1 → Knows w.header.alg course (known x.desc).alg
 
-  abbrev pub AreOwn : Policy → Workload → ℕ → List (Worker K) → Type 0
-  AreOwn policy w n [] = Unit {0}
-  AreOwn policy w n (x ∷ xs) = IsOwn policy w n x × AreOwn policy w (suc n) xs
+  abbrev pub AreOwn : Bool → Policy → Workload → ℕ → List (Worker K) → Type 0
+  AreOwn cut policy w n [] = Unit {0}
+  AreOwn cut policy w n (x ∷ xs) = IsOwn cut policy w n x × AreOwn cut policy w (suc n) xs
 
-  pub own-callers : (policy : Policy) (w : Workload) (n : ℕ) (xs : List (Worker K)) → AreOwn policy w n xs → AreCallers n xs
-  own-callers policy w n [] h = tt
-  own-callers policy w n (x ∷ xs) h = (h.0.role, own-callers policy w (suc n) xs h.1)
+  pub own-callers : (cut : Bool) (policy : Policy) (w : Workload) (n : ℕ) (xs : List (Worker K)) → AreOwn cut policy w n xs → AreCallers n xs
+  own-callers cut policy w n [] h = tt
+  own-callers cut policy w n (x ∷ xs) h = (h.0.role, own-callers cut policy w (suc n) xs h.1)
 
-  pub own-same : (policy : Policy) (w : Workload) (n : ℕ) (xs ys : List (Worker K)) → AreSame xs ys → AreOwn policy w n xs → AreOwn policy w n ys
-  own-same policy w n [] [] s h = tt
-  own-same policy w n [] (y ∷ ys) s h = absurd s
-  own-same policy w n (x ∷ xs) [] s h = absurd s
-  own-same policy w n (x ∷ xs) (y ∷ ys) s h = (
+  pub own-same : (cut : Bool) (policy : Policy) (w : Workload) (n : ℕ) (xs ys : List (Worker K)) → AreSame cut xs ys → AreOwn cut policy w n xs → AreOwn cut policy w n ys
+  own-same cut policy w n [] [] s h = tt
+  own-same cut policy w n [] (y ∷ ys) s h = absurd s
+  own-same cut policy w n (x ∷ xs) [] s h = absurd s
+  own-same cut policy w n (x ∷ xs) (y ∷ ys) s h = (
     record {
       role = ap (λ x. x.role) s.0.kept.same.who ∙ h.0.role;
       all = s.0.kept.all ∙ h.0.all;
@@ -110,9 +113,11 @@ module _ {K : Type 0} where
       by = h.0.by;
       course = h.0.course ++ s.0.course;
       went = went-append w.header h.0.start (place_of x) (place_of y) h.0.course s.0.course h.0.went (s.0.went w.header (sizes-of x.desc.who.config w.header h.0.sized));
+      uncut = λ e. uncut-append h.0.course s.0.course (h.0.uncut e) (s.0.uncut e);
       installs = s.0.installs ∙ installed-on (first_installs w.header.alg n) (known x.desc).installs h.0.course s.0.course h.0.installs;
+      alone = λ one. knows-append w.header.alg (known x.desc).alg (known y.desc).alg h.0.course s.0.course (h.0.alone one) (s.0.alone (ap (λ (c : Config). c.callers) h.0.sized ∙ one));
     },
-    own-same policy w (suc n) xs ys s.1 h.1,
+    own-same cut policy w (suc n) xs ys s.1 h.1,
   )
 
   module _ (stm : Stm K) (items : List Item) (rs : List Region) (alg : Alg) (policy : Policy) where
@@ -166,12 +171,13 @@ module _ {K : Type 0} where
       let at : place_of x ≡ first_place w n = h.0.at ∙ (λ i. record (first_place w n) { caller = caller i; policy = own i; reads_limit = reads i; writes_limit = writes i }) in
       ap (λ p. p ∷ places ws) at ∙ ap (λ ps. first_place w n ∷ ps) (starts-at stm policy w ruled sized (suc n) ds ws o.4 h.1)
 
-module _ {K : Type 0} (policy : Policy) (w : Workload) where
-  own-start : (stm : Stm K) → stm.config ≡ config_of w.header → (n : ℕ) (ds : List (Handle K)) (ws : List (Worker K)) → AllNew stm w.header.alg n ds → AreMade (λ k. items_of k w.items) (regions_of w.header) w.header.alg policy n ds ws → AreOwn policy w n ws
-  own-start stm sized n [] [] o h = tt
-  own-start stm sized n [] (x ∷ ws) o h = absurd h
-  own-start stm sized n (d ∷ ds) [] o h = absurd h
-  own-start stm sized n (d ∷ ds) (x ∷ ws) o h =
+module _ {K : Type 0} (cut : Bool) (policy : Policy) (w : Workload) where
+  own-start : (stm : Stm K) → stm.config ≡ config_of w.header → (n : ℕ) (ds : List (Handle K)) (ws : List (Worker K)) → AllNew stm w.header.alg n ds → All (λ (d : Handle K). stm.config.callers ≡ 1 → (known d).alg ≡ w.header.alg) ds → AreMade (λ k. items_of k w.items) (regions_of w.header) w.header.alg policy n ds ws → AreOwn cut policy w n ws
+  own-start stm sized n [] [] o knows h = tt
+  own-start stm sized n [] (x ∷ ws) o knows h = absurd h
+  own-start stm sized n (d ∷ ds) [] o knows h = absurd h
+  own-start stm sized n (d ∷ ds) (x ∷ ws) o knows h =
+      let P : Handle K → Type 0 = λ (d : Handle K). stm.config.callers ≡ 1 → (known d).alg ≡ w.header.alg in
       let s = h.0 in (
         record {
           role = ap (λ (d : Handle K). d.who.role) s.is_desc ∙ o.1;
@@ -184,17 +190,19 @@ module _ {K : Type 0} (policy : Policy) (w : Workload) where
           by = ap (λ (p : Place). p.policy) s.at;
           course = [];
           went = refl;
+          uncut = λ e. tt;
           installs = ap (λ (h : Handle K). (known h).installs) s.is_desc ∙ (o.2.done.installs ∙ sym (append-nil (first_installs w.header.alg n)));
+          alone = λ one. ap (λ (h : Handle K). (known h).alg) s.is_desc ∙ All-head P d ds knows (ap (λ (c : Config). c.callers) sized ∙ one);
         },
-        own-start stm sized (suc n) ds ws o.4 h.1,
+        own-start stm sized (suc n) ds ws o.4 (All-tail P d ds knows) h.1,
       )
 
-module _ {K : Type 0} (good : List ℕ → Type 0) (policy : Policy) (w : Workload) (stm : Stm K) (items : All (BuiltItem w.header) w.items) (sized : stm.config ≡ config_of w.header) where
+module _ {K : Type 0} (good : List ℕ → Type 0) (cut : Bool) (policy : Policy) (w : Workload) (stm : Stm K) (items : All (BuiltItem w.header) w.items) (sized : stm.config ≡ config_of w.header) where
   -- the workers before the first turn
   pub record Begun (ws : List (Worker K)) : Type 0 where
     pub sound : AreSound good stm ws
     pub count : length ws ≡ w.header.callers
-    pub own : AreOwn policy w 0 ws
+    pub own : AreOwn cut policy w 0 ws
     pub starts : policy ≡ w.header.policy → places ws ≡ first_places w
     pub owes : debts ws ≤ 1
     pub covered : StartCovered w.header.alg 0 ws
@@ -223,7 +231,7 @@ module _ {K : Type 0} (good : List ℕ → Type 0) (policy : Policy) (w : Worklo
         record {
           sound = sound-all w.header.alg 0 p.descs ws p.new owned;
           count = long;
-          own = own-start policy w stm sized 0 p.descs ws p.new owned;
+          own = own-start cut policy w stm sized 0 p.descs ws p.new p.knows owned;
           starts = λ ruled. starts-at stm policy w ruled sized 0 p.descs ws p.new owned ∙ ap (λ k. map (first_place w) (counted 0 k)) long;
           owes = owes-start stm w.items (regions_of w.header) w.header.alg policy 0 p.descs ws p.new owned;
           covered = covered-start stm w.items (regions_of w.header) w.header.alg policy 0 p.descs ws p.new owned;

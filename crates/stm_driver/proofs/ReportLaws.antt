@@ -1,6 +1,6 @@
 -- From workers whose items are all done to the report.
 use Rattle.std.proofs.Common.{ℕ, zero, suc, ◌≡◌, ◌≤◌, ◌++◌, true, false, List, [], ◌∷◌, length, get_or, drop, map, refl, sym, ap, ◌∙◌, arith, subst}
-use Rattle.std.specs.Prelude.{All, Contains, sum_by, IsPermutation, slice_index_or, Result, Ok, Err, IfErr}
+use Rattle.std.specs.Prelude.{Bool, All, Contains, sum_by, IsPermutation, slice_index_or, Result, Ok, Err, IfErr}
 use Rattle.std.proofs.lemmas.List.{length-map}
 use Rattle.std.proofs.lemmas.List.Elements.{All-head, All-tail}
 use Rattle.std.proofs.lemmas.List.Sums.{sum_by-cons}
@@ -76,14 +76,14 @@ history-of good w forms config sized ds ws closed c =
       times = c.times;
     }
 
-module _ {K : Type 0} (good : List ℕ → Type 0) (policy : Policy) (w : Workload) (stm : Stm K) (items : All (BuiltItem w.header) w.items) (sized : stm.config ≡ config_of w.header) where
+module _ {K : Type 0} (good : List ℕ → Type 0) (cut : Bool) (policy : Policy) (w : Workload) (stm : Stm K) (items : All (BuiltItem w.header) w.items) (sized : stm.config ≡ config_of w.header) where
   part_of : Worker K → Part
   part_of r = record { caller = caller_of r.desc.who.role; made = (known r.desc).made; seen = (known r.desc).seen; front = (known r.desc).front; rows = r.rows.items }
 
-  parts-callers : (n : ℕ) (rs : List (Worker K)) → Each (Stood good policy w stm sized) n rs → map (λ (p : Part). p.caller) (map part_of rs) ≡ counted n (length rs)
+  parts-callers : (n : ℕ) (rs : List (Worker K)) → Each (Stood good cut policy w stm sized) n rs → map (λ (p : Part). p.caller) (map part_of rs) ≡ counted n (length rs)
   unfolding part_of
   parts-callers n [] h = refl
-  parts-callers n (r ∷ rs) h = let head = stood-caller good policy w stm sized n r h.0 in let rest = parts-callers (suc n) rs h.1 in cc
+  parts-callers n (r ∷ rs) h = let head = stood-caller good cut policy w stm sized n r h.0 in let rest = parts-callers (suc n) rs h.1 in cc
 
   parts-rows : (rs : List (Worker K)) → all_rows (map part_of rs) ≡ rows_of rs
   unfolding part_of
@@ -91,26 +91,26 @@ module _ {K : Type 0} (good : List ℕ → Type 0) (policy : Policy) (w : Worklo
   parts-rows (r ∷ rs) = ap (λ l. r.rows.items ++ l) (parts-rows rs)
 
   -- what the caller n ends with is its part of the history
-  part-in : (n : ℕ) (r : Worker K) (closed : Ended) → Stood good policy w stm sized n r → Told closed n r.desc → IsOver (place_of r) → PartIn good w closed.history (part_of r)
+  part-in : (n : ℕ) (r : Worker K) (closed : Ended) → Stood good cut policy w stm sized n r → Told closed n r.desc → IsOver (place_of r) → PartIn good w closed.history (part_of r)
   unfolding part_of
   part-in n r closed s told over =
       let u = r in
-      let own = sym (stood-caller good policy w stm sized n r s) in
+      let own = sym (stood-caller good cut policy w stm sized n r s) in
       let made : (known u.desc).made ≡ made_by n closed.history = told.made in
-      let within = stood-within good policy w stm sized n r s in
-      let nothing : [] ≡ drop (length u.rows.items) (scripts_of n w.items) = sym (ap (scripts_of n) over.1) ∙ stood-todo good policy w stm sized n r s in
+      let within = stood-within good cut policy w stm sized n r s in
+      let nothing : [] ≡ drop (length u.rows.items) (scripts_of n w.items) = sym (ap (scripts_of n) over.1) ∙ stood-todo good cut policy w stm sized n r s in
       let count = drop-none (length u.rows.items) (scripts_of n w.items) nothing in
       let whole : length u.rows.items ≡ length (scripts_of n w.items) = omega arith in
       record {
         worked = subst (λ k. Worked good (zeros w.header.words) (regions_of w.header) (script_of w.items) k (known u.desc).made (known u.desc).seen (known u.desc).front u.rows.items) own
-            (reworked good (zeros w.header.words) (regions_of w.header) (items_of n w.items) w.items n (known u.desc).made (known u.desc).seen (known u.desc).front u.rows.items (scripts-own n w.items) (stood-works good policy w stm sized n r s over.0));
+            (reworked good (zeros w.header.words) (regions_of w.header) (items_of n w.items) w.items n (known u.desc).made (known u.desc).seen (known u.desc).front u.rows.items (scripts-own n w.items) (stood-works good cut policy w stm sized n r s over.0));
         begins = told.seen;
         within = λ e h. made-within n closed.history e (subst (λ l. Contains l e) made h);
         owned = subst (λ k. All (λ (e : Entry). e.caller ≡ k) (known u.desc).made) own (subst (All (λ (e : Entry). e.caller ≡ n)) (sym made) (made-own n closed.history));
         whole = whole ∙ ap (λ k. length (scripts_of k w.items)) own;
       }
 
-  parts-in : (n : ℕ) (rs : List (Worker K)) (closed : Ended) → Each (Stood good policy w stm sized) n rs → AllTold closed n (descs_of rs) → All IsOver (places rs) → All (PartIn good w closed.history) (map part_of rs)
+  parts-in : (n : ℕ) (rs : List (Worker K)) (closed : Ended) → Each (Stood good cut policy w stm sized) n rs → AllTold closed n (descs_of rs) → All IsOver (places rs) → All (PartIn good w closed.history) (map part_of rs)
   parts-in n [] closed h told over = λ i d lt. absurd (omega arith)
   parts-in n (r ∷ rs) closed h told over =
       all-cons (PartIn good w closed.history) (part_of r) (map part_of rs) (part-in n r closed h.0 told.0 (All-head IsOver (place_of r) (places rs) over)) (parts-in (suc n) rs closed h.1 told.1 (All-tail IsOver (place_of r) (places rs) over))
@@ -130,21 +130,21 @@ module _ {K : Type 0} (good : List ℕ → Type 0) (policy : Policy) (w : Worklo
   all-made count rs ws closed len c = ap (λ m. dealt count 0 m closed.history) len ∙ dealt-all count stm.config.callers closed.history (all-below stm.config.callers closed.history c.nobody_else)
 
   -- each caller has installed what the text says, and what its policy asked for
-  installs-all : (rows : List Row) (n : ℕ) (rs : List (Worker K)) → Each (Stood good policy w stm sized) n rs → All IsOver (places rs) → Each (λ k p. kinds (own_rows k rows) ≡ kinds p.rows) n (map part_of rs)
-      → AreInstalls true policy w rows n (map (λ (d : Handle K). installs_of d.view) (descs_of rs))
+  installs-all : (rows : List Row) (n : ℕ) (rs : List (Worker K)) → Each (Stood good cut policy w stm sized) n rs → All IsOver (places rs) → Each (λ k p. kinds (own_rows k rows) ≡ kinds p.rows) n (map part_of rs)
+      → AreInstalls cut true policy w rows n (map (λ (d : Handle K). installs_of d.view) (descs_of rs))
   unfolding part_of
   installs-all rows n [] h over told = tt
   installs-all rows n (r ∷ rs) h over told =
       let own = h.0.own in
-      let by = courses-install w.header own.start (place_of r) own.course own.fresh own.went (All-head IsOver (place_of r) (places rs) over) in (
+      let by = courses-install cut w.header own.start (place_of r) own.course w.header.alg (known r.desc).alg own.fresh own.went own.uncut own.alone (All-head IsOver (place_of r) (places rs) over) in (
         record {
           more = all_installed own.course;
           first = own.installs;
           done = true;
           all = λ e. refl;
-          by = subst (λ k. InstallsBy w.header.callers true (policy_for policy n) (items_of n w.items) k (all_installed own.course)) (sym told.0)
-              (subst (λ l. InstallsBy w.header.callers true (policy_for policy n) l (kinds r.rows.items) (all_installed own.course)) own.left
-              (subst (λ p. InstallsBy w.header.callers true p own.start.left (kinds r.rows.items) (all_installed own.course)) own.by by));
+          by = subst (λ k. InstallsBy cut w.header.callers true (policy_for policy n) w.header.alg (items_of n w.items) k (all_installed own.course)) (sym told.0)
+              (subst (λ l. InstallsBy cut w.header.callers true (policy_for policy n) w.header.alg l (kinds r.rows.items) (all_installed own.course)) own.left
+              (subst (λ p. InstallsBy cut w.header.callers true p w.header.alg own.start.left (kinds r.rows.items) (all_installed own.course)) own.by by));
         },
         installs-all rows (suc n) rs h.1 (All-tail IsOver (place_of r) (places rs) over) told.1,
       )
@@ -153,8 +153,8 @@ module _ {K : Type 0} (good : List ℕ → Type 0) (policy : Policy) (w : Worklo
   descs-length [] = refl
   descs-length (r ∷ rs) = ap suc (descs-length rs)
 
-  pub shown : ReportReplays good → Forms good w → (rs : List (Worker K)) (ws : List ℕ) (closed : Ended) (report : Report) → Each (Stood good policy w stm sized) 0 rs → length rs ≡ stm.config.callers → All IsOver (places rs) → Closes good stm.config (descs_of rs) ws closed
-      → IsReport (rows_of rs) ws report → IsShown policy w report closed
+  pub shown : ReportReplays good → Forms good w → (rs : List (Worker K)) (ws : List ℕ) (closed : Ended) (report : Report) → Each (Stood good cut policy w stm sized) 0 rs → length rs ≡ stm.config.callers → All IsOver (places rs) → Closes good stm.config (descs_of rs) ws closed
+      → IsReport (rows_of rs) ws report → IsShown cut policy w report closed
   shown theorem forms rs ws closed report stood len over c r =
       let parts = map part_of rs in
       let gathered : IsGathered good w closed.history closed.clock parts report = record {
@@ -175,14 +175,14 @@ module _ {K : Type 0} (good : List ℕ → Type 0) (policy : Policy) (w : Worklo
         history = history-of good w forms stm.config sized (descs_of rs) ws closed c;
         callers = ap length c.installs ∙ (length-map (descs_of rs) (λ (d : Handle K). installs_of d.view) ∙ (descs-length rs ∙ (len ∙ ap (λ (x : Config). x.callers) sized)));
         along = goes-along good w closed.history closed.clock parts report gathered w.header.clock both.0 both.1;
-        installs = subst (AreInstalls true policy w report.rows 0) (sym c.installs) (installs-all report.rows 0 rs stood over (kinds-each good w closed.history closed.clock parts report gathered both.0));
+        installs = subst (AreInstalls cut true policy w report.rows 0) (sym c.installs) (installs-all report.rows 0 rs stood over (kinds-each good w closed.history closed.clock parts report gathered both.0));
       }
 
 -- what is so of a whole run is so of a run of some items
-pub shown-some : (policy : Policy) (w : Workload) (report : Report) (closed : Ended) → IsShown policy w report closed → IsShownBy false policy w report closed
-shown-some policy w report closed s = record { replays = s.replays; shows = s.shows; history = s.history; callers = s.callers; along = s.along; installs = some 0 closed.installs s.installs }
+pub shown-some : (cut : Bool) (policy : Policy) (w : Workload) (report : Report) (closed : Ended) → IsShown cut policy w report closed → IsShownBy cut false policy w report closed
+shown-some cut policy w report closed s = record { replays = s.replays; shows = s.shows; history = s.history; callers = s.callers; along = s.along; installs = some 0 closed.installs s.installs }
   where
-    some : (n : ℕ) (all : List (List Alg)) → AreInstalls true policy w report.rows n all → AreInstalls false policy w report.rows n all
+    some : (n : ℕ) (all : List (List Alg)) → AreInstalls cut true policy w report.rows n all → AreInstalls cut false policy w report.rows n all
     some n [] h = tt
     some n (installs ∷ all) h = (record { more = h.0.more; first = h.0.first; done = h.0.done; all = λ e. absurd cc; by = h.0.by }, some (suc n) all h.1)
 

@@ -246,7 +246,7 @@ module _ {K : Type 0} (config : Config) (schedule : List Go) (ws us : List (Work
     )
     cut-second Memory r = tt
 
-    module _ (xs : List (Worker K)) (c : List Line) (w : Rounds config MayWind HasNothingOpen us vs (a ++ Finish ∷ []) b (Ok tt)) (same : AreSame us vs) where
+    module _ (xs : List (Worker K)) (c : List Line) (w : Rounds config MayWind HasNothingOpen us vs (a ++ Finish ∷ []) b (Ok tt)) (same : AreSame true us vs) where
       most : length (places vs) ≤ length us
       most = let e = length-map vs place_of in let l = same-length us vs same in omega (arith, e, l)
 
@@ -260,7 +260,7 @@ module _ {K : Type 0} (config : Config) (schedule : List Go) (ws us : List (Work
       cut-third Memory r = tt
 
       -- all phases
-      pub all-phases : Rounds config MayFinish IsOver vs xs b c (Ok tt) → AreSame vs xs → Drives config schedule ws xs c (Ok tt)
+      pub all-phases : Rounds config MayFinish IsOver vs xs b c (Ok tt) → AreSame true vs xs → Drives config schedule ws xs c (Ok tt)
       all-phases r also =
           let n = same-length us vs same in
           let many = length-map xs place_of in
@@ -288,6 +288,6 @@ goes-on config may first last us vs ws a b c n (Err halt) p q = (
 
 -- the turns to the end, or up to a full clock
 pub third : {K : Type 0} (config : Config) (schedule : List Go) (ws us : List (Worker K)) (a : List Line) (vs : List (Worker K)) (b : List Line) (p : Plays config MaySay ws us [] a (turns schedule) (Ok tt)) (xs : List (Worker K)) (c : List Line)
-    → Rounds config MayWind HasNothingOpen us vs (a ++ Finish ∷ []) b (Ok tt) → AreSame us vs → AreSame vs xs → (r : Result (Unit {0}) Halt) → Rounds config MayFinish IsOver vs xs b c r → Drives config schedule ws xs c r
+    → Rounds config MayWind HasNothingOpen us vs (a ++ Finish ∷ []) b (Ok tt) → AreSame true us vs → AreSame true vs xs → (r : Result (Unit {0}) Halt) → Rounds config MayFinish IsOver vs xs b c r → Drives config schedule ws xs c r
 third config schedule ws us a vs b p xs c w same also (Ok x) r = all-phases config schedule ws us a vs b p xs c w same r also
 third config schedule ws us a vs b p xs c w same also (Err halt) r = cut-third config schedule ws us a vs b p xs c w same halt r

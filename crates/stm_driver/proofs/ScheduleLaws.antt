@@ -1,6 +1,6 @@
 -- From one turn of one worker to turns of many, one behind the other.
 use Rattle.std.proofs.Common.{ℕ, zero, suc, ◌≡◌, ◌<◌, ◌≤◌, ◌+◌, ◌*◌, ◌^◌, List, [], ◌∷◌, ◌++◌, length, get_or, set, refl, sym, ap, ◌∙◌, arith, subst, inl, inr, length-append}
-use Rattle.std.specs.Prelude.{Some, None, Ok, Err, MatchOption}
+use Rattle.std.specs.Prelude.{Bool, true, false, Some, None, Ok, Err, MatchOption}
 use Rattle.std.proofs.lemmas.List.{append-nil, get_or-map}
 use Rattle.std.proofs.lemmas.List.Sums.{sum_by-set}
 use Rattle.stm_rule.specs.declared.stm.Stm.{Stm}
@@ -15,6 +15,8 @@ use Rattle.stm_tx.specs.Descs.{known}
 use Rattle.stm_trace.specs.declared.line.Line.{Line}
 use Rattle.stm_trace.specs.declared.line.Line.TheVariants.{Of}
 use Rattle.stm_trace.specs.declared.said.Phase.TheVariants.{Between}
+use Rattle.rule_base.specs.declared.seats.Who.{Who}
+use Rattle.stm_worker.specs.Courses.{is_cut}
 use Rattle.stm_trace.specs.declared.said.Said.{Said}
 use Rattle.stm_trace.specs.declared.said.Said.TheVariants.{TryBegin, Reply, Stopped, TryCancel, TryIrrevocable, TryCommit, TryClose, Looked, Installed, Reserved, Idle, Dropped, Reopened}
 use Rattle.stm_trace.specs.Fits.{no_place}
@@ -31,7 +33,7 @@ use Rattle.stm_driver.specs.declared.schedule.Halt.{Halt}
 use Rattle.stm_driver.specs.declared.schedule.Halt.TheVariants.{ClockFull, Memory}
 use Rattle.stm_worker.specs.declared.worker.Worker.{Worker}
 use Rattle.stm_driver.specs.Schedules.{places, place_at, AreSame, AreSound, debts, AreCovered, FoundFull, Plays, Took, Turns}
-use Rattle.stm_worker.specs.InstallLaws.{installed-on, went-append}
+use Rattle.stm_worker.specs.InstallLaws.{installed-on, knows-append, uncut-append, went-append}
 use Rattle.stm_worker.specs.Workers.{place_of, IsSame, Loaded, Sound, Turned}
 
 -- who found the clock full has no attempt open
@@ -70,10 +72,30 @@ module _ {K : Type 0} where
   same-twice : (d e f : Handle K) → IsSameCaller d e → IsSameCaller e f → IsSameCaller d f
   same-twice d e f a b = record { table = b.table ∙ a.table; who = b.who ∙ a.who }
 
-  pub self-same : (w : Worker K) → IsSame w w
-  self-same w = record { kept = record { same = record { table = refl; who = refl }; all = refl; regions = refl; policy = refl }; course = []; went = λ h sizes. refl; installs = sym (append-nil (known w.desc).installs) }
+  pub self-same : {cut : Bool} (w : Worker K) → IsSame cut w w
+  self-same w = record { kept = record { same = record { table = refl; who = refl }; all = refl; regions = refl; policy = refl }; course = []; went = λ h sizes. refl; uncut = λ e. tt; installs = sym (append-nil (known w.desc).installs); alone = λ one. refl }
 
-  pub worker-trans : (u v w : Worker K) → IsSame u v → IsSame v w → IsSame u w
+  -- what is so of a course without a cut is so of any
+  same-more : {b : Bool} (v w : Worker K) → IsSame b v w → IsSame true v w
+  same-more v w s = record { kept = s.kept; course = s.course; went = s.went; uncut = λ e. absurd cc; installs = s.installs; alone = s.alone }
+
+  -- a turn of the schedule, or of a thread, cuts nothing
+  pub same-said : (at : Place) (said : Said) (v w : Worker K) → MaySay at said → IsSame (is_cut said) v w → IsSame false v w
+  same-said at (TryBegin b) v w m s = s
+  same-said at (Reply op reply) v w m s = s
+  same-said at (Stopped op stop) v w m s = s
+  same-said at (TryCancel c) v w m s = s
+  same-said at (TryIrrevocable r) v w m s = s
+  same-said at (TryCommit c) v w m s = s
+  same-said at (TryClose c) v w m s = s
+  same-said at (Looked l) v w m s = s
+  same-said at (Installed alg) v w m s = s
+  same-said at (Reserved reads writes) v w m s = s
+  same-said at Idle v w m s = s
+  same-said at Dropped v w m s = absurd m
+  same-said at Reopened v w m s = absurd m
+
+  pub worker-trans : {cut : Bool} (u v w : Worker K) → IsSame cut u v → IsSame cut v w → IsSame cut u w
   worker-trans u v w a b = record {
     kept = record {
       same = same-twice u.desc v.desc w.desc a.kept.same b.kept.same;
@@ -83,14 +105,16 @@ module _ {K : Type 0} where
     };
     course = a.course ++ b.course;
     went = λ h sizes. went-append h (place_of u) (place_of v) (place_of w) a.course b.course (a.went h sizes) (b.went h (subst (λ c. HasSizes c h) (sym (ap (λ x. x.config) a.kept.same.who)) sizes));
+    uncut = λ e. uncut-append a.course b.course (a.uncut e) (b.uncut e);
     installs = b.installs ∙ installed-on (known u.desc).installs (known v.desc).installs a.course b.course a.installs;
+    alone = λ one. knows-append (known u.desc).alg (known v.desc).alg (known w.desc).alg a.course b.course (a.alone one) (b.alone (ap (λ (x : Who K). x.config.callers) a.kept.same.who ∙ one));
   }
 
-  pub same-refl : (ws : List (Worker K)) → AreSame ws ws
+  pub same-refl : {cut : Bool} (ws : List (Worker K)) → AreSame cut ws ws
   same-refl [] = tt
   same-refl (w ∷ ws) = (self-same w, same-refl ws)
 
-  pub same-trans : (us vs ws : List (Worker K)) → AreSame us vs → AreSame vs ws → AreSame us ws
+  pub same-trans : {cut : Bool} (us vs ws : List (Worker K)) → AreSame cut us vs → AreSame cut vs ws → AreSame cut us ws
   same-trans [] [] [] a b = tt
   same-trans [] [] (w ∷ ws) a b = absurd b
   same-trans [] (v ∷ vs) ws a b = absurd a
@@ -99,12 +123,12 @@ module _ {K : Type 0} where
   same-trans (u ∷ us) (v ∷ vs) (w ∷ ws) a b =
       (worker-trans u v w a.0 b.0, same-trans us vs ws a.1 b.1)
 
-  pub same-set : (ws : List (Worker K)) (n : ℕ) (d w : Worker K) → n < length ws → IsSame (get_or ws n d) w → AreSame ws (set ws n w)
+  pub same-set : {cut : Bool} (ws : List (Worker K)) (n : ℕ) (d w : Worker K) → n < length ws → IsSame cut (get_or ws n d) w → AreSame cut ws (set ws n w)
   same-set [] n d w lt h = tt
   same-set (x ∷ ws) zero d w lt h = (h, same-refl ws)
   same-set (x ∷ ws) (suc n) d w lt h = (self-same x, same-set ws n d w (omega (arith, lt)) h)
 
-  pub same-length : (ws vs : List (Worker K)) → AreSame ws vs → length ws ≡ length vs
+  pub same-length : {cut : Bool} (ws vs : List (Worker K)) → AreSame cut ws vs → length ws ≡ length vs
   same-length [] [] a = refl
   same-length [] (v ∷ vs) a = absurd a
   same-length (w ∷ ws) [] a = absurd a
@@ -175,7 +199,7 @@ module _ {K : Type 0} where
     turns-halt ws vs old new n (ClockFull clock) lt h = took-halts MaySay MaySay ws vs old new n h.0 lt h.1 h.1.turned.here clock h.2 h.1.turned.here
     turns-halt ws vs old new n Memory lt h = tt
 
-pub still-below : {K : Type 0} (ws vs : List (Worker K)) (n : ℕ) → AreSame ws vs → n < length ws → n < length vs
+pub still-below : {K : Type 0} {cut : Bool} (ws vs : List (Worker K)) (n : ℕ) → AreSame cut ws vs → n < length ws → n < length vs
 still-below ws vs n same lt = let e = same-length ws vs same in omega (arith, e, lt)
 
 -- one runner of many
@@ -189,8 +213,8 @@ module _ {K : Type 0} (good : List ℕ → Type 0) (stm : Stm K) (rs : List (Cac
   set-sound s h = subst (AreSound good stm) (sym (workers-set rs n r)) (All-set (Sound good stm) (workers_in rs) n (worker_in r) h s)
 
   module _ (lt : n < length (workers_in rs)) where
-    pub set-same : IsSame (worker_in (get_or rs n d)) (worker_in r) → AreSame (workers_in rs) (workers_in (set rs n r))
-    set-same h = subst (AreSame (workers_in rs)) (sym (workers-set rs n r)) (same-set (workers_in rs) n (worker_in d) (worker_in r) lt (subst (λ (x : Worker K). IsSame x (worker_in r)) (sym (worker-at rs n d lt)) h))
+    pub set-same : {b : Bool} → IsSame b (worker_in (get_or rs n d)) (worker_in r) → AreSame true (workers_in rs) (workers_in (set rs n r))
+    set-same h = subst (AreSame true (workers_in rs)) (sym (workers-set rs n r)) (same-set (workers_in rs) n (worker_in d) (worker_in r) lt (subst (λ (x : Worker K). IsSame true x (worker_in r)) (sym (worker-at rs n d lt)) (same-more (worker_in (get_or rs n d)) (worker_in r) h)))
 
     -- it took a turn
     pub took : (may : Place → Said → Type 0) (said : Said) (old new : List Line) → Turned good stm may (worker_in (get_or rs n d)) said (worker_in r) → new ≡ old ++ Of n said ∷ []

@@ -1,6 +1,6 @@
 -- Workers of a workload, each its caller's, wherever they stand.
 use Rattle.std.proofs.Common.{ℕ, zero, suc, ◌≡◌, ◌<◌, ◌≤◌, List, [], ◌∷◌, length, get_or, drop, refl, ap, ◌∙◌, arith, subst, length-append}
-use Rattle.std.specs.Prelude.{Some}
+use Rattle.std.specs.Prelude.{Bool, Some}
 use Rattle.std.specs.Prelude.{Contains}
 use Rattle.std.proofs.lemmas.List.Elements.{All-head, All-tail}
 use Rattle.stm_profile.specs.declared.policy.Policy.{Policy}
@@ -60,12 +60,12 @@ abbrev pub Each : {A : Type 0} → (ℕ → A → Type 0) → ℕ → List A →
 Each P n [] = Unit {0}
 Each P n (x ∷ xs) = P n x × Each P (suc n) xs
 
-module _ {K : Type 0} (good : List ℕ → Type 0) (policy : Policy) (w : Workload) (stm : Stm K) (sized : stm.config ≡ config_of w.header) where
+module _ {K : Type 0} (good : List ℕ → Type 0) (cut : Bool) (policy : Policy) (w : Workload) (stm : Stm K) (sized : stm.config ≡ config_of w.header) where
   pub record Stood (n : ℕ) (r : Worker K) : Type 0 where
     pub sound : Sound good stm r
-    pub own : IsOwn policy w n r
+    pub own : IsOwn cut policy w n r
 
-  pub stood-each : (n : ℕ) (ws : List (Worker K)) → AreSound good stm ws → AreOwn policy w n ws → Each Stood n ws
+  pub stood-each : (n : ℕ) (ws : List (Worker K)) → AreSound good stm ws → AreOwn cut policy w n ws → Each Stood n ws
   stood-each n [] s o = tt
   stood-each n (r ∷ ws) s o =
       (record { sound = All-head (Sound good stm) r ws s; own = o.0 }, stood-each (suc n) ws (All-tail (Sound good stm) r ws s) o.1)

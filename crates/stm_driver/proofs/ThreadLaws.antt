@@ -63,8 +63,8 @@ module _ {K : Type 0} (good : List ℕ → Type 0) (stm : Stm K) (u w : Worker K
 
 -- one that was refused memory stands as it did
 module _ {K : Type 0} (good : List ℕ → Type 0) (stm : Stm K) (u w : Worker K) (t : Starved good stm u w) where
-  pub starved-same : IsSame u w
-  starved-same = subst (IsSame u) (sym t.still) (self-same u)
+  pub starved-same : IsSame false u w
+  starved-same = subst (IsSame false u) (sym t.still) (self-same u)
 
 -- who says that nothing is left has nothing to do, by its text or by its policy
 pub idle-through : {K : Type 0} (good : List ℕ → Type 0) (stm : Stm K) (u w : Worker K) (said : Said) → Turned good stm MaySay u said w → said ≡ Idle → (w.items_left.now ≡ []) × (w.chosen ≡ None)

@@ -1,5 +1,5 @@
 -- The workers of all callers.
-use Rattle.std.specs.Prelude.{ℕ, suc, ◌≡◌, ◌<◌, ◌≤◌, ◌+◌, ◌*◌, ◌^◌, ◌⊎◌, length, slice_index_or, List, [], ◌∷◌, ◌++◌, map, None, Result, Ok, Err}
+use Rattle.std.specs.Prelude.{ℕ, suc, ◌≡◌, ◌<◌, ◌≤◌, ◌+◌, ◌*◌, ◌^◌, ◌⊎◌, false, length, slice_index_or, List, [], ◌∷◌, ◌++◌, map, None, Result, Ok, Err}
 use Rattle.stm_rule.specs.declared.stm.Stm.{Stm}
 use Rattle.crossbeam_utils.specs.declared.cache_padded.CachePadded.{CachePadded}
 use Rattle.crossbeam_utils.specs.Padded.{padded_value}
@@ -113,7 +113,7 @@ module _ {K : Type 0} where
     -- a worker before its run and after it
     pub record Finished (r s : CachePadded (Runner K)) : Type 0 where
       pub sound : Sound good stm (worker_in s)
-      pub same : IsSame (worker_in r) (worker_in s)
+      pub same : IsSame false (worker_in r) (worker_in s)
       pub between : (worker_in s).phase ≡ Between
       pub through : IsThrough (worker_in s) (padded_value s).how
       pub covered : IsCovered stm (worker_in r) (worker_in s)

@@ -1,5 +1,5 @@
 -- A memory that is open for a workload: the header's algorithm is installed, and nobody has begun.
-use Rattle.std.specs.Prelude.{ℕ, zero, suc, ◌≡◌, ◌≤◌, List, [], ◌∷◌, length}
+use Rattle.std.specs.Prelude.{All, ℕ, zero, suc, ◌≡◌, ◌≤◌, List, [], ◌∷◌, length}
 use Rattle.stm_rule.specs.declared.stm.Stm.{Stm}
 use Rattle.rule_base.specs.declared.seats.Role.TheVariants.{Caller}
 use Rattle.stm_model.specs.declared.alg.Alg.{Alg}
@@ -45,3 +45,5 @@ pub record OpensFor {K : Type 0} (h : Header) (stm : Stm K) (ds : List (Handle K
   pub sized : stm.config ≡ config_of h
   pub count : length ds ≡ h.callers
   pub new : AllNew stm h.alg 0 ds
+  -- a caller alone knows the algorithm that it installed
+  pub knows : All (λ (d : Handle K). stm.config.callers ≡ 1 → (known d).alg ≡ h.alg) ds

@@ -8,6 +8,7 @@ use Rattle.stm_script.specs.declared.workload.Item.TheVariants.{Tx, Switch, Rese
 use Rattle.stm_script.specs.declared.workload.Workload.{Workload}
 use Rattle.stm_script.specs.Keeping.{ScriptKeeps}
 use Rattle.stm_rule.specs.Callers.{Handle}
+use Rattle.stm_tx.specs.Descs.{known}
 use Rattle.stm_worker.specs.declared.worker.Worker.{Worker}
 use Rattle.stm_text.specs.declared.parse.Mode.{Mode}
 use Rattle.stm_text.specs.Built.{IsBuilt}
@@ -44,6 +45,7 @@ pub record IsPrepared {K : Type 0} (h : Header) (policy : Policy) (parts : List 
   pub descs : List (Handle K)
   pub count : length descs ≡ h.callers
   pub new : AllNew stm h.alg 0 descs
+  pub knows : All (λ (d : Handle K). stm.config.callers ≡ 1 → (known d).alg ≡ h.alg) descs
   pub made : AreMade (λ n. slice_index_or parts n []) (regions_of h) h.alg policy 0 descs ws
 
 -- all are empty, with room for the descriptors and rows of so many callers, for so many rows in all, and words

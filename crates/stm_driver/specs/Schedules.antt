@@ -1,5 +1,5 @@
 -- What turns of many workers do, and what they say.
-use Rattle.std.specs.Prelude.{ℕ, ◌≡◌, ◌≤◌, ◌+◌, ◌*◌, ◌^◌, ◌⊎◌, List, [], ◌∷◌, ◌++◌, length, map, replicate, All, slice_index_or, slice_set, sum_by, Some, None, Result, Ok, Err, IsPermutation}
+use Rattle.std.specs.Prelude.{ℕ, ◌≡◌, ◌≤◌, ◌+◌, ◌*◌, ◌^◌, ◌⊎◌, Bool, List, [], ◌∷◌, ◌++◌, length, map, replicate, All, slice_index_or, slice_set, sum_by, Some, None, Result, Ok, Err, IsPermutation}
 use Rattle.stm_rule.specs.declared.stm.Stm.{Stm}
 use Rattle.stm_model.specs.declared.config.Config.{Config}
 use Rattle.stm_script.specs.declared.report.Row.{Row}
@@ -32,11 +32,11 @@ module _ {K : Type 0} where
   place_at ws n = fits.place_of (map place_of ws) n
 
   -- each is the same caller, and passed over no switch
-  abbrev pub AreSame : List (Worker K) → List (Worker K) → Type 0
-  AreSame [] [] = Unit {0}
-  AreSame (v ∷ vs) (w ∷ ws) = IsSame v w × AreSame vs ws
-  AreSame (v ∷ vs) [] = ⊥
-  AreSame [] (w ∷ ws) = ⊥
+  abbrev pub AreSame : Bool → List (Worker K) → List (Worker K) → Type 0
+  AreSame cut [] [] = Unit {0}
+  AreSame cut (v ∷ vs) (w ∷ ws) = IsSame cut v w × AreSame cut vs ws
+  AreSame cut (v ∷ vs) [] = ⊥
+  AreSame cut [] (w ∷ ws) = ⊥
 
   -- by how much the callers' steps raised the clock, with what open attempts may still raise it
   abbrev pub debts : List (Worker K) → ℕ

@@ -1,5 +1,5 @@
 //! Behind a schedule: what is open ends, and then each caller goes on until nothing is left.
-ghost use Rattle.std.specs.Prelude.{◌≡◌, ◌<◌, [], ◌∷◌, All, MatchBool, MatchOption, length};
+ghost use Rattle.std.specs.Prelude.{◌≡◌, ◌<◌, true, [], ◌∷◌, All, MatchBool, MatchOption, length};
 ghost use Rattle.stm_trace.specs.Turns.{MayWind};
 ghost use Rattle.stm_worker.specs.Leavings.{HasOnlyIrrevocableOpen, NothingToGiveUp, GaveUp};
 ghost use Rattle.stm_worker.specs.Workers.{Sound, place_of};
@@ -45,7 +45,7 @@ pub fn drive<R: Wait, K: MemRule>(
     requires below { All (λ go. go.caller < length (workers_in runners.old)) schedule.now }
     requires empty { trace.old.items ≡ [] }
     ensures sound { AreSound (K.good stm.now.rule) stm.now (workers_in runners.new) }
-    ensures same { AreSame (workers_in runners.old) (workers_in runners.new) }
+    ensures same { AreSame true (workers_in runners.old) (workers_in runners.new) }
     ensures drives { Drives stm.now.config schedule.now (workers_in runners.old) (workers_in runners.new) trace.new.items result }
 {
     match play(alloc, stm, runners, schedule, trace) {
@@ -74,7 +74,7 @@ fn round<R: Wait, K: MemRule>(
 ) -> Result<(), Halt>
     requires sound { AreSound (K.good stm.now.rule) stm.now (workers_in runners.old) }
     ensures sound { AreSound (K.good stm.now.rule) stm.now (workers_in runners.new) }
-    ensures same { AreSame (workers_in runners.old) (workers_in runners.new) }
+    ensures same { AreSame true (workers_in runners.old) (workers_in runners.new) }
     ensures rounds { Rounds stm.now.config (may_until until) (stands_until until) (workers_in runners.old) (workers_in runners.new) trace.old.items trace.new.items result }
 {
     for caller in 0..runners.len() {
@@ -99,7 +99,7 @@ fn turns_of_caller<R: Wait, K: MemRule>(
     requires sound { AreSound (K.good stm.now.rule) stm.now (workers_in runners.old) }
     requires below { caller < length (workers_in runners.old) }
     ensures sound { AreSound (K.good stm.now.rule) stm.now (workers_in runners.new) }
-    ensures same { AreSame (workers_in runners.old) (workers_in runners.new) }
+    ensures same { AreSame true (workers_in runners.old) (workers_in runners.new) }
     ensures goes { Goes stm.now.config (may_until until) (stands_until until) (workers_in runners.old) (workers_in runners.new) trace.old.items trace.new.items caller result }
 {
     match make_ready(stm, runners, caller, until, trace) {
@@ -120,7 +120,7 @@ fn make_ready<K: MemRule>(
     requires sound { AreSound (K.good stm.now.rule) stm.now (workers_in runners.old) }
     requires below { caller < length (workers_in runners.old) }
     ensures sound { AreSound (K.good stm.now.rule) stm.now (workers_in runners.new) }
-    ensures same { AreSame (workers_in runners.old) (workers_in runners.new) }
+    ensures same { AreSame true (workers_in runners.old) (workers_in runners.new) }
     ensures goes { Goes stm.now.config (may_until until) (ready_until until) (workers_in runners.old) (workers_in runners.new) trace.old.items trace.new.items caller result }
 {
     match until {
@@ -139,7 +139,7 @@ fn give_up_open<K: MemRule>(
     requires sound { AreSound (K.good stm.now.rule) stm.now (workers_in runners.old) }
     requires below { caller < length (workers_in runners.old) }
     ensures sound { AreSound (K.good stm.now.rule) stm.now (workers_in runners.new) }
-    ensures same { AreSame (workers_in runners.old) (workers_in runners.new) }
+    ensures same { AreSame true (workers_in runners.old) (workers_in runners.new) }
     ensures goes { Goes stm.now.config MayWind HasOnlyIrrevocableOpen (workers_in runners.old) (workers_in runners.new) trace.old.items trace.new.items caller result }
 {
     match give_up_one(stm, &mut runners[caller]) {
@@ -174,7 +174,7 @@ fn turns_until<R: Wait, K: MemRule>(
     requires below { caller < length (workers_in runners.old) }
     requires ready { ready_until until (place_at (workers_in runners.old) caller) }
     ensures sound { AreSound (K.good stm.now.rule) stm.now (workers_in runners.new) }
-    ensures same { AreSame (workers_in runners.old) (workers_in runners.new) }
+    ensures same { AreSame true (workers_in runners.old) (workers_in runners.new) }
     ensures goes { Goes stm.now.config (may_until until) (stands_until until) (workers_in runners.old) (workers_in runners.new) trace.old.items trace.new.items caller result }
 {
     for _ in rt.forever() {

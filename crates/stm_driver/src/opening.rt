@@ -48,6 +48,7 @@ fn install_first<R: Wait, K: MemRule>(rt: &R, stm: &Stm<K>, desc: &mut Desc<K>, 
     requires new { IsNew [] (known desc.old) }
     ensures same { IsSameCaller desc.old desc.new }
     ensures new { IsNew (alg ∷ []) (known desc.new) }
+    ensures knows { stm.now.config.callers ≡ 1 → (known desc.new).alg ≡ alg }
     ensures lengths { SameLengths (known desc.old) (known desc.new) }
 {
     close_until_done(rt, stm, desc);

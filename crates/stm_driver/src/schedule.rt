@@ -1,5 +1,5 @@
 //! Turns of the workers of all callers, in the order of a schedule.
-ghost use Rattle.std.specs.Prelude.{◌≡◌, ◌<◌, ◌∷◌, [], All, MatchResult, length, replicate};
+ghost use Rattle.std.specs.Prelude.{◌≡◌, ◌<◌, true, ◌∷◌, [], All, MatchResult, length, replicate};
 ghost use Rattle.stm_trace.specs.Turns.{MaySay};
 ghost use Rattle.stm_trace.specs.Fits.{turns};
 ghost use Rattle.stm_worker.specs.Workers.{Sound, Starved, Turned};
@@ -37,7 +37,7 @@ pub fn turn<K: MemRule>(
     requires sound { AreSound (K.good stm.now.rule) stm.now (workers_in runners.old) }
     requires below { caller < length (workers_in runners.old) }
     ensures sound { AreSound (K.good stm.now.rule) stm.now (workers_in runners.new) }
-    ensures same { AreSame (workers_in runners.old) (workers_in runners.new) }
+    ensures same { AreSame true (workers_in runners.old) (workers_in runners.new) }
     ensures turns { Turns (K.good stm.now.rule) stm.now (workers_in runners.old) (workers_in runners.new) trace.old.items trace.new.items caller result }
 {
     let said = match turn_one(alloc, stm, &mut runners[caller]) {
@@ -78,7 +78,7 @@ pub fn play<K: MemRule>(
     requires sound { AreSound (K.good stm.now.rule) stm.now (workers_in runners.old) }
     requires below { All (λ go. go.caller < length (workers_in runners.old)) schedule.now }
     ensures sound { AreSound (K.good stm.now.rule) stm.now (workers_in runners.new) }
-    ensures same { AreSame (workers_in runners.old) (workers_in runners.new) }
+    ensures same { AreSame true (workers_in runners.old) (workers_in runners.new) }
     ensures plays { Plays stm.now.config MaySay (workers_in runners.old) (workers_in runners.new) trace.old.items trace.new.items (turns schedule.now) result }
 {
     for go in schedule {
@@ -101,7 +101,7 @@ fn turns_of<K: MemRule>(
     requires sound { AreSound (K.good stm.now.rule) stm.now (workers_in runners.old) }
     requires below { go.caller < length (workers_in runners.old) }
     ensures sound { AreSound (K.good stm.now.rule) stm.now (workers_in runners.new) }
-    ensures same { AreSame (workers_in runners.old) (workers_in runners.new) }
+    ensures same { AreSame true (workers_in runners.old) (workers_in runners.new) }
     ensures plays { Plays stm.now.config MaySay (workers_in runners.old) (workers_in runners.new) trace.old.items trace.new.items (replicate go.turns go.caller) result }
 {
     for _i in 0..go.turns {

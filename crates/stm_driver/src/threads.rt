@@ -1,5 +1,5 @@
 //! All workers at once, each on a thread of its own.
-ghost use Rattle.std.specs.Prelude.{◌≡◌, ◌<◌, ℕ, All, length, slice_index_or};
+ghost use Rattle.std.specs.Prelude.{◌≡◌, ◌<◌, ℕ, false, All, length, slice_index_or};
 ghost use Rattle.crossbeam_utils.specs.declared.cache_padded.CachePadded.{CachePadded};
 ghost use Rattle.stm_trace.specs.declared.said.Phase.TheVariants.{Between};
 ghost use Rattle.stm_worker.specs.Workers.{IsSame, Sound};
@@ -71,7 +71,7 @@ fn work<R: Wait, K: MemRule, G: Turnstile>(
 ) -> Result<(), Halt>
     requires sound { Sound (K.good stm.now.rule) stm.now w.old }
     ensures sound { Sound (K.good stm.now.rule) stm.now w.new }
-    ensures same { IsSame w.old w.new }
+    ensures same { IsSame false w.old w.new }
     ensures between { w.new.phase ≡ Phase.Between }
     ensures through { IsThrough w.new result }
     ensures covered { IsCovered stm.now w.old w.new }

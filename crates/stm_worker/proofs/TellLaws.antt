@@ -1,5 +1,5 @@
 -- What follows of what a call tells: the numbers of its line, the clock's rises, the clock that was found full, and the installs.
-use Rattle.std.proofs.Common.{ℕ, ◌≡◌, ◌≤◌, ◌+◌, ◌^◌, Bool, true, false, List, [], ◌++◌, refl, sym, ap, ◌∙◌, arith, subst}
+use Rattle.std.proofs.Common.{ℕ, ◌≡◌, ◌≤◌, ◌+◌, ◌^◌, Bool, true, false, List, [], ◌∷◌, ◌++◌, refl, sym, ap, ◌∙◌, arith, subst}
 use Rattle.std.proofs.lemmas.List.{append-nil}
 use Rattle.std.proofs.lemmas.List.Elements.{Contains-append_left}
 use Rattle.std.specs.Prelude.{MatchOption, Some, Contains, if◌then◌else◌}
@@ -28,7 +28,7 @@ use Rattle.tx_answers.specs.declared.answers.Commit.TheVariants as commits
 use Rattle.tx_answers.specs.declared.answers.Irrev.TheVariants as irrevs
 use Rattle.tx_answers.specs.declared.answers.Look.TheVariants as looks
 use Rattle.stm_worker.specs.Tellings.{Tells}
-use Rattle.stm_worker.specs.Courses.{installed}
+use Rattle.stm_worker.specs.Courses.{Knows, installed}
 use Rattle.stm_worker.specs.Workers.{Loaded}
 
 pub owed-in : (v : Known) → v.running ≡ true → owed v ≡ v.base + 2
@@ -172,6 +172,36 @@ module _ (good : List ℕ → Type 0) (c : Config) (n : ℕ) where
   tells-installs Idle v w t = none w.installs v.installs (ap (λ (k : Known). k.installs) t)
   tells-installs Dropped v w t = none w.installs v.installs t.1.0.ends.installs
   tells-installs Reopened v w t = none w.installs v.installs t.installs
+
+  -- who is alone begins under what it knows, and knows behind a turn what it installed in it, or what it knew
+  pub tells-knows : (said : Said) (v w : Known) → c.callers ≡ 1 → Tells good c n said v w → Knows v.alg (said ∷ []) w.alg
+  tells-knows (TryBegin (begins.Begun alg)) v w one t = (t.sole one, t.named ∙ t.sole one)
+  tells-knows (TryBegin (begins.Closed gate)) v w one t = (tt, t.0.sole one)
+  tells-knows (TryBegin (begins.Held word)) v w one t = (tt, t.0.sole one)
+  tells-knows (TryBegin (begins.ClockFull clock)) v w one t = (tt, t.0.sole one)
+  tells-knows (Reply op reply) v w one t = (tt, t.0.alg)
+  tells-knows (Stopped op stop) v w one t = (tt, (stops-quits t.address stop t.before w t.stops).ends.alg ∙ t.carries.alg)
+  tells-knows (TryCancel (cancels.Cancelled time)) v w one t = (tt, t.0.ends.alg)
+  tells-knows (TryCancel cancels.Irrevocable) v w one t = (tt, ap (λ (k : Known). k.alg) t.0)
+  tells-knows (TryIrrevocable irrevs.Granted) v w one t = (tt, t.continues.alg)
+  tells-knows (TryIrrevocable (irrevs.Busy caller status)) v w one t = (tt, t.0.continues.alg)
+  tells-knows (TryIrrevocable (irrevs.Taken gate)) v w one t = (tt, t.2.1.0.ends.alg ∙ t.1.0.continues.alg)
+  tells-knows (TryIrrevocable (irrevs.Conflict cause)) v w one t = (tt, t.0.ends.alg)
+  tells-knows (TryIrrevocable (irrevs.ClockFull clock)) v w one t = (tt, t.0.ends.alg)
+  tells-knows (TryCommit (commits.Committed time)) v w one t = (tt, t.ends.alg)
+  tells-knows (TryCommit (commits.ReadOnly time)) v w one t = (tt, t.0.ends.alg)
+  tells-knows (TryCommit (commits.Conflict cause)) v w one t = (tt, t.0.ends.alg)
+  tells-knows (TryCommit (commits.Again word had now)) v w one t = (tt, t.0.continues.alg)
+  tells-knows (TryCommit (commits.ClockFull clock)) v w one t = (tt, t.0.ends.alg)
+  tells-knows (TryClose closes.Closed) v w one t = (tt, t.sole one)
+  tells-knows (TryClose (closes.Taken gate)) v w one t = (tt, t.0.sole one)
+  tells-knows (Looked looks.Quiet) v w one t = (tt, t.0.alg)
+  tells-knows (Looked (looks.Busy caller status)) v w one t = (tt, t.0.alg)
+  tells-knows (Installed alg) v w one t = (tt, t.2.sole one ∙ t.1.named)
+  tells-knows (Reserved reads writes) v w one t = (tt, ap (λ (k : Known). k.alg) t.1)
+  tells-knows Idle v w one t = (tt, ap (λ (k : Known). k.alg) t)
+  tells-knows Dropped v w one t = (tt, t.1.0.ends.alg)
+  tells-knows Reopened v w one t = (tt, t.sole one)
 
   -- the place is that of what the caller knows
   module _ (h : Header) (at : Place) (ranges : IsConfig c) (sizes : HasSizes c h) (caller : at.caller ≡ n) where

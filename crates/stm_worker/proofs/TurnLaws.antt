@@ -7,6 +7,7 @@ use Rattle.std.specs.Borrow.{Bor}
 use Rattle.stm_model.specs.Algorithms.{irrevocable_under}
 use Rattle.stm_model.specs.AlgorithmLaws.{granted-irrevocable, irrevocable-wrote}
 use Rattle.stm_model.specs.Configs.{IsConfig}
+use Rattle.stm_model.specs.declared.config.Config.{Config}
 use Rattle.stm_model.specs.Logs.{IsExplained, Log}
 use Rattle.stm_model.specs.Memories.{is_empty}
 use Rattle.stm_model.specs.declared.alg.Alg.{Alg}
@@ -44,7 +45,7 @@ use Rattle.stm_trace.specs.Adapting.{no_profile, outcome_of}
 use Rattle.stm_trace.specs.declared.said.Phase.{Phase}
 use Rattle.stm_trace.specs.declared.said.Phase.TheVariants.{Between, Inside, Closing, Quiet}
 use Rattle.stm_trace.specs.declared.said.Said.{Said}
-use Rattle.stm_trace.specs.declared.said.Said.TheVariants.{TryBegin, Reply, Stopped, TryCancel, TryIrrevocable, TryCommit, Installed, Reserved, Idle}
+use Rattle.stm_trace.specs.declared.said.Said.TheVariants.{TryBegin, Reply, Stopped, TryCancel, TryIrrevocable, TryCommit, TryClose, Looked, Installed, Reserved, Idle, Dropped, Reopened}
 use Rattle.stm_trace.specs.FairLaws.{IsPlaceOf}
 use Rattle.stm_trace.specs.Places.{Place, script_at, rest_of, ended, after, failed_next, granted_at, is_forced, must_next, most_failed, irrevocable, writes}
 use Rattle.stm_trace.specs.Places as places
@@ -52,7 +53,7 @@ use Rattle.stm_trace.specs.Turns.{BeforeTx, Comes, HasSizes, IsFair, Lengthens, 
 use Rattle.stm_worker.specs.declared.worker.Worker.{Worker}
 use Rattle.stm_worker.specs.Goings.{Going, no_log, no_replies}
 use Rattle.stm_worker.specs.Tellings.{Tells, IsOutside, StoppedBy}
-use Rattle.stm_worker.specs.Courses.{MayTurn, installed}
+use Rattle.stm_worker.specs.Courses.{IsUncut, MayTurn, installed, is_cut}
 use Rattle.stm_worker.specs.InstallLaws.{say-turn}
 use Rattle.stm_worker.specs.Workers.{place_of, IsAt, IsCounted, IsKept, IsSame, IsUnderWay, ToSwitch, WhenInside, ItemsFit, DidFirst, Works, WorksSince, Stands, cleared, spares, WroteRow, EndsWith, adapted, Sound, Starved, Turned, Refused, stopped_by}
 use Rattle.stm_worker.proofs.Calls.{grew, nothing, commits, quits}
@@ -60,7 +61,7 @@ use Rattle.stm_worker.proofs.GoingLaws.{wrote-one, going-begun, going-step, goin
 use Rattle.stm_worker.proofs.RoomLaws.{room-of}
 use Rattle.stm_worker.proofs.RowLaws.{row-wrote, row-read, row-cancelled, row_of}
 use Rattle.stm_worker.proofs.StandLaws.{callers-same, cleared-more, cleared-told, did-first, drop-head, drop-more, few-emits, head-fits, next-is, rest-between, rest-closed, rest-fits, rest-quiet, rest-runs, rest-stands, Rest, reserve-left, room-next, room-told, since-begin, since-later, stands-rest, switch-left, at-closed, tx-scripts, when-rest, works-later, works-over}
-use Rattle.stm_worker.proofs.TellLaws.{Asks, stops-quits, tells-fair, tells-found, tells-installs, tells-owed}
+use Rattle.stm_worker.proofs.TellLaws.{Asks, stops-quits, tells-fair, tells-found, tells-installs, tells-knows, tells-owed}
 
 began-at : (at : Place) (ops : List Op) (o : Output) (alg : Alg) → ops ≡ script_at at.left → o.replies ≡ [] → o.emits ≡ []
     → record at { phase = Inside; alg = alg; rest = ops; replies = o.replies; emits = o.emits; wrote = false; granted = false } ≡ after at (TryBegin (Begun alg))
@@ -108,11 +109,26 @@ still-few : (failed : ℕ) (must : Bool) → IsCounted failed must → IsCounted
 still-few failed true few e = absurd cc
 still-few failed false few e = let lt = few refl in grind (arith, nat_tests)
 
+uncut-one : (said : Said) → is_cut said ≡ false → IsUncut (said ∷ [])
+uncut-one (TryBegin b) e = tt
+uncut-one (Reply op reply) e = tt
+uncut-one (Stopped op stop) e = tt
+uncut-one (TryCancel c) e = tt
+uncut-one (TryIrrevocable r) e = tt
+uncut-one (TryCommit c) e = tt
+uncut-one (TryClose c) e = tt
+uncut-one (Looked l) e = tt
+uncut-one (Installed alg) e = tt
+uncut-one (Reserved reads writes) e = tt
+uncut-one Idle e = tt
+uncut-one Dropped e = absurd cc
+uncut-one Reopened e = tt
+
 self-kept : {K : Type 0} (w : Worker K) → IsKept w w
 self-kept w = record { same = record { table = refl; who = refl }; all = refl; regions = refl; policy = refl }
 
-pub self-same : {K : Type 0} (w : Worker K) → IsSame w w
-self-same w = record { kept = self-kept w; course = []; went = λ h sizes. refl; installs = sym (append-nil (known w.desc).installs) }
+pub self-same : {K : Type 0} (w : Worker K) → IsSame false w w
+self-same w = record { kept = self-kept w; course = []; went = λ h sizes. refl; uncut = λ e. tt; installs = sym (append-nil (known w.desc).installs); alone = λ one. refl }
 
 -- the row is written, and then the policy asked
 pub ends-with : {K : Type 0} (kind : Kind) (time : ℕ) (v m w : Worker K) (outcome : Outcome) → outcome ≡ outcome_of kind → WroteRow kind time v m → w ≡ adapted outcome m → EndsWith kind time v w
@@ -193,7 +209,9 @@ module _ {K : Type 0} (good : List ℕ → Type 0) (stm : Stm K) (u : Worker K) 
         kept = kept;
         course = said ∷ [];
         went = λ h sizes. (goes here, fair h (subst (λ c. HasSizes c h) s.own.config sizes), sym now);
+        uncut = uncut-one said;
         installs = tells-installs good stm.config (caller_of u.desc.who.role) said (known u.desc) (known w.desc) told ∙ ap (λ l. (known u.desc).installs ++ l) (sym (append-nil (installed said)));
+        alone = λ one. tells-knows good stm.config (caller_of u.desc.who.role) said (known u.desc) (known w.desc) (sym (ap (λ (c : Config). c.callers) s.own.config) ∙ one) told;
       };
       fair = fair;
       owes = tells-owed good stm.config (caller_of u.desc.who.role) said (known u.desc) (known w.desc) asks told;
@@ -391,7 +409,9 @@ module _ {K : Type 0} (good : List ℕ → Type 0) (stm : Stm K) (u : Worker K) 
         kept = record { same = same; all = refl; regions = refl; policy = refl };
         course = [];
         went = λ h sizes. sym place-now;
+        uncut = λ e. tt;
         installs = ap (λ (v : Known). v.installs) knows ∙ sym (append-nil (known u.desc).installs);
+        alone = λ one. ap (λ (v : Known). v.alg) knows;
       };
     }
 

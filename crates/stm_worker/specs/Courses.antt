@@ -1,15 +1,16 @@
 -- THE COURSE of a caller: its turns, one after the other.
-use Rattle.std.specs.Prelude.{◌≡◌, true, List, [], ◌∷◌, ◌++◌, map, None}
+use Rattle.std.specs.Prelude.{◌≡◌, Bool, true, false, List, [], ◌∷◌, ◌++◌, map, None}
 use Rattle.stm_model.specs.declared.alg.Alg.{Alg}
 use Rattle.stm_script.specs.declared.report.Row.{Row}
 use Rattle.stm_script.specs.declared.workload.Header.{Header}
+use Rattle.tx_answers.specs.declared.answers.Begin.TheVariants.{Begun, Closed, Held, ClockFull}
 use Rattle.stm_trace.specs.Adapting.{no_profile}
 use Rattle.stm_trace.specs.declared.said.Phase.TheVariants.{Between}
 use Rattle.stm_trace.specs.declared.said.Said.{Said}
 use Rattle.stm_trace.specs.declared.said.Said.TheVariants.{TryBegin, Reply, Stopped, TryCancel, TryIrrevocable, TryCommit, TryClose, Looked, Installed, Reserved, Idle, Dropped, Reopened}
 use Rattle.stm_trace.specs.Places.{Place, after}
 use Rattle.stm_trace.specs.Turns.{MaySay, MayWind, IsFair, IsOver}
-use Rattle.stm_worker.specs.Installs.{InstallsBy}
+use Rattle.stm_worker.specs.Installs.{InstallsBy, last_of}
 
 -- what may be said in a schedule or behind it
 abbrev pub MayTurn : Place → Said → Type 0
@@ -43,6 +44,52 @@ abbrev pub all_installed : List Said → List Alg
 all_installed [] = []
 all_installed (said ∷ more) = installed said ++ all_installed more
 
+-- an attempt begins under this algorithm
+abbrev pub BeginsUnder : Alg → Said → Type 0
+BeginsUnder knows (TryBegin (Begun alg)) = alg ≡ knows
+BeginsUnder knows (TryBegin (Closed gate)) = Unit {0}
+BeginsUnder knows (TryBegin (Held word)) = Unit {0}
+BeginsUnder knows (TryBegin (ClockFull clock)) = Unit {0}
+BeginsUnder knows (Reply op reply) = Unit {0}
+BeginsUnder knows (Stopped op stop) = Unit {0}
+BeginsUnder knows (TryCancel c) = Unit {0}
+BeginsUnder knows (TryIrrevocable r) = Unit {0}
+BeginsUnder knows (TryCommit c) = Unit {0}
+BeginsUnder knows (TryClose c) = Unit {0}
+BeginsUnder knows (Looked l) = Unit {0}
+BeginsUnder knows (Installed alg) = Unit {0}
+BeginsUnder knows (Reserved reads writes) = Unit {0}
+BeginsUnder knows Idle = Unit {0}
+BeginsUnder knows Dropped = Unit {0}
+BeginsUnder knows Reopened = Unit {0}
+
+-- who is alone knows the algorithm that it installed last: its attempts begin under that
+abbrev pub Knows : Alg → List Said → Alg → Type 0
+Knows knows [] last = last ≡ knows
+Knows knows (said ∷ more) last = BeginsUnder knows said × Knows (last_of knows (installed said)) more last
+
+-- an attempt is cancelled as a schedule is over
+abbrev pub is_cut : Said → Bool
+is_cut (TryBegin b) = false
+is_cut (Reply op reply) = false
+is_cut (Stopped op stop) = false
+is_cut (TryCancel c) = false
+is_cut (TryIrrevocable r) = false
+is_cut (TryCommit c) = false
+is_cut (TryClose c) = false
+is_cut (Looked l) = false
+is_cut (Installed alg) = false
+is_cut (Reserved reads writes) = false
+is_cut Idle = false
+is_cut Dropped = true
+is_cut Reopened = false
+
+-- no attempt was
+abbrev pub IsUncut : List Said → Type 0
+IsUncut [] = Unit {0}
+IsUncut (Dropped ∷ more) = ⊥
+IsUncut (said ∷ more) = IsUncut more
+
 -- nothing is done
 pub record IsFresh (at : Place) : Type 0 where
   pub between : at.phase ≡ Between
@@ -50,6 +97,7 @@ pub record IsFresh (at : Place) : Type 0 where
   pub noted : at.profile ≡ no_profile
   pub rows : at.rows ≡ []
 
--- what a caller has installed when nothing is left to it
+-- what a caller has installed when nothing is left to it; start: the algorithm at its first turn
 abbrev pub CoursesInstall : Type 0
-CoursesInstall = (h : Header) (at to : Place) (course : List Said) → IsFresh at → Went h at course to → IsOver to → InstallsBy h.callers true at.policy at.left (map (λ (row : Row). row.kind) to.rows) (all_installed course)
+CoursesInstall = (cut : Bool) (h : Header) (at to : Place) (course : List Said) (start last : Alg) → IsFresh at → Went h at course to → (cut ≡ false → IsUncut course) → (h.callers ≡ 1 → Knows start course last) → IsOver to
+    → InstallsBy cut h.callers true at.policy start at.left (map (λ (row : Row). row.kind) to.rows) (all_installed course)

@@ -1,6 +1,7 @@
 -- What a caller installs in its course is what its items and its policy make of it.
-use Rattle.std.proofs.Common.{ℕ, zero, suc, ◌≡◌, ◌≢◌, ◌≤◌, ◌+◌, ◌-◌, Bool, true, false, List, [], ◌∷◌, ◌++◌, length, drop, map, refl, sym, ap, ◌∙◌, arith, subst, inl, inr, length-append, append_assoc}
-use Rattle.std.specs.Prelude.{◌⊎◌, All, Option, Some, None, if◌then◌else◌, min}
+use Rattle.std.proofs.Common.{ℕ, zero, suc, ◌≡◌, ◌≢◌, ◌≤◌, ◌+◌, ◌-◌, eqb, Bool, true, false, List, [], ◌∷◌, ◌++◌, length, drop, map, refl, sym, ap, ◌∙◌, arith, subst, inl, inr, length-append, append_assoc}
+use Rattle.std.proofs.lemmas.Bool.{cond_both, eqb-true}
+use Rattle.std.specs.Prelude.{◌⊎◌, ◌&&◌, ◌==◌, not, All, Option, Some, None, if◌then◌else◌, min}
 use Rattle.std.proofs.lemmas.Bool.Decides.{nat_tests}
 use Rattle.std.proofs.lemmas.List.{append-nil, append_cancel_right, drop-append-le, length-drop, map-append}
 use Rattle.std.proofs.lemmas.List.Elements.{All-cons, All-head, All-nil, All-tail}
@@ -9,6 +10,7 @@ use Rattle.stm_model.specs.declared.alg.Alg.{Alg}
 use Rattle.stm_model.specs.declared.stop.Stop.{Stop}
 use Rattle.stm_model.specs.declared.stop.Stop.TheVariants as stops
 use Rattle.stm_profile.specs.declared.outcome.Outcome.{Outcome}
+use Rattle.stm_profile.specs.declared.outcome.Outcome.TheVariants.{Committed, ReadOnly, Cancelled, Conflict, Full}
 use Rattle.stm_profile.specs.declared.outcome.Outcome.TheVariants as outcomes
 use Rattle.stm_profile.specs.declared.policy.Policy.{Policy}
 use Rattle.stm_profile.specs.declared.policy.Policy.TheVariants.{Fixed, Round, Expert, State}
@@ -33,10 +35,10 @@ use Rattle.stm_trace.specs.declared.said.Phase.{Phase}
 use Rattle.stm_trace.specs.declared.said.Phase.TheVariants.{Between, Inside}
 use Rattle.stm_trace.specs.declared.said.Said.{Said}
 use Rattle.stm_trace.specs.declared.said.Said.TheVariants.{TryBegin, Reply, Stopped, TryCancel, TryIrrevocable, TryCommit, TryClose, Looked, Installed, Reserved, Idle, Dropped, Reopened}
-use Rattle.stm_trace.specs.Places.{Place, after, granted_at, is_forced, rest_of, row_at, switched}
+use Rattle.stm_trace.specs.Places.{Place, after, granted_at, irrevocable, is_forced, must_next, rest_of, row_at, switched}
 use Rattle.stm_trace.specs.Turns.{BeforeTx, Comes, IsFair, Lengthens, MaySay, MustSwitchTo, SwitchesTo}
-use Rattle.stm_worker.specs.Courses.{CoursesInstall, IsFresh, MayTurn, Went, all_installed, installed}
-use Rattle.stm_worker.specs.Installs.{Adapts, InstallsBy, IsFailure, Tried, asked_for, at_most_one, came_to, installs_by, since_then, switches_of}
+use Rattle.stm_worker.specs.Courses.{BeginsUnder, CoursesInstall, IsFresh, IsUncut, Knows, MayTurn, Went, all_installed, installed}
+use Rattle.stm_worker.specs.Installs.{Adapts, InstallsBy, IsFailure, IsTried, Tried, asked_for, at_most_one, came_to, fulls, installs_by, last_of, ran_under, since_then, switches_of}
 
 -- what may be said in a schedule, or behind it, is what may be said
 pub say-turn : (at : Place) (said : Said) → MaySay at said → MayTurn at said
@@ -102,65 +104,143 @@ abbrev pub NotedWith : Option Alg → List Outcome → Noted → Type 0
 NotedWith None since p = p ≡ profile_of since
 NotedWith (Some alg) since p = since ≡ []
 
-pub record IsNoted (policy : Policy) (since : List Outcome) (own : Policy) (phase : Phase) (left : List Item) (chosen : Option Alg) (profile : Noted) : Type 0 where
+pub record IsNoted (callers : ℕ) (policy : Policy) (knows : Alg) (since : List Outcome) (own : Policy) (phase : Phase) (left : List Item) (chosen : Option Alg) (profile : Noted) (alg : Alg) : Type 0 where
   pub by : own ≡ policy
   pub ready : phase ≡ Inside → (chosen ≡ None) × BeforeTx left
   pub noted : NotedWith chosen since profile
+  -- who is alone runs under the algorithm that it knows
+  pub under : callers ≡ 1 → phase ≡ Inside → alg ≡ knows
 
-abbrev pub IsNotedAt : Policy → List Outcome → Place → Type 0
-IsNotedAt policy since at = IsNoted policy since at.policy at.phase at.left at.chosen at.profile
-
-abbrev AllFailed : ℕ → List Tried → Type 0
-AllFailed callers tried = All (λ (t : Tried). All (IsFailure callers) t.failed) tried
+abbrev pub IsNotedAt : ℕ → Policy → Alg → List Outcome → Place → Type 0
+IsNotedAt callers policy knows since at = IsNoted callers policy knows since at.policy at.phase at.left at.chosen at.profile at.alg
 
 abbrev kinds_in : List Tried → List Kind
 kinds_in tried = map (λ (t : Tried). t.kind) tried
 
 -- where nothing was tried nothing is asked for
-untried : (done : Bool) (policy : Policy) (since other : List Outcome) (due : List Alg) (items : List Item) → installs_by done policy since due items [] ≡ installs_by done policy other due items []
-untried done policy since other due [] = refl
-untried done policy since other due (Tx caller script ∷ items) = ap (λ l. due ++ l) (untried done policy since other [] items)
-untried done policy since other due (Switch caller alg ∷ items) = ap (λ l. due ++ alg ∷ l) (untried done policy since other [] items)
-untried done policy since other due (Reserve caller reads writes ∷ items) = ap (λ l. due ++ l) (untried done policy since other [] items)
+untried : (callers : ℕ) (done : Bool) (policy : Policy) (knows : Alg) (since other : List Outcome) (due : List Alg) (items : List Item) → installs_by callers done policy knows since due items [] ≡ installs_by callers done policy knows other due items []
+untried callers done policy knows since other due [] = refl
+untried callers done policy knows since other due (Tx caller script ∷ items) = ap (λ l. due ++ l) (untried callers done policy (last_of knows due) since other [] items)
+untried callers done policy knows since other due (Switch caller alg ∷ items) = ap (λ l. due ++ alg ∷ l) (untried callers done policy alg since other [] items)
+untried callers done policy knows since other due (Reserve caller reads writes ∷ items) = ap (λ l. due ++ l) (untried callers done policy (last_of knows due) since other [] items)
 
 -- an attempt that failed is one more of the transaction that comes next
 with_failure : Outcome → List Tried → List Tried
 with_failure o [] = []
 with_failure o (t ∷ tried) = record t { failed = o ∷ t.failed } ∷ tried
 
-failure-failed : (callers : ℕ) (o : Outcome) (tried : List Tried) → IsFailure callers o → AllFailed callers tried → AllFailed callers (with_failure o tried)
-unfolding with_failure
-failure-failed callers o [] f all = all
-failure-failed callers o (t ∷ tried) f all =
-    let P : Tried → Type 0 = λ x. All (IsFailure callers) x.failed in
-    All-cons P (record t { failed = o ∷ t.failed }) tried (All-cons (IsFailure callers) o t.failed f (All-head P t tried all)) (All-tail P t tried all)
+-- how many attempts of the transaction that comes next met a log that was too short
+fulls_next : List Tried → ℕ
+fulls_next [] = 0
+fulls_next (t ∷ tried) = fulls t.failed
+
+none-tried : fulls_next [] ≡ 0
+unfolding fulls_next
+none-tried = refl
+
+fulls-one : (o : Outcome) (os : List Outcome) → fulls (o ∷ os) ≡ fulls (o ∷ []) + fulls os
+fulls-one Committed os = omega arith
+fulls-one ReadOnly os = omega arith
+fulls-one Cancelled os = omega arith
+fulls-one Conflict os = omega arith
+fulls-one Full os = omega arith
+
+fulls-few : (o : Outcome) → fulls (o ∷ []) ≤ 1
+fulls-few Committed = omega arith
+fulls-few ReadOnly = omega arith
+fulls-few Cancelled = omega arith
+fulls-few Conflict = omega arith
+fulls-few Full = omega arith
+
+failure-failed : (cut : Bool) (callers : ℕ) (o : Outcome) (tried : List Tried) → IsFailure cut callers o → (fulls (o ∷ []) ≡ 0) ⊎ (fulls_next tried ≡ 0) → All (IsTried cut callers) tried → All (IsTried cut callers) (with_failure o tried)
+unfolding with_failure fulls_next
+failure-failed cut callers o [] f few all = all
+failure-failed cut callers o (t ∷ tried) f few all =
+    let head = All-head (IsTried cut callers) t tried all in
+    All-cons (IsTried cut callers) (record t { failed = o ∷ t.failed }) tried (record { failures = All-cons (IsFailure cut callers) o t.failed f head.failures; once = by few head.once }) (All-tail (IsTried cut callers) t tried all)
+  where
+    by : (fulls (o ∷ []) ≡ 0) ⊎ (fulls t.failed ≡ 0) → fulls t.failed ≤ 1 → fulls (o ∷ t.failed) ≤ 1
+    by (inl e) h = let q = fulls-one o t.failed in omega arith
+    by (inr e) h = let q = fulls-one o t.failed in let l = fulls-few o in omega arith
+
+failure-fulls : (o : Outcome) (tried : List Tried) → fulls (o ∷ []) ≡ 0 → fulls_next tried ≡ 0 → fulls_next (with_failure o tried) ≡ 0
+unfolding with_failure fulls_next
+failure-fulls o [] e h = refl
+failure-fulls o (t ∷ tried) e h = let q = fulls-one o t.failed in omega arith
+
+fulls-none : (t : Tried) (tried : List Tried) → t.failed ≡ [] → fulls_next (t ∷ tried) ≡ 0
+unfolding fulls_next
+fulls-none t tried e = ap fulls e
 
 failure-kinds : (o : Outcome) (tried : List Tried) → kinds_in (with_failure o tried) ≡ kinds_in tried
 unfolding with_failure
 failure-kinds o [] = refl
 failure-kinds o (t ∷ tried) = refl
 
-failure-installs : (done : Bool) (policy : Policy) (since : List Outcome) (o : Outcome) (due : List Alg) (items : List Item) (tried : List Tried) → installs_by done policy (since ++ o ∷ []) due items tried ≡ installs_by done policy since due items (with_failure o tried)
+failure-installs : (callers : ℕ) (done : Bool) (policy : Policy) (knows : Alg) (since : List Outcome) (o : Outcome) (due : List Alg) (items : List Item) (tried : List Tried) → installs_by callers done policy knows (since ++ o ∷ []) due items tried ≡ installs_by callers done policy knows since due items (with_failure o tried)
 unfolding with_failure
-failure-installs done policy since o due items [] = untried done policy (since ++ o ∷ []) since due items
-failure-installs done policy since o due [] (t ∷ tried) = refl
-failure-installs done policy since o due (Tx caller script ∷ items) (t ∷ tried) =
-    ap (λ all. due ++ installs_by done policy (since_then (asked_for policy all t.alg) all) (asked_for policy all t.alg) items tried) (append_assoc since (o ∷ []) (came_to t))
-failure-installs done policy since o due (Switch caller alg ∷ items) (t ∷ tried) = ap (λ l. due ++ alg ∷ l) (failure-installs done policy since o [] items (t ∷ tried))
-failure-installs done policy since o due (Reserve caller reads writes ∷ items) (t ∷ tried) = ap (λ l. due ++ l) (failure-installs done policy since o [] items (t ∷ tried))
+failure-installs callers done policy knows since o due items [] = untried callers done policy knows (since ++ o ∷ []) since due items
+failure-installs callers done policy knows since o due [] (t ∷ tried) = refl
+failure-installs callers done policy knows since o due (Tx caller script ∷ items) (t ∷ tried) =
+    let now = last_of knows due in
+    ap (λ all. due ++ installs_by callers done policy now (since_then (asked_for policy all (ran_under callers now t)) all) (asked_for policy all (ran_under callers now t)) items tried) (append_assoc since (o ∷ []) (came_to t))
+failure-installs callers done policy knows since o due (Switch caller alg ∷ items) (t ∷ tried) = ap (λ l. due ++ alg ∷ l) (failure-installs callers done policy alg since o [] items (t ∷ tried))
+failure-installs callers done policy knows since o due (Reserve caller reads writes ∷ items) (t ∷ tried) = ap (λ l. due ++ l) (failure-installs callers done policy (last_of knows due) since o [] items (t ∷ tried))
+
+-- the rest of a course is uncut too
+uncut-on : (said : Said) (course : List Said) → IsUncut (said ∷ course) → IsUncut course
+uncut-on (TryBegin b) course u = u
+uncut-on (Reply op reply) course u = u
+uncut-on (Stopped op stop) course u = u
+uncut-on (TryCancel c) course u = u
+uncut-on (TryIrrevocable r) course u = u
+uncut-on (TryCommit c) course u = u
+uncut-on (TryClose c) course u = u
+uncut-on (Looked l) course u = u
+uncut-on (Installed alg) course u = u
+uncut-on (Reserved reads writes) course u = u
+uncut-on Idle course u = u
+uncut-on Dropped course u = absurd u
+uncut-on Reopened course u = u
+
+-- one uncut course behind another
+pub uncut-append : (first second : List Said) → IsUncut first → IsUncut second → IsUncut (first ++ second)
+uncut-append [] second a b = b
+uncut-append (TryBegin x ∷ first) second a b = uncut-append first second a b
+uncut-append (Reply op reply ∷ first) second a b = uncut-append first second a b
+uncut-append (Stopped op stop ∷ first) second a b = uncut-append first second a b
+uncut-append (TryCancel c ∷ first) second a b = uncut-append first second a b
+uncut-append (TryIrrevocable r ∷ first) second a b = uncut-append first second a b
+uncut-append (TryCommit c ∷ first) second a b = uncut-append first second a b
+uncut-append (TryClose c ∷ first) second a b = uncut-append first second a b
+uncut-append (Looked l ∷ first) second a b = uncut-append first second a b
+uncut-append (Installed alg ∷ first) second a b = uncut-append first second a b
+uncut-append (Reserved reads writes ∷ first) second a b = uncut-append first second a b
+uncut-append (Idle ∷ first) second a b = uncut-append first second a b
+uncut-append (Dropped ∷ first) second a b = absurd a
+uncut-append (Reopened ∷ first) second a b = uncut-append first second a b
+
+-- what is known behind one course is what the next one begins with
+pub knows-append : (start mid last : Alg) (first second : List Said) → Knows start first mid → Knows mid second last → Knows start (first ++ second) last
+knows-append start mid last [] second a b = subst (λ k. Knows k second last) a b
+knows-append start mid last (said ∷ first) second a b = (a.0, knows-append (last_of start (installed said)) mid last first second a.1 b)
+
+-- a try that ran under what it knows, where it was alone, ran under what it ran under
+ran-is : (callers : ℕ) (knows alg : Alg) → (callers ≡ 1 → alg ≡ knows) → alg ≡ (if callers == 1 then knows else alg)
+ran-is callers knows alg alone = cond_both (eqb callers 1) knows alg (λ x. alg ≡ x) (λ e. alone (eqb-true callers 1 e)) (λ e. refl)
 
 -- what is due is done before the next item
-due-first : (done : Bool) (policy : Policy) (since : List Outcome) (alg : Alg) (items : List Item) (tried : List Tried) → (done ≡ true) ⊎ (items ≢ []) → alg ∷ installs_by done policy since [] items tried ≡ installs_by done policy since (alg ∷ []) items tried
-due-first done policy since alg [] tried (inl e) = by done e
+due-first : (callers : ℕ) (done : Bool) (policy : Policy) (knows : Alg) (since : List Outcome) (alg : Alg) (items : List Item) (tried : List Tried) → (done ≡ true) ⊎ (items ≢ []) → alg ∷ installs_by callers done policy alg since [] items tried ≡ installs_by callers done policy knows since (alg ∷ []) items tried
+due-first callers done policy knows since alg [] tried (inl e) = by done e
   where
     by : (b : Bool) → b ≡ true → alg ∷ (if b then [] else []) ≡ (if b then alg ∷ [] else [])
     by true e = refl
     by false e = absurd cc
-due-first done policy since alg [] tried (inr n) = absurd (n refl)
-due-first done policy since alg (Tx caller script ∷ items) [] h = refl
-due-first done policy since alg (Tx caller script ∷ items) (t ∷ tried) h = refl
-due-first done policy since alg (Switch caller to ∷ items) tried h = refl
-due-first done policy since alg (Reserve caller reads writes ∷ items) tried h = refl
+due-first callers done policy knows since alg [] tried (inr n) = absurd (n refl)
+due-first callers done policy knows since alg (Tx caller script ∷ items) [] h = refl
+due-first callers done policy knows since alg (Tx caller script ∷ items) (t ∷ tried) h = refl
+due-first callers done policy knows since alg (Switch caller to ∷ items) tried h = refl
+due-first callers done policy knows since alg (Reserve caller reads writes ∷ items) tried h = refl
 
 -- a switch that is asked for clears what was noted, once it is done
 noted-behind : (c : Option Alg) (all : List Outcome) (p : Noted) → p ≡ profile_of all → NotedWith c (since_then (at_most_one c) all) p
@@ -186,40 +266,54 @@ reserve-first reads writes (Switch caller alg ∷ items) b = absurd b
 reserve-first reads writes (Reserve caller r w ∷ items) b = (caller, λ i. Reserve caller (b.0 i) (b.1 i) ∷ items)
 
 -- behind its course the caller stands at `to`; of what it had begun there these items are counted as done, with rows of these kinds
-module _ (h : Header) (done : Bool) (policy : Policy) (to : Place) (items : List Item) (kinds : List Kind) where
-  -- what a course to there installs, where these items and this switch come first
-  record Tells (since : List Outcome) (left : List Item) (rows : List Row) (chosen : Option Alg) (course : List Said) : Type 0 where
+module _ (h : Header) (cut done : Bool) (policy : Policy) (to : Place) (items : List Item) (kinds : List Kind) where
+  -- what a course to there installs, where these items and this switch come first, under this algorithm; must: whether the next attempts must become irrevocable
+  record Tells (knows : Alg) (since : List Outcome) (left : List Item) (rows : List Row) (chosen : Option Alg) (must : Bool) (course : List Said) : Type 0 where
     did : List Item
     more : List Kind
     all : left ≡ did ++ to.left
     told : map (λ (r : Row). r.kind) to.rows ≡ map (λ (r : Row). r.kind) rows ++ more
     enough : chosen ≡ None → (done ≡ true) ⊎ (did ++ items ≢ [])
-    adapts : Adapts h.callers done policy since (at_most_one chosen) (did ++ items) (more ++ kinds) (all_installed course)
+    adapts : Adapts cut h.callers done policy knows since (at_most_one chosen) (did ++ items) (more ++ kinds) (all_installed course)
+    first : must ≡ true → fulls_next adapts.0 ≡ 0
 
-  abbrev TellsAt : List Outcome → Place → List Said → Type 0
-  TellsAt since at course = Tells since at.left at.rows at.chosen course
+  abbrev TellsAt : Alg → List Outcome → Place → List Said → Type 0
+  TellsAt knows since at course = Tells knows since at.left at.rows at.chosen at.must course
 
-  abbrev Further : Place → List Said → Type 0
-  Further at course = (since : List Outcome) → IsNotedAt policy since at → TellsAt since at course
+  abbrev Further : Alg → Place → List Said → Type 0
+  Further knows at course = (since : List Outcome) → IsNotedAt h.callers policy knows since at → TellsAt knows since at course
 
-  module _ (said : Said) (course : List Said) (at : Place) (since : List Outcome) (n : IsNotedAt policy since at) where
+  module _ (said : Said) (course : List Said) (at : Place) (knows : Alg) (since : List Outcome) (n : IsNotedAt h.callers policy knows since at) where
     -- nothing is done that counts
-    still : installed said ≡ [] → TellsAt since at course → TellsAt since at (said ∷ course)
-    still none t = record { did = t.did; more = t.more; all = t.all; told = t.told; enough = t.enough; adapts = subst (λ l. Adapts h.callers done policy since (at_most_one at.chosen) (t.did ++ items) (t.more ++ kinds) (l ++ all_installed course)) (sym none) t.adapts }
+    still : installed said ≡ [] → TellsAt knows since at course → TellsAt knows since at (said ∷ course)
+    still none t = let a = t.adapts in record { did = t.did; more = t.more; all = t.all; told = t.told; enough = t.enough; adapts = (a.0, a.1, a.2, ap (λ l. l ++ all_installed course) none ∙ a.3); first = t.first }
 
-    -- an attempt failed
-    failed : (o : Outcome) → IsFailure h.callers o → installed said ≡ [] → at.phase ≡ Inside → ((other : List Outcome) → IsNoted policy other at.policy Between at.left at.chosen (with_outcome at.profile o) → TellsAt other at course) → TellsAt since at (said ∷ course)
-    failed o fails none inside next =
+    -- an attempt failed; must: whether the next ones must become irrevocable then
+    failed : (o : Outcome) (must : Bool) → IsFailure cut h.callers o → (at.must ≡ true → (fulls (o ∷ []) ≡ 0) × (must ≡ true)) → (fulls (o ∷ []) ≡ 0) ⊎ (must ≡ true) → installed said ≡ [] → at.phase ≡ Inside
+        → ((other : List Outcome) → IsNoted h.callers policy knows other at.policy Between at.left at.chosen (with_outcome at.profile o) at.alg → Tells knows other at.left at.rows at.chosen must course) → TellsAt knows since at (said ∷ course)
+    failed o must fails forced few none inside next =
         let c = (n.ready inside).0 in
         let noted : at.profile ≡ profile_of since = subst (λ x. NotedWith x since at.profile) c n.noted in
-        let t = next (since ++ o ∷ []) (record { by = n.by; ready = λ e. absurd cc; noted = subst (λ x. NotedWith x (since ++ o ∷ []) (with_outcome at.profile o)) (sym c) (ap (λ p. with_outcome p o) noted ∙ noted-more since o) }) in
+        let t = next (since ++ o ∷ []) (record { by = n.by; ready = λ e. absurd cc; noted = subst (λ x. NotedWith x (since ++ o ∷ []) (with_outcome at.profile o)) (sym c) (ap (λ p. with_outcome p o) noted ∙ noted-more since o); under = λ one e. absurd cc }) in
         let a = t.adapts in
-        still none (record { did = t.did; more = t.more; all = t.all; told = t.told; enough = t.enough; adapts = (with_failure o a.0, failure-failed h.callers o a.0 fails a.1, failure-kinds o a.0 ∙ a.2, a.3 ∙ failure-installs done policy since o (at_most_one at.chosen) (t.did ++ items) a.0) })
+        still none (record {
+          did = t.did;
+          more = t.more;
+          all = t.all;
+          told = t.told;
+          enough = t.enough;
+          adapts = (with_failure o a.0, failure-failed cut h.callers o a.0 fails (rest few t.first) a.1, failure-kinds o a.0 ∙ a.2, a.3 ∙ failure-installs h.callers done policy knows since o (at_most_one at.chosen) (t.did ++ items) a.0);
+          first = λ e. let f = forced e in failure-fulls o a.0 f.0 (t.first f.1);
+        })
+      where
+        rest : {k : ℕ} → (fulls (o ∷ []) ≡ 0) ⊎ (must ≡ true) → (must ≡ true → k ≡ 0) → (fulls (o ∷ []) ≡ 0) ⊎ (k ≡ 0)
+        rest (inl e) h = inl e
+        rest (inr e) h = inr (h e)
 
     -- a transaction ended by a row
     row-told : (kind : Kind) (row : Row) → row.kind ≡ kind → installed said ≡ [] → at.phase ≡ Inside
-        → ((other : List Outcome) → IsNoted policy other at.policy Between (rest_of at.left) (asked_by at.policy (with_outcome at.profile (outcome_of kind)) at.alg) (with_outcome at.profile (outcome_of kind))
-        → Tells other (rest_of at.left) (at.rows ++ row ∷ []) (asked_by at.policy (with_outcome at.profile (outcome_of kind)) at.alg) course) → TellsAt since at (said ∷ course)
+        → ((other : List Outcome) → IsNoted h.callers policy knows other at.policy Between (rest_of at.left) (asked_by at.policy (with_outcome at.profile (outcome_of kind)) at.alg) (with_outcome at.profile (outcome_of kind)) at.alg
+        → Tells knows other (rest_of at.left) (at.rows ++ row ∷ []) (asked_by at.policy (with_outcome at.profile (outcome_of kind)) at.alg) false course) → TellsAt knows since at (said ∷ course)
     row-told kind row of none inside next =
         let o = outcome_of kind in
         let all = since ++ o ∷ [] in
@@ -230,27 +324,31 @@ module _ (h : Header) (done : Bool) (policy : Policy) (to : Place) (items : List
         let noted : at.profile ≡ profile_of since = subst (λ x. NotedWith x since at.profile) unasked n.noted in
         let behind : with_outcome at.profile o ≡ profile_of all = ap (λ p. with_outcome p o) noted ∙ noted-more since o in
         let asked : asked_by at.policy (with_outcome at.profile o) at.alg ≡ c = λ i. asked_by (n.by i) (behind i) at.alg in
-        let t = next left (record { by = n.by; ready = λ e. absurd cc; noted = subst (λ x. NotedWith x left (with_outcome at.profile o)) (sym asked) (noted-behind c all (with_outcome at.profile o) behind) }) in
+        let t = next left (record { by = n.by; ready = λ e. absurd cc; noted = subst (λ x. NotedWith x left (with_outcome at.profile o)) (sym asked) (noted-behind c all (with_outcome at.profile o) behind); under = λ one e. absurd cc }) in
         let a = t.adapts in
         let tried : Tried = record { failed = []; alg = at.alg; kind = kind } in
         let told : map (λ (r : Row). r.kind) (at.rows ++ row ∷ []) ≡ map (λ (r : Row). r.kind) at.rows ++ kind ∷ [] =
         map-append (λ (r : Row). r.kind) at.rows (row ∷ []) ∙ ap (λ k. map (λ (r : Row). r.kind) at.rows ++ k ∷ []) of in
-        let is : all_installed course ≡ installs_by done policy left (at_most_one c) (t.did ++ items) a.0 = a.3 ∙ ap (λ x. installs_by done policy left (at_most_one x) (t.did ++ items) a.0) asked in
-        let due : all_installed course ≡ at_most_one at.chosen ++ installs_by done policy left (at_most_one c) (t.did ++ items) a.0 = is ∙ ap (λ x. at_most_one x ++ installs_by done policy left (at_most_one c) (t.did ++ items) a.0) (sym unasked) in
+        let is : all_installed course ≡ installs_by h.callers done policy knows left (at_most_one c) (t.did ++ items) a.0 = a.3 ∙ ap (λ x. installs_by h.callers done policy knows left (at_most_one x) (t.did ++ items) a.0) asked in
+        let now : knows ≡ last_of knows (at_most_one at.chosen) = ap (λ x. last_of knows (at_most_one x)) (sym unasked) in
+        let ran : at.alg ≡ ran_under h.callers (last_of knows (at_most_one at.chosen)) tried = ran-is h.callers (last_of knows (at_most_one at.chosen)) at.alg (λ one. n.under one inside ∙ now) in
+        let due : all_installed course ≡ installs_by h.callers done policy knows since (at_most_one at.chosen) (Tx first.0 first.1 ∷ t.did ++ items) (tried ∷ a.0) =
+        is ∙ (λ i. at_most_one (sym unasked i) ++ installs_by h.callers done policy (now i) (since_then (at_most_one (asked_by policy (profile_of all) (ran i))) all) (at_most_one (asked_by policy (profile_of all) (ran i))) (t.did ++ items) a.0) in
         still none (record {
           did = Tx first.0 first.1 ∷ t.did;
           more = kind ∷ t.more;
           all = first.2 ∙ ap (λ l. Tx first.0 first.1 ∷ l) t.all;
           told = t.told ∙ (ap (λ l. l ++ t.more) told ∙ append_assoc (map (λ (r : Row). r.kind) at.rows) (kind ∷ []) t.more);
           enough = λ e. inr (λ z. absurd cc);
-          adapts = (tried ∷ a.0, All-cons (λ (x : Tried). All (IsFailure h.callers) x.failed) tried a.0 (All-nil (IsFailure h.callers)) a.1, ap (λ l. kind ∷ l) a.2, due);
+          adapts = (tried ∷ a.0, All-cons (IsTried cut h.callers) tried a.0 (record { failures = All-nil (IsFailure cut h.callers); once = omega arith }) a.1, ap (λ l. kind ∷ l) a.2, due);
+          first = λ e. fulls-none tried a.0 refl;
         })
 
   -- the switch is done
-  installed-told : (alg : Alg) (course : List Said) (at : Place) (since : List Outcome) (chosen : Option Alg) → at.chosen ≡ chosen → at.policy ≡ policy → NotedWith chosen since at.profile → MustSwitchTo alg chosen at.left → ((other : List Outcome) → IsNotedAt policy other (switched chosen at) → TellsAt other (switched chosen at) course) → Tells since at.left at.rows chosen (Installed alg ∷ course)
-  installed-told alg course at since None is by noted may next =
+  installed-told : (alg : Alg) (course : List Said) (at : Place) (knows : Alg) (since : List Outcome) (chosen : Option Alg) → at.chosen ≡ chosen → at.policy ≡ policy → NotedWith chosen since at.profile → MustSwitchTo alg chosen at.left → ((other : List Outcome) → IsNotedAt h.callers policy alg other (switched chosen at) → TellsAt alg other (switched chosen at) course) → Tells knows since at.left at.rows chosen at.must (Installed alg ∷ course)
+  installed-told alg course at knows since None is by noted may next =
       let first = switch-first alg at.left may in
-      let t = next since (record { by = by; ready = λ e. absurd cc; noted = subst (λ c. NotedWith c since at.profile) (sym is) noted }) in
+      let t = next since (record { by = by; ready = λ e. absurd cc; noted = subst (λ c. NotedWith c since at.profile) (sym is) noted; under = λ one e. absurd cc }) in
       let a = t.adapts in
       record {
         did = Switch first.0 alg ∷ t.did;
@@ -258,10 +356,11 @@ module _ (h : Header) (done : Bool) (policy : Policy) (to : Place) (items : List
         all = first.1 ∙ ap (λ l. Switch first.0 alg ∷ l) t.all;
         told = t.told;
         enough = λ e. inr (λ z. absurd cc);
-        adapts = (a.0, a.1, a.2, ap (λ l. alg ∷ l) (a.3 ∙ ap (λ c. installs_by done policy since (at_most_one c) (t.did ++ items) a.0) is));
+        adapts = (a.0, a.1, a.2, ap (λ l. alg ∷ l) (a.3 ∙ ap (λ c. installs_by h.callers done policy alg since (at_most_one c) (t.did ++ items) a.0) is));
+        first = t.first;
       }
-  installed-told alg course at since (Some chosen) is by noted may next =
-      let t = next [] (record { by = by; ready = λ e. absurd cc; noted = refl }) in
+  installed-told alg course at knows since (Some chosen) is by noted may next =
+      let t = next [] (record { by = by; ready = λ e. absurd cc; noted = refl; under = λ one e. absurd cc }) in
       let a = t.adapts in
       record {
         did = t.did;
@@ -269,12 +368,13 @@ module _ (h : Header) (done : Bool) (policy : Policy) (to : Place) (items : List
         all = t.all;
         told = t.told;
         enough = λ e. absurd cc;
-        adapts = (a.0, a.1, a.2, ap (λ l. alg ∷ l) a.3 ∙ (due-first done policy [] alg (t.did ++ items) a.0 (t.enough refl) ∙ (λ i. installs_by done policy (sym noted i) (sym may i ∷ []) (t.did ++ items) a.0)));
+        adapts = (a.0, a.1, a.2, ap (λ l. alg ∷ l) a.3 ∙ (due-first h.callers done policy knows [] alg (t.did ++ items) a.0 (t.enough refl) ∙ (λ i. installs_by h.callers done policy knows (sym noted i) (sym may i ∷ []) (t.did ++ items) a.0)));
+        first = t.first;
       }
 
   -- longer logs are made
-  lengthened-told : (reads writes : ℕ) (course : List Said) (at : Place) (since : List Outcome) → at.chosen ≡ None → Lengthens reads writes at.left → Tells since (rest_of at.left) at.rows at.chosen course → TellsAt since at (Reserved reads writes ∷ course)
-  lengthened-told reads writes course at since unasked may t =
+  lengthened-told : (reads writes : ℕ) (course : List Said) (at : Place) (knows : Alg) (since : List Outcome) → at.chosen ≡ None → Lengthens reads writes at.left → Tells knows since (rest_of at.left) at.rows at.chosen at.must course → TellsAt knows since at (Reserved reads writes ∷ course)
+  lengthened-told reads writes course at knows since unasked may t =
       let first = reserve-first reads writes at.left may in
       let a = t.adapts in
       record {
@@ -283,119 +383,138 @@ module _ (h : Header) (done : Bool) (policy : Policy) (to : Place) (items : List
         all = first.1 ∙ ap (λ l. Reserve first.0 reads writes ∷ l) t.all;
         told = t.told;
         enough = λ e. inr (λ z. absurd cc);
-        adapts = (a.0, a.1, a.2, a.3 ∙ (λ i. installs_by done policy since (at_most_one (unasked i)) (t.did ++ items) a.0) ∙ ap (λ c. at_most_one c ++ installs_by done policy since [] (t.did ++ items) a.0) (sym unasked));
+        adapts = (a.0, a.1, a.2, a.3 ∙ (λ i. installs_by h.callers done policy knows since (at_most_one (unasked i)) (t.did ++ items) a.0) ∙ ap (λ c. at_most_one c ++ installs_by h.callers done policy (last_of knows (at_most_one c)) since [] (t.did ++ items) a.0) (sym unasked));
+        first = t.first;
       }
 
   -- a turn, by what it says
-  module _ (course : List Said) (at : Place) (since : List Outcome) (n : IsNotedAt policy since at) where
-    by-stop : (op : Op) (stop : Stop) → IsFair h at (Stopped op stop) → at.phase ≡ Inside → Further (after at (Stopped op stop)) course → TellsAt since at (Stopped op stop ∷ course)
-    by-stop op (stops.Conflict cause) fair inside next = failed (Stopped op (stops.Conflict cause)) course at since n outcomes.Conflict fair.1.0 refl inside next
-    by-stop op (stops.Full limit) fair inside next = failed (Stopped op (stops.Full limit)) course at since n outcomes.Full tt refl inside next
-    by-stop op (stops.ClockFull clock) fair inside next = still (Stopped op (stops.ClockFull clock)) course at since n refl (next since (record { by = n.by; ready = λ e. absurd cc; noted = n.noted }))
+  module _ (course : List Said) (at : Place) (knows : Alg) (since : List Outcome) (n : IsNotedAt h.callers policy knows since at) where
+    -- once an attempt must become irrevocable, the next ones must too
+    forced-on : at.must ≡ true → must_next at.must at.failed ≡ true
+    forced-on e = ap (λ m. must_next m at.failed) e
 
-    by-grant : (forced : Bool) → is_forced at ≡ forced → Further (granted_at forced at) course → TellsAt since at (TryIrrevocable irrevs.Granted ∷ course)
-    by-grant true e next = still (TryIrrevocable irrevs.Granted) course at since n refl (next since (record { by = n.by; ready = n.ready; noted = n.noted }))
-    by-grant false e next = still (TryIrrevocable irrevs.Granted) course at since n refl (next since (record { by = n.by; ready = n.ready; noted = n.noted }))
+    -- an operation that was stopped was not of an attempt that must become irrevocable
+    unforced : (m b : Bool) → (m && not b) ≡ false → b ≡ false → m ≡ true → ⊥
+    unforced true true f i e = absurd cc
+    unforced true false f i e = absurd cc
+    unforced false b f i e = absurd cc
+
+    by-stop : (op : Op) (stop : Stop) → IsFair h at (Stopped op stop) → Comes op at → Further knows (after at (Stopped op stop)) course → TellsAt knows since at (Stopped op stop ∷ course)
+    by-stop op (stops.Conflict cause) fair comes next = failed (Stopped op (stops.Conflict cause)) course at knows since n outcomes.Conflict (must_next at.must at.failed) fair.1.0 (λ e. (refl, forced-on e)) (inl refl) refl comes.0 next
+    by-stop op (stops.Full limit) fair comes next = failed (Stopped op (stops.Full limit)) course at knows since n outcomes.Full true tt (λ e. absurd (unforced at.must (irrevocable at) comes.1 fair.0 e)) (inr refl) refl comes.0 next
+    by-stop op (stops.ClockFull clock) fair comes next = still (Stopped op (stops.ClockFull clock)) course at knows since n refl (next since (record { by = n.by; ready = λ e. absurd cc; noted = n.noted; under = λ one e. absurd cc }))
+
+    by-grant : (forced : Bool) → is_forced at ≡ forced → Further knows (granted_at forced at) course → TellsAt knows since at (TryIrrevocable irrevs.Granted ∷ course)
+    by-grant true e next = still (TryIrrevocable irrevs.Granted) course at knows since n refl (next since (record { by = n.by; ready = n.ready; noted = n.noted; under = n.under }))
+    by-grant false e next = still (TryIrrevocable irrevs.Granted) course at knows since n refl (next since (record { by = n.by; ready = n.ready; noted = n.noted; under = n.under }))
 
     asking : ((at.phase ≡ Inside) × (is_forced at ≡ true)) ⊎ Comes Irrev at → at.phase ≡ Inside
     asking (inl h) = h.0
     asking (inr h) = h.0
 
-    by-said : (said : Said) → MayTurn at said → IsFair h at said → Further (after at said) course → TellsAt since at (said ∷ course)
-    by-said (TryBegin (begins.Begun alg)) may fair next = still (TryBegin (begins.Begun alg)) course at since n refl (next since (record { by = n.by; ready = λ e. (may.2, may.1); noted = n.noted }))
-    by-said (TryBegin (begins.Closed gate)) may fair next = still (TryBegin (begins.Closed gate)) course at since n refl (next since n)
-    by-said (TryBegin (begins.Held word)) may fair next = still (TryBegin (begins.Held word)) course at since n refl (next since n)
-    by-said (TryBegin (begins.ClockFull clock)) may fair next = still (TryBegin (begins.ClockFull clock)) course at since n refl (next since n)
-    by-said (Reply op reply) may fair next = still (Reply op reply) course at since n refl (next since n)
-    by-said (Stopped op stop) may fair next = by-stop op stop fair may.0.0 next
-    by-said (TryCancel (cancels.Cancelled time)) may fair next = row-told (TryCancel (cancels.Cancelled time)) course at since n C (row_at C time (record at { replies = at.replies ++ 1 ∷ [] })) refl refl may.0 next
-    by-said (TryCancel cancels.Irrevocable) may fair next = still (TryCancel cancels.Irrevocable) course at since n refl (next since n)
-    by-said (TryIrrevocable irrevs.Granted) may fair next = by-grant (is_forced at) refl next
-    by-said (TryIrrevocable (irrevs.Busy caller status)) may fair next = still (TryIrrevocable (irrevs.Busy caller status)) course at since n refl (next since n)
-    by-said (TryIrrevocable (irrevs.Taken gate)) may fair next = failed (TryIrrevocable (irrevs.Taken gate)) course at since n outcomes.Cancelled tt refl (asking may) next
-    by-said (TryIrrevocable (irrevs.Conflict cause)) may fair next = failed (TryIrrevocable (irrevs.Conflict cause)) course at since n outcomes.Conflict fair.1 refl (asking may) next
-    by-said (TryIrrevocable (irrevs.ClockFull clock)) may fair next = still (TryIrrevocable (irrevs.ClockFull clock)) course at since n refl (next since (record { by = n.by; ready = λ e. absurd cc; noted = n.noted }))
-    by-said (TryCommit (commits.Committed time)) may fair next = row-told (TryCommit (commits.Committed time)) course at since n W (row_at W time at) refl refl may.0 next
-    by-said (TryCommit (commits.ReadOnly time)) may fair next = row-told (TryCommit (commits.ReadOnly time)) course at since n R (row_at R time at) refl refl may.0 next
-    by-said (TryCommit (commits.Conflict cause)) may fair next = failed (TryCommit (commits.Conflict cause)) course at since n outcomes.Conflict fair.1 refl may.0 next
-    by-said (TryCommit (commits.Again word had now)) may fair next = still (TryCommit (commits.Again word had now)) course at since n refl (next since n)
-    by-said (TryCommit (commits.ClockFull clock)) may fair next = still (TryCommit (commits.ClockFull clock)) course at since n refl (next since (record { by = n.by; ready = λ e. absurd cc; noted = n.noted }))
-    by-said (TryClose closes.Closed) may fair next = still (TryClose closes.Closed) course at since n refl (next since (record { by = n.by; ready = λ e. absurd cc; noted = n.noted }))
-    by-said (TryClose (closes.Taken gate)) may fair next = still (TryClose (closes.Taken gate)) course at since n refl (next since n)
-    by-said (Looked looks.Quiet) may fair next = still (Looked looks.Quiet) course at since n refl (next since (record { by = n.by; ready = λ e. absurd cc; noted = n.noted }))
-    by-said (Looked (looks.Busy caller status)) may fair next = still (Looked (looks.Busy caller status)) course at since n refl (next since n)
-    by-said (Installed alg) may fair next = installed-told alg course at since at.chosen refl n.by n.noted may.1 next
-    by-said (Reserved reads writes) may fair next = lengthened-told reads writes course at since may.2 may.1 (next since (record { by = n.by; ready = λ e. absurd (let x = sym may.0 ∙ e in cc); noted = n.noted }))
-    by-said Idle may fair next = still Idle course at since n refl (next since n)
-    by-said Dropped may fair next = failed Dropped course at since n outcomes.Cancelled tt refl may.0 next
-    by-said Reopened may fair next = still Reopened course at since n refl (next since (record { by = n.by; ready = λ e. absurd cc; noted = n.noted }))
+    -- who was cut in its attempt was so by the end of a schedule
+    cut-by : (b : Bool) → (b ≡ false → ⊥) → b ≡ true
+    cut-by true h = refl
+    cut-by false h = absurd (h refl)
+
+    by-said : (said : Said) → MayTurn at said → IsFair h at said → (cut ≡ false → IsUncut (said ∷ course)) → (h.callers ≡ 1 → BeginsUnder knows said) → Further (last_of knows (installed said)) (after at said) course → TellsAt knows since at (said ∷ course)
+    by-said (TryBegin (begins.Begun alg)) may fair uncut under next = still (TryBegin (begins.Begun alg)) course at knows since n refl (next since (record { by = n.by; ready = λ e. (may.2, may.1); noted = n.noted; under = λ one e. under one }))
+    by-said (TryBegin (begins.Closed gate)) may fair uncut under next = still (TryBegin (begins.Closed gate)) course at knows since n refl (next since n)
+    by-said (TryBegin (begins.Held word)) may fair uncut under next = still (TryBegin (begins.Held word)) course at knows since n refl (next since n)
+    by-said (TryBegin (begins.ClockFull clock)) may fair uncut under next = still (TryBegin (begins.ClockFull clock)) course at knows since n refl (next since n)
+    by-said (Reply op reply) may fair uncut under next = still (Reply op reply) course at knows since n refl (next since n)
+    by-said (Stopped op stop) may fair uncut under next = by-stop op stop fair may.0 next
+    by-said (TryCancel (cancels.Cancelled time)) may fair uncut under next = row-told (TryCancel (cancels.Cancelled time)) course at knows since n C (row_at C time (record at { replies = at.replies ++ 1 ∷ [] })) refl refl may.0 next
+    by-said (TryCancel cancels.Irrevocable) may fair uncut under next = still (TryCancel cancels.Irrevocable) course at knows since n refl (next since n)
+    by-said (TryIrrevocable irrevs.Granted) may fair uncut under next = by-grant (is_forced at) refl next
+    by-said (TryIrrevocable (irrevs.Busy caller status)) may fair uncut under next = still (TryIrrevocable (irrevs.Busy caller status)) course at knows since n refl (next since n)
+    by-said (TryIrrevocable (irrevs.Taken gate)) may fair uncut under next = failed (TryIrrevocable (irrevs.Taken gate)) course at knows since n outcomes.Cancelled (must_next at.must at.failed) (inl fair.0.2) (λ e. (refl, forced-on e)) (inl refl) refl (asking may) next
+    by-said (TryIrrevocable (irrevs.Conflict cause)) may fair uncut under next = failed (TryIrrevocable (irrevs.Conflict cause)) course at knows since n outcomes.Conflict (must_next at.must at.failed) fair.1 (λ e. (refl, forced-on e)) (inl refl) refl (asking may) next
+    by-said (TryIrrevocable (irrevs.ClockFull clock)) may fair uncut under next = still (TryIrrevocable (irrevs.ClockFull clock)) course at knows since n refl (next since (record { by = n.by; ready = λ e. absurd cc; noted = n.noted; under = λ one e. absurd cc }))
+    by-said (TryCommit (commits.Committed time)) may fair uncut under next = row-told (TryCommit (commits.Committed time)) course at knows since n W (row_at W time at) refl refl may.0 next
+    by-said (TryCommit (commits.ReadOnly time)) may fair uncut under next = row-told (TryCommit (commits.ReadOnly time)) course at knows since n R (row_at R time at) refl refl may.0 next
+    by-said (TryCommit (commits.Conflict cause)) may fair uncut under next = failed (TryCommit (commits.Conflict cause)) course at knows since n outcomes.Conflict (must_next at.must at.failed) fair.1 (λ e. (refl, forced-on e)) (inl refl) refl may.0 next
+    by-said (TryCommit (commits.Again word had now)) may fair uncut under next = still (TryCommit (commits.Again word had now)) course at knows since n refl (next since n)
+    by-said (TryCommit (commits.ClockFull clock)) may fair uncut under next = still (TryCommit (commits.ClockFull clock)) course at knows since n refl (next since (record { by = n.by; ready = λ e. absurd cc; noted = n.noted; under = λ one e. absurd cc }))
+    by-said (TryClose closes.Closed) may fair uncut under next = still (TryClose closes.Closed) course at knows since n refl (next since (record { by = n.by; ready = λ e. absurd cc; noted = n.noted; under = λ one e. absurd cc }))
+    by-said (TryClose (closes.Taken gate)) may fair uncut under next = still (TryClose (closes.Taken gate)) course at knows since n refl (next since n)
+    by-said (Looked looks.Quiet) may fair uncut under next = still (Looked looks.Quiet) course at knows since n refl (next since (record { by = n.by; ready = λ e. absurd cc; noted = n.noted; under = λ one e. absurd cc }))
+    by-said (Looked (looks.Busy caller status)) may fair uncut under next = still (Looked (looks.Busy caller status)) course at knows since n refl (next since n)
+    by-said (Installed alg) may fair uncut under next = installed-told alg course at knows since at.chosen refl n.by n.noted may.1 next
+    by-said (Reserved reads writes) may fair uncut under next = lengthened-told reads writes course at knows since may.2 may.1 (next since (record { by = n.by; ready = λ e. absurd (let x = sym may.0 ∙ e in cc); noted = n.noted; under = λ one e. absurd (let x = sym may.0 ∙ e in cc) }))
+    by-said Idle may fair uncut under next = still Idle course at knows since n refl (next since n)
+    by-said Dropped may fair uncut under next = failed Dropped course at knows since n outcomes.Cancelled at.must (inr (cut-by cut uncut)) (λ e. (refl, e)) (inl refl) refl may.0 next
+    by-said Reopened may fair uncut under next = still Reopened course at knows since n refl (next since (record { by = n.by; ready = λ e. absurd cc; noted = n.noted; under = λ one e. absurd cc }))
 
   -- the whole course, where the items that are counted as done behind it install nothing
-  module _ (last : (since : List Outcome) → IsNotedAt policy since to → Adapts h.callers done policy since (at_most_one to.chosen) items kinds []) (enough : to.chosen ≡ None → (done ≡ true) ⊎ (items ≢ [])) where
-    all-told : (course : List Said) (at : Place) (since : List Outcome) → IsNotedAt policy since at → Went h at course to → TellsAt since at course
-    all-told [] at since n went = subst (λ p. TellsAt since p []) (sym went) (record {
+  module _ (last : (knows : Alg) (since : List Outcome) → IsNotedAt h.callers policy knows since to → (a : Adapts cut h.callers done policy knows since (at_most_one to.chosen) items kinds []) × (fulls_next a.0 ≡ 0)) (enough : to.chosen ≡ None → (done ≡ true) ⊎ (items ≢ [])) (end : Alg) where
+    all-told : (course : List Said) (at : Place) (knows : Alg) (since : List Outcome) → IsNotedAt h.callers policy knows since at → Went h at course to → (cut ≡ false → IsUncut course) → (h.callers ≡ 1 → Knows knows course end) → TellsAt knows since at course
+    all-told [] at knows since n went uncut alone = let a = last knows since (subst (IsNotedAt h.callers policy knows since) went n) in subst (λ p. TellsAt knows since p []) (sym went) (record {
       did = [];
       more = [];
       all = refl;
       told = sym (append-nil (map (λ (r : Row). r.kind) to.rows));
       enough = enough;
-      adapts = last since (subst (IsNotedAt policy since) went n);
+      adapts = a.0;
+      first = λ e. a.1;
     })
-    all-told (said ∷ course) at since n went = by-said course at since n said went.0 went.1 (λ other m. all-told course (after at said) other m went.2)
+    all-told (said ∷ course) at knows since n went uncut alone =
+        by-said course at knows since n said went.0 went.1 uncut (λ one. (alone one).0) (λ other m. all-told course (after at said) (last_of knows (installed said)) other m went.2 (λ e. uncut-on said course (uncut e)) (λ one. (alone one).1))
 
-fresh-noted : (at : Place) → IsFresh at → IsNotedAt at.policy [] at
-fresh-noted at f = record {
+fresh-noted : (callers : ℕ) (knows : Alg) (at : Place) → IsFresh at → IsNotedAt callers at.policy knows [] at
+fresh-noted callers knows at f = record {
   by = refl;
   ready = λ e. absurd (let x = sym f.between ∙ e in cc);
   noted = subst (λ c. NotedWith c [] at.profile) (sym f.unasked) f.noted;
+  under = λ one e. absurd (let x = sym f.between ∙ e in cc);
 }
 
-fixed-installs : (done : Bool) (since : List Outcome) (items : List Item) (tried : List Tried) → installs_by done Fixed since [] items tried ≡ switches_of items
-fixed-installs true since [] tried = refl
-fixed-installs false since [] tried = refl
-fixed-installs done since (Tx caller script ∷ items) [] = fixed-installs done since items []
-fixed-installs done since (Tx caller script ∷ items) (t ∷ tried) = fixed-installs done (since ++ came_to t) items tried
-fixed-installs done since (Switch caller alg ∷ items) tried = ap (λ l. alg ∷ l) (fixed-installs done since items tried)
-fixed-installs done since (Reserve caller reads writes ∷ items) tried = fixed-installs done since items tried
+fixed-installs : (callers : ℕ) (done : Bool) (knows : Alg) (since : List Outcome) (items : List Item) (tried : List Tried) → installs_by callers done Fixed knows since [] items tried ≡ switches_of items
+fixed-installs callers true knows since [] tried = refl
+fixed-installs callers false knows since [] tried = refl
+fixed-installs callers done knows since (Tx caller script ∷ items) [] = fixed-installs callers done knows since items []
+fixed-installs callers done knows since (Tx caller script ∷ items) (t ∷ tried) = fixed-installs callers done knows (since ++ came_to t) items tried
+fixed-installs callers done knows since (Switch caller alg ∷ items) tried = ap (λ l. alg ∷ l) (fixed-installs callers done alg since items tried)
+fixed-installs callers done knows since (Reserve caller reads writes ∷ items) tried = fixed-installs callers done knows since items tried
 
-by-policy : (callers : ℕ) (done : Bool) (policy : Policy) (items : List Item) (kinds : List Kind) (installs : List Alg) → Adapts callers done policy [] [] items kinds installs → InstallsBy callers done policy items kinds installs
-by-policy callers done Fixed items kinds installs a = a.3 ∙ fixed-installs done [] items a.0
-by-policy callers done (Round n) items kinds installs a = a
-by-policy callers done Expert items kinds installs a = a
-by-policy callers done (State n) items kinds installs a = a
+by-policy : (cut : Bool) (callers : ℕ) (done : Bool) (policy : Policy) (start : Alg) (items : List Item) (kinds : List Kind) (installs : List Alg) → Adapts cut callers done policy start [] [] items kinds installs → InstallsBy cut callers done policy start items kinds installs
+by-policy cut callers done Fixed start items kinds installs a = a.3 ∙ fixed-installs callers done start [] items a.0
+by-policy cut callers done (Round n) start items kinds installs a = a
+by-policy cut callers done Expert start items kinds installs a = a
+by-policy cut callers done (State n) start items kinds installs a = a
 
 -- of a caller that had done nothing, where these are the first of its items, or these and the first operations of an attempt
-module _ (h : Header) (at to : Place) (course : List Said) (fresh : IsFresh at) (went : Went h at course to) (first : List Item) (is : at.left ≡ first ++ to.left) where
-  from-start : (done : Bool) (items : List Item) (kinds : List Kind) → TellsAt h done at.policy to items kinds [] at course → InstallsBy h.callers done at.policy (first ++ items) (map (λ (r : Row). r.kind) to.rows ++ kinds) (all_installed course)
+module _ (cut : Bool) (h : Header) (at to : Place) (course : List Said) (start end : Alg) (fresh : IsFresh at) (went : Went h at course to) (uncut : cut ≡ false → IsUncut course) (alone : h.callers ≡ 1 → Knows start course end) (first : List Item) (is : at.left ≡ first ++ to.left) where
+  from-start : (done : Bool) (items : List Item) (kinds : List Kind) → TellsAt h cut done at.policy to items kinds start [] at course → InstallsBy cut h.callers done at.policy start (first ++ items) (map (λ (r : Row). r.kind) to.rows ++ kinds) (all_installed course)
   from-start done items kinds t =
       let did : t.did ≡ first = append_cancel_right t.did first to.left (sym t.all ∙ is) in
       let told : map (λ (r : Row). r.kind) to.rows ≡ t.more = t.told ∙ ap (λ (rows : List Row). map (λ (r : Row). r.kind) rows ++ t.more) fresh.rows in
-      by-policy h.callers done at.policy (first ++ items) (map (λ (r : Row). r.kind) to.rows ++ kinds) (all_installed course)
-      (subst (λ l. Adapts h.callers done at.policy [] [] (l ++ items) (map (λ (r : Row). r.kind) to.rows ++ kinds) (all_installed course)) did
-      (subst (λ k. Adapts h.callers done at.policy [] [] (t.did ++ items) (k ++ kinds) (all_installed course)) (sym told)
-      (subst (λ c. Adapts h.callers done at.policy [] (at_most_one c) (t.did ++ items) (t.more ++ kinds) (all_installed course)) fresh.unasked t.adapts)))
+      by-policy cut h.callers done at.policy start (first ++ items) (map (λ (r : Row). r.kind) to.rows ++ kinds) (all_installed course)
+      (subst (λ l. Adapts cut h.callers done at.policy start [] [] (l ++ items) (map (λ (r : Row). r.kind) to.rows ++ kinds) (all_installed course)) did
+      (subst (λ k. Adapts cut h.callers done at.policy start [] [] (t.did ++ items) (k ++ kinds) (all_installed course)) (sym told)
+      (subst (λ c. Adapts cut h.callers done at.policy start [] (at_most_one c) (t.did ++ items) (t.more ++ kinds) (all_installed course)) fresh.unasked t.adapts)))
 
   -- what was asked for last is done, where nothing is asked for any more
-  pub first-installs : (done : Bool) × (to.chosen ≡ None → done ≡ true) × InstallsBy h.callers done at.policy first (map (λ (r : Row). r.kind) to.rows) (all_installed course)
+  pub first-installs : (done : Bool) × (to.chosen ≡ None → done ≡ true) × InstallsBy cut h.callers done at.policy start first (map (λ (r : Row). r.kind) to.rows) (all_installed course)
   first-installs = by to.chosen refl
     where
-      whole : (done : Bool) → TellsAt h done at.policy to [] [] [] at course → InstallsBy h.callers done at.policy first (map (λ (r : Row). r.kind) to.rows) (all_installed course)
+      whole : (done : Bool) → TellsAt h cut done at.policy to [] [] start [] at course → InstallsBy cut h.callers done at.policy start first (map (λ (r : Row). r.kind) to.rows) (all_installed course)
       whole done t =
-          subst (λ l. InstallsBy h.callers done at.policy l (map (λ (r : Row). r.kind) to.rows) (all_installed course)) (append-nil first)
-          (subst (λ k. InstallsBy h.callers done at.policy (first ++ []) k (all_installed course)) (append-nil (map (λ (r : Row). r.kind) to.rows)) (from-start done [] [] t))
+          subst (λ l. InstallsBy cut h.callers done at.policy start l (map (λ (r : Row). r.kind) to.rows) (all_installed course)) (append-nil first)
+          (subst (λ k. InstallsBy cut h.callers done at.policy start (first ++ []) k (all_installed course)) (append-nil (map (λ (r : Row). r.kind) to.rows)) (from-start done [] [] t))
 
-      by : (c : Option Alg) → to.chosen ≡ c → (done : Bool) × (to.chosen ≡ None → done ≡ true) × InstallsBy h.callers done at.policy first (map (λ (r : Row). r.kind) to.rows) (all_installed course)
-      by None e = (true, (λ n. refl), whole true (all-told h true at.policy to [] [] (λ since n. ([], All-nil _, refl, ap at_most_one (sym e))) (λ n. inl refl) course at [] (fresh-noted at fresh) went))
-      by (Some alg) e = (false, (λ n. absurd (let x = sym e ∙ n in cc)), whole false (all-told h false at.policy to [] [] (λ since n. ([], All-nil _, refl, refl)) (λ n. absurd (let x = sym e ∙ n in cc)) course at [] (fresh-noted at fresh) went))
+      by : (c : Option Alg) → to.chosen ≡ c → (done : Bool) × (to.chosen ≡ None → done ≡ true) × InstallsBy cut h.callers done at.policy start first (map (λ (r : Row). r.kind) to.rows) (all_installed course)
+      by None e = (true, (λ n. refl), whole true (all-told h cut true at.policy to [] [] (λ knows since n. (([], All-nil _, refl, ap at_most_one (sym e)), none-tried)) (λ n. inl refl) end course at start [] (fresh-noted h.callers start at fresh) went uncut alone))
+      by (Some alg) e = (false, (λ n. absurd (let x = sym e ∙ n in cc)), whole false (all-told h cut false at.policy to [] [] (λ knows since n. (([], All-nil _, refl, refl), none-tried)) (λ n. absurd (let x = sym e ∙ n in cc)) end course at start [] (fresh-noted h.callers start at fresh) went uncut alone))
 
-  pub open-installs : to.phase ≡ Inside → (caller : ℕ) (ops : List Op) (kind : Kind) → InstallsBy h.callers false at.policy (first ++ Tx caller ops ∷ []) (map (λ (r : Row). r.kind) to.rows ++ kind ∷ []) (all_installed course)
+  pub open-installs : to.phase ≡ Inside → (caller : ℕ) (ops : List Op) (kind : Kind) → InstallsBy cut h.callers false at.policy start (first ++ Tx caller ops ∷ []) (map (λ (r : Row). r.kind) to.rows ++ kind ∷ []) (all_installed course)
   open-installs inside caller ops kind =
       let tried : Tried = record { failed = []; alg = to.alg; kind = kind } in
-      from-start false (Tx caller ops ∷ []) (kind ∷ []) (all-told h false at.policy to (Tx caller ops ∷ []) (kind ∷ [])
-      (λ since n. (tried ∷ [], All-cons (λ (x : Tried). All (IsFailure h.callers) x.failed) tried [] (All-nil (IsFailure h.callers)) (All-nil _), refl, ap (λ c. at_most_one c ++ []) (sym (n.ready inside).0)))
-      (λ n. inr (λ z. absurd cc)) course at [] (fresh-noted at fresh) went)
+      from-start false (Tx caller ops ∷ []) (kind ∷ []) (all-told h cut false at.policy to (Tx caller ops ∷ []) (kind ∷ [])
+      (λ knows since n. ((tried ∷ [], All-cons (IsTried cut h.callers) tried [] (record { failures = All-nil (IsFailure cut h.callers); once = omega arith }) (All-nil _), refl, ap (λ c. at_most_one c ++ []) (sym (n.ready inside).0)), fulls-none tried [] refl))
+      (λ n. inr (λ z. absurd cc)) end course at start [] (fresh-noted h.callers start at fresh) went uncut alone)
 
 pub courses-install : CoursesInstall
-courses-install h at to course fresh went over =
-    let i = first-installs h at to course fresh went at.left (sym (ap (λ l. at.left ++ l) over.1 ∙ append-nil at.left)) in
-    subst (λ b. InstallsBy h.callers b at.policy at.left (map (λ (r : Row). r.kind) to.rows) (all_installed course)) (i.1 over.2) i.2
+courses-install cut h at to course start end fresh went uncut alone over =
+    let i = first-installs cut h at to course start end fresh went uncut alone at.left (sym (ap (λ l. at.left ++ l) over.1 ∙ append-nil at.left)) in
+    subst (λ b. InstallsBy cut h.callers b at.policy start at.left (map (λ (r : Row). r.kind) to.rows) (all_installed course)) (i.1 over.2) i.2

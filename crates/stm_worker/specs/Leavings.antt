@@ -32,7 +32,7 @@ module _ {K : Type 0} (good : List ℕ → Type 0) (stm : Stm K) where
     pub sound : Sound good stm w
     pub now : place_of w ≡ place_of v
     pub knows : known w.desc ≡ known v.desc
-    pub same : IsSame v w
+    pub same : IsSame false v w
     pub irrevocable_open : HasOnlyIrrevocableOpen (place_of w)
 
   -- what was open is given up, and this said of it

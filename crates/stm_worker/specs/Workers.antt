@@ -37,7 +37,7 @@ use Rattle.stm_trace.specs.Places.{Place, after, clock_of, ended, failed_next, m
 use Rattle.stm_trace.specs.Turns.{BeforeTx, Lengthens, MustSwitch, HasSizes, IsFair}
 use Rattle.stm_worker.specs.declared.worker.Worker.{Worker}
 use Rattle.stm_worker.specs.Goings.{Going}
-use Rattle.stm_worker.specs.Courses.{Went, all_installed, installed}
+use Rattle.stm_worker.specs.Courses.{IsUncut, Knows, Went, all_installed, installed, is_cut}
 use Rattle.stm_worker.specs.Tellings.{Tells}
 
 abbrev pub place_of : {K : Type 0} → Worker K → Place
@@ -133,12 +133,15 @@ pub record IsKept {K : Type 0} (v w : Worker K) : Type 0 where
   pub regions : w.regions.now ≡ v.regions.now
   pub policy : w.policy ≡ v.policy
 
--- the same caller later: it took turns, and installed what they say
-pub record IsSame {K : Type 0} (v w : Worker K) : Type 0 where
+-- the same caller later: it took turns, and installed what they say. cut: whether an attempt may have been cancelled as a schedule was over
+pub record IsSame {K : Type 0} (cut : Bool) (v w : Worker K) : Type 0 where
   pub kept : IsKept v w
   pub course : List Said
   pub went : (h : Header) → HasSizes v.desc.who.config h → Went h (place_of v) course (place_of w)
+  pub uncut : cut ≡ false → IsUncut course
   pub installs : (known w.desc).installs ≡ (known v.desc).installs ++ all_installed course
+  -- who is alone runs under what it installed last
+  pub alone : v.desc.who.config.callers ≡ 1 → Knows (known v.desc).alg course (known w.desc).alg
 
 -- nothing is done, and there is room for all; alg is the memory's algorithm at the start
 pub record Starts {K : Type 0} (desc : Handle K) (items : List Item) (regions : List Region) (alg : Alg) (policy : Policy) (w : Worker K) : Type 0 where
@@ -225,7 +228,7 @@ module _ {K : Type 0} (good : List ℕ → Type 0) (stm : Stm K) where
     pub here : may (place_of v) said
     pub told : Tells good stm.config (caller_of v.desc.who.role) said (known v.desc) (known w.desc)
     pub now : place_of w ≡ after (place_of v) said
-    pub same : IsSame v w
+    pub same : IsSame (is_cut said) v w
     -- what follows of it: the numbers of its line, the clock's rises (by the attempt and not by the turn), the clock that was found full, and what was installed
     pub fair : (h : Header) → HasSizes stm.config h → IsFair h (place_of v) said
     pub owes : owed (known w.desc) ≤ owed (known v.desc) + 2
@@ -245,4 +248,4 @@ module _ {K : Type 0} (good : List ℕ → Type 0) (stm : Stm K) where
     pub irrevocable_now : irrevocable (place_of v) ≡ true
     pub now : place_of w ≡ place_of v
     pub knows : known w.desc ≡ known v.desc
-    pub same : IsSame v w
+    pub same : IsSame false v w

@@ -1,4 +1,4 @@
-use Rattle.std.proofs.Common.{◌≡◌, ◌≤◌, length, ap, subst, ◌∙◌}
+use Rattle.std.proofs.Common.{◌≡◌, ◌≤◌, false, length, ap, subst, ◌∙◌}
 use Rattle.stm_profile.specs.declared.policy.Policy.TheVariants.{Fixed}
 use Rattle.stm_profile.specs.Policies.{ruling}
 use Rattle.stm_script.specs.declared.workload.Workload.{Workload}
@@ -11,7 +11,7 @@ pub returns-in-ToEnd : goal.returns-in-ToEnd
 returns-in-ToEnd g c =
     let report = c.in-ToEnd.report in
     let shown = subst (HasRun (ruling Fixed c.in_ok-workload.workload.header.policy) c.in_ok-workload.workload) c.in-ToEnd.is c.in_ok-outcome.ensures in
-    let shown' = subst (λ (w : Workload). IsShown (ruling Fixed w.header.policy) w report c.in-ToEnd.closed) c.in_ok-workload.ensures.generated shown in
+    let shown' = subst (λ (w : Workload). IsShown false (ruling Fixed w.header.policy) w report c.in-ToEnd.closed) c.in_ok-workload.ensures.generated shown in
     record {
       report = report;
       shown = shown';

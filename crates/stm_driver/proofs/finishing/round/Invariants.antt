@@ -1,3 +1,4 @@
+use Rattle.std.specs.Prelude.{true}
 use Rattle.stm_driver.specs.Untils.{may_until, stands_until}
 use Rattle.stm_driver.specs.Schedules.{AreSound, AreSame, Rounded}
 use Rattle.stm_driver.specs.AllWorkers.{workers_in}
@@ -6,6 +7,6 @@ use Rattle.stm_driver.proofs.finishing.round.Given as goal
 abbrev pub invariant-loop-caller : goal.invariant-loop-caller
 invariant-loop-caller g l = record {
   sound : AreSound (g.K.MemRule.good l.stm.rule) l.stm (workers_in l.runners);
-  same : AreSame (workers_in l.fn.runners) (workers_in l.runners);
+  same : AreSame true (workers_in l.fn.runners) (workers_in l.runners);
   rounded : Rounded l.stm.config (may_until l.until) (stands_until l.until) l.caller (workers_in l.fn.runners) (workers_in l.runners) l.fn.trace.items l.trace.items;
 }

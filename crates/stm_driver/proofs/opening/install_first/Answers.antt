@@ -19,3 +19,6 @@ returns-clause-new g c =
         installs = r.installs ∙ (i.installs ∙ ap (λ l. l ++ c.args.alg ∷ []) before.installs);
       };
     }
+
+pub returns-clause-knows : goal.returns-clause-knows
+returns-clause-knows g c = λ one. c.reopen.ensures.reopens.sole one ∙ c.install.ensures.installs.named
