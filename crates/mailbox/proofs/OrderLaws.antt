@@ -1,15 +1,17 @@
 -- The mailbox in a history.
-use Rattle.std.proofs.Common.{ℕ, ◌≡◌, ◌+◌, ◌∙◌, List, [], ◌∷◌, ◌++◌, true, false, refl, ap, arith, subst, inl, inr}
-use Rattle.std.specs.Prelude.{◌⊎◌, ◌==◌, if◌then◌else◌, Option, Some, None}
+use Rattle.std.proofs.Common.{ℕ, zero, suc, ◌≡◌, ◌<◌, ◌≤◌, ◌+◌, ◌-◌, ◌∙◌, List, [], ◌∷◌, ◌++◌, Bool, true, false, length, get_or, refl, sym, ap, arith, subst, inl, inr}
+use Rattle.std.specs.Prelude.{◌⊎◌, ◌==◌, leb, if◌then◌else◌, All, Option, Some, None}
+use Rattle.std.proofs.lemmas.Bool.Decides.{nat_tests}
 use Rattle.std.proofs.lemmas.List.Sums.{sum_by-append, sum_by-cons}
-use Rattle.stm_model.specs.Histories.{memory_after}
-use Rattle.stm_model.specs.Memories.{overlay}
+use Rattle.stm_model.specs.Histories.{Entry, Ascending, made_by, memory_at, memory_after}
+use Rattle.stm_model.specs.HistoryLaws.{memory_at-early, memory_at-past, memory_at-first}
+use Rattle.stm_model.specs.Memories.{overlay, Explains}
 use Rattle.stm_model.specs.Overlays.{overlay-length}
 use Rattle.tx_parts.specs.Laying.{EitherTells}
 use Rattle.tx_parts.specs.ToldLaws.{Told, either-told, awaited-told}
 use Rattle.mailbox.specs.declared.mail.Mailbox.{Mailbox}
 use Rattle.mailbox.specs.Mail.{IsMailbox, mail_in, Takes, Receives}
-use Rattle.mailbox.specs.Deeds.{Deed, Posted, Received, Step, Runs, times, TakesReceive, ComeInOrder, ComeOnce}
+use Rattle.mailbox.specs.Deeds.{Deed, Posted, Received, Step, Did, AreDeeds, AreDone, StandsAt, Runs, times, TakesReceive, ComeInOrder, ComeInHistory, ComeOnce}
 
 receives : (mailbox : Mailbox) (o : Option ℕ) (m n : List ℕ) → Takes mailbox true o m n ⊎ ((gone : List ℕ) × Takes mailbox true None m gone × Takes mailbox false o m n) → (message : ℕ) → o ≡ Some message → Receives mailbox message m n
 receives mailbox o m n (inl h) message is = inl (subst (λ (p : Option ℕ). Takes mailbox true p m n) is h)
@@ -40,6 +42,62 @@ come-in-order mailbox words [] (d ∷ ds) m long stands deeds = absurd deeds
 come-in-order mailbox words (e ∷ es) [] m long stands deeds = absurd deeds
 come-in-order mailbox words (e ∷ es) (d ∷ ds) m long stands deeds =
     one-more mailbox ds m (overlay m e.writes) (memory_after es (overlay m e.writes)) (come-in-order mailbox words es ds (overlay m e.writes) (overlay-length m e.writes ∙ long) stands.2 deeds.1) d (deeds.0 m stands.0 long stands.1)
+
+later : (floor : ℕ) (es : List Entry) (k : ℕ) (d : Entry) → Ascending floor es → k < length es → floor < (get_or es k d).time
+later floor [] k d asc lt = absurd (omega arith)
+later floor (x ∷ es) zero d asc lt = asc.0
+later floor (x ∷ es) (suc k) d asc lt = let a = asc.0 in let h = later x.time es k d asc.1 (omega arith) in omega arith
+
+-- in a legal history each entry stands at its moment
+stands : (mailbox : Mailbox) (es : List Entry) (floor : ℕ) (m : List ℕ) → Ascending floor es → All (λ e. Explains (memory_at (e.time - 1) es m) e.reads) es → ((s : ℕ) → IsMailbox mailbox (memory_at s es m)) → StandsAt mailbox m es
+stands mailbox [] floor m asc reads goods = tt
+stands mailbox (e ∷ es) floor m asc reads goods = (subst (IsMailbox mailbox) same (goods (e.time - 1)), subst (λ k. Explains k e.reads) same (reads 0 e (omega arith)), stands mailbox es e.time (overlay m e.writes) asc.1 more_reads more_goods)
+  where
+    same : memory_at (e.time - 1) (e ∷ es) m ≡ m
+    same = memory_at-early (e.time - 1) (e.time - 1) (e ∷ es) m (omega arith) ((let a = asc.0 in omega arith), asc.1)
+
+    more_reads : All (λ d. Explains (memory_at (d.time - 1) es (overlay m e.writes)) d.reads) es
+    more_reads = λ k d lt.
+        let t = later e.time es k d asc.1 lt in
+        subst (λ x. Explains x (get_or es k d).reads) (memory_at-past ((get_or es k d).time - 1) e es m (omega arith)) (reads (suc k) d (omega arith))
+
+    more_goods : (s : ℕ) → IsMailbox mailbox (memory_at s es (overlay m e.writes))
+    more_goods s = by (leb e.time s) refl
+      where
+        by : (b : Bool) → leb e.time s ≡ b → IsMailbox mailbox (memory_at s es (overlay m e.writes))
+        by true is = subst (IsMailbox mailbox) (memory_at-past s e es m (grind (arith, nat_tests))) (goods s)
+        by false is =
+            let le : s ≤ e.time = grind (arith, nat_tests) in
+            subst (IsMailbox mailbox) (memory_at-first e es m asc.1 ∙ sym (memory_at-early s e.time es (overlay m e.writes) le asc.1)) (goods e.time)
+
+module _ (mailbox : Mailbox) (words : ℕ) where
+  -- where each caller's entries are deeds, all are
+  all-done : (es : List Entry) → ((n : ℕ) → AreDone mailbox words (made_by n es)) → AreDone mailbox words es
+  all-done [] done = tt
+  all-done (e ∷ es) done = ((own (e.caller == e.caller) (grind (arith, nat_tests)) (done e.caller)), all-done es (λ n. rest (e.caller == n) (made_by n es) (done n)))
+    where
+      own : (b : Bool) → b ≡ true → AreDone mailbox words (if b then e ∷ made_by e.caller es else made_by e.caller es) → (d : Deed) × Did mailbox words d e
+      own true is done = done.0
+      own false is done = absurd (let no : false ≡ true = is in cc)
+
+      rest : (b : Bool) (xs : List Entry) → AreDone mailbox words (if b then e ∷ xs else xs) → AreDone mailbox words xs
+      rest true xs done = done.1
+      rest false xs done = done
+
+  deeds-of : (es : List Entry) → AreDone mailbox words es → (ds : List Deed) × AreDeeds mailbox words es ds
+  deeds-of [] done = ([], tt)
+  deeds-of (e ∷ es) done = let more = deeds-of es done.1 in (done.0.0 ∷ more.0, (done.0.1, more.1))
+
+pub come-in-history : ComeInHistory
+come-in-history mailbox opening floor history legal done none-urgent none-other =
+    let deeds = deeds-of mailbox (length opening) history (all-done mailbox (length opening) history done) in
+    let runs = come-in-order mailbox (length opening) history deeds.0 opening refl (stands mailbox history floor opening legal.ascending legal.reads legal.good_always) deeds.1 in
+    let end = memory_after history opening in (
+      deeds.0,
+      deeds.1,
+      subst (λ (us : List ℕ). Runs deeds.0 us [] (mail_in mailbox true end) (mail_in mailbox false end)) none-urgent
+          (subst (λ (ns : List ℕ). Runs deeds.0 (mail_in mailbox true opening) ns (mail_in mailbox true end) (mail_in mailbox false end)) none-other runs),
+    )
 
 -- how often a message stands in a list with one more at its end, and at its front
 last : (message x : ℕ) (xs : List ℕ) → times message (xs ++ x ∷ []) ≡ times message xs + (if x == message then 1 else 0)

@@ -1,6 +1,6 @@
 -- The mailbox in a history of transactions: what they did to it, and what comes of its messages.
 use Rattle.std.specs.Prelude.{ℕ, ◌≡◌, ◌+◌, ◌⊎◌, ◌==◌, Bool, true, false, if◌then◌else◌, List, [], ◌∷◌, ◌++◌, length, sum_by, Some, Ok}
-use Rattle.stm_model.specs.Histories.{Entry, memory_after}
+use Rattle.stm_model.specs.Histories.{Entry, IsLegal, made_by, memory_after}
 use Rattle.stm_model.specs.Logs.{Log}
 use Rattle.stm_model.specs.Memories.{overlay, Explains}
 use Rattle.tx_effects.specs.FreshLaws.{nothing}
@@ -32,6 +32,11 @@ AreDeeds mailbox words [] [] = Unit {0}
 AreDeeds mailbox words [] (d ∷ ds) = ⊥
 AreDeeds mailbox words (e ∷ es) [] = ⊥
 AreDeeds mailbox words (e ∷ es) (d ∷ ds) = Did mailbox words d e × AreDeeds mailbox words es ds
+
+-- each of them is a deed
+abbrev pub AreDone : Mailbox → ℕ → List Entry → Type 0
+AreDone mailbox words [] = Unit {0}
+AreDone mailbox words (e ∷ es) = ((d : Deed) × Did mailbox words d e) × AreDone mailbox words es
 
 -- at each entry the memory is under the rule and explains what was read
 abbrev pub StandsAt : Mailbox → List ℕ → List Entry → Type 0
@@ -74,3 +79,11 @@ ComeInOrder = (mailbox : Mailbox) (words : ℕ) (es : List Entry) (ds : List Dee
 abbrev pub ComeOnce : Type 0
 ComeOnce = (message : ℕ) (ds : List Deed) (us ns vs os : List ℕ) → Runs ds us ns vs os
     → times message us + times message ns + posted_in message ds ≡ received_in message ds + times message vs + times message os
+
+-- so it is of a memory that was opened with no message, where each caller's entries are deeds: these lead from no message to those that wait
+abbrev pub RunsFromNone : Mailbox → ℕ → List Entry → List ℕ → Type 0
+RunsFromNone mailbox words history end = (ds : List Deed) × AreDeeds mailbox words history ds × Runs ds [] [] (mail_in mailbox true end) (mail_in mailbox false end)
+
+abbrev pub ComeInHistory : Type 0
+ComeInHistory = (mailbox : Mailbox) (opening : List ℕ) (floor : ℕ) (history : List Entry) → IsLegal (IsMailbox mailbox) opening floor history → ((n : ℕ) → AreDone mailbox (length opening) (made_by n history))
+    → mail_in mailbox true opening ≡ [] → mail_in mailbox false opening ≡ [] → RunsFromNone mailbox (length opening) history (memory_after history opening)

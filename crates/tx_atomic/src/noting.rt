@@ -1,5 +1,5 @@
 //! Calls that keep the address at which a read or a write was refused.
-ghost use Rattle.std.specs.Prelude.{◌≡◌};
+ghost use Rattle.std.specs.Prelude.{◌≡◌, ◌<◌};
 
 use std::cell::Cell;
 use stm_model::rule::MemRule;
@@ -30,11 +30,13 @@ impl<C: Calls> Calls for Noting<C> {
 
     #[inline(always)]
     fn read<K: MemRule>(&self, desc: &mut Desc<K>, stm: &Stm<K>, a: usize) -> Read {
+        address_within(stm.config.words, a);
         self.calls.read(desc, stm, a)
     }
 
     #[inline(always)]
     fn write<K: MemRule>(&self, desc: &mut Desc<K>, stm: &Stm<K>, a: usize, x: u64) -> Write {
+        address_within(stm.config.words, a);
         self.calls.write(desc, stm, a, x)
     }
 
@@ -47,4 +49,13 @@ impl<C: Calls> Calls for Noting<C> {
     fn refused(&self, a: usize) {
         self.at.set(Some(a));
     }
+}
+
+/// Stops a run that nothing has proved where the memory has no word at `a`: the difference is checked there. Else it does
+/// nothing, in no time, since nobody reads the difference.
+#[inline(always)]
+fn address_within(words: usize, a: usize)
+    requires { a < words }
+{
+    let _rest = words - 1 - a;
 }
