@@ -18,7 +18,7 @@ class Lacking(Exception):
 
 def built(name):
     """The program of a crate, where `bin/prove`, `rt run` or `rt ci` has built it; else nothing."""
-    path = os.path.join(TOP, "crates", name, "out", name)
+    path = os.path.abspath(os.path.join(TOP, "crates", name, "out", name))
     return path if os.path.exists(path) else None
 
 
@@ -36,7 +36,7 @@ def run_all(name, calls, given=None):
 
     It is the program given, or the one that is built, else an unproved build, which takes a minute or more and answers
     all calls. Of that one a status tells whether it ended, and no more than 1 MiB is written."""
-    path = given or built(name)
+    path = proved(name, given) if given else built(name)
     if path is not None:
         return [run(path, words, text) for words, text in calls]
     return try_all(name, calls)
