@@ -101,7 +101,7 @@ module _ {K : Type 0} (good : List ℕ → Type 0) (cut : Bool) (policy : Policy
   pub turned : (begun ran : List (Worker K)) → Begun good cut policy w stm items sized begun → AreSame cut begun ran → AreSound good stm ran → Turned ran
   turned begun ran b same sound =
       let own = own-same cut policy w 0 begun ran same b.own in
-      let count = same-length begun ran same in
+      let count = same-length cut begun ran same in
       let many = b.count in
       let sizes = ap (λ (c : Config). c.callers) sized in
       record {
@@ -126,7 +126,7 @@ module _ {K : Type 0} (good : List ℕ → Type 0) (cut : Bool) (policy : Policy
   done keeps parts parting rs lent ran n p same long kept sound =
       let first = begun good cut policy w stm items sized keeps parts (workers_in rs) parting p in
       let also = ap length same in
-      let count = same-length (workers_in lent) (workers_in ran) kept in
+      let count = same-length cut (workers_in lent) (workers_in ran) kept in
       let a = workers-length lent in
       let b = workers-length ran in
       let is = written n ran rs (omega (arith, also, long, count, a, b)) (omega (arith, also, long)) in

@@ -248,7 +248,7 @@ module _ {K : Type 0} (config : Config) (schedule : List Go) (ws us : List (Work
 
     module _ (xs : List (Worker K)) (c : List Line) (w : Rounds config MayWind HasNothingOpen us vs (a ++ Finish ∷ []) b (Ok tt)) (same : AreSame true us vs) where
       most : length (places vs) ≤ length us
-      most = let e = length-map vs place_of in let l = same-length us vs same in omega (arith, e, l)
+      most = let e = length-map vs place_of in let l = same-length true us vs same in omega (arith, e, l)
 
       -- in the turns to the end
       pub cut-third : (halt : Halt) → Rounds config MayFinish IsOver vs xs b c (Err halt) → Drives config schedule ws xs c (Err halt)
@@ -262,9 +262,9 @@ module _ {K : Type 0} (config : Config) (schedule : List Go) (ws us : List (Work
       -- all phases
       pub all-phases : Rounds config MayFinish IsOver vs xs b c (Ok tt) → AreSame true vs xs → Drives config schedule ws xs c (Ok tt)
       all-phases r also =
-          let n = same-length us vs same in
+          let n = same-length true us vs same in
           let many = length-map xs place_of in
-          let k = same-length vs xs also in
+          let k = same-length true vs xs also in
           let over : length (places xs) ≤ length us = omega (arith, many, k, n) in
           let h = sized config in (
             (λ h sizes rows told. rounds-fit h (places ws) (places us) (places vs) (places xs) schedule a b c (length us) (p.0 h sizes) (w.round h sizes) most rows (subst (λ (j : ℕ). WentRound h MayFinish IsOver j (places vs) (places xs) b c) (sym n) (r.round h sizes)) over told),

@@ -110,11 +110,11 @@ module _ {K : Type 0} where
     alone = λ one. knows-append (known u.desc).alg (known v.desc).alg (known w.desc).alg a.course b.course (a.alone one) (b.alone (ap (λ (x : Who K). x.config.callers) a.kept.same.who ∙ one));
   }
 
-  pub same-refl : {cut : Bool} (ws : List (Worker K)) → AreSame cut ws ws
+  pub same-refl : (ws : List (Worker K)) → AreSame true ws ws
   same-refl [] = tt
   same-refl (w ∷ ws) = (self-same w, same-refl ws)
 
-  pub same-trans : {cut : Bool} (us vs ws : List (Worker K)) → AreSame cut us vs → AreSame cut vs ws → AreSame cut us ws
+  pub same-trans : (us vs ws : List (Worker K)) → AreSame true us vs → AreSame true vs ws → AreSame true us ws
   same-trans [] [] [] a b = tt
   same-trans [] [] (w ∷ ws) a b = absurd b
   same-trans [] (v ∷ vs) ws a b = absurd a
@@ -123,16 +123,16 @@ module _ {K : Type 0} where
   same-trans (u ∷ us) (v ∷ vs) (w ∷ ws) a b =
       (worker-trans u v w a.0 b.0, same-trans us vs ws a.1 b.1)
 
-  pub same-set : {cut : Bool} (ws : List (Worker K)) (n : ℕ) (d w : Worker K) → n < length ws → IsSame cut (get_or ws n d) w → AreSame cut ws (set ws n w)
+  pub same-set : (ws : List (Worker K)) (n : ℕ) (d w : Worker K) → n < length ws → IsSame true (get_or ws n d) w → AreSame true ws (set ws n w)
   same-set [] n d w lt h = tt
   same-set (x ∷ ws) zero d w lt h = (h, same-refl ws)
   same-set (x ∷ ws) (suc n) d w lt h = (self-same x, same-set ws n d w (omega (arith, lt)) h)
 
-  pub same-length : {cut : Bool} (ws vs : List (Worker K)) → AreSame cut ws vs → length ws ≡ length vs
-  same-length [] [] a = refl
-  same-length [] (v ∷ vs) a = absurd a
-  same-length (w ∷ ws) [] a = absurd a
-  same-length (w ∷ ws) (v ∷ vs) a = ap suc (same-length ws vs a.1)
+  pub same-length : (cut : Bool) (ws vs : List (Worker K)) → AreSame cut ws vs → length ws ≡ length vs
+  same-length cut [] [] a = refl
+  same-length cut [] (v ∷ vs) a = absurd a
+  same-length cut (w ∷ ws) [] a = absurd a
+  same-length cut (w ∷ ws) (v ∷ vs) a = ap suc (same-length cut ws vs a.1)
 
   found-set : (ws : List (Worker K)) (n : ℕ) (w : Worker K) (clock : ℕ) → n < length ws → (w.phase ≡ Between) × (2 ^ 62 ≤ clock) × Loaded (known w.desc) clock → FoundFull (set ws n w) clock
   found-set [] n w clock lt h = absurd (omega (arith, lt))
@@ -199,8 +199,8 @@ module _ {K : Type 0} where
     turns-halt ws vs old new n (ClockFull clock) lt h = took-halts MaySay MaySay ws vs old new n h.0 lt h.1 h.1.turned.here clock h.2 h.1.turned.here
     turns-halt ws vs old new n Memory lt h = tt
 
-pub still-below : {K : Type 0} {cut : Bool} (ws vs : List (Worker K)) (n : ℕ) → AreSame cut ws vs → n < length ws → n < length vs
-still-below ws vs n same lt = let e = same-length ws vs same in omega (arith, e, lt)
+pub still-below : {K : Type 0} (ws vs : List (Worker K)) (n : ℕ) → AreSame true ws vs → n < length ws → n < length vs
+still-below ws vs n same lt = let e = same-length true ws vs same in omega (arith, e, lt)
 
 -- one runner of many
 pub sound-at : {K : Type 0} (good : List ℕ → Type 0) (stm : Stm K) (rs : List (CachePadded (Runner K))) (n : ℕ) (d : CachePadded (Runner K)) → n < length (workers_in rs) → AreSound good stm (workers_in rs)
