@@ -125,6 +125,7 @@ pub fn read<K: MemRule>(desc: &mut Desc<K>, stm: &Stm<K>, a: usize) -> Read
 /// None under OrecLazy and RingSW, whose writes wait for the commit. One under CGL and in an attempt that was
 /// promoted; three at most under TML and Serial, and where Serial takes it back two more and one for each word that
 /// it wrote.
+#[inline(always)]
 pub fn write<K: MemRule>(desc: &mut Desc<K>, stm: &Stm<K>, a: usize, x: u64) -> Write
     requires stm { IsOf desc.old stm.now }
     requires running { IsRunning (known desc.old) }
