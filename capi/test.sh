@@ -1,7 +1,7 @@
 #!/bin/sh
 # test.sh [--unproved | --asan | --tsan]: builds the library (build.sh says how), and tries all that is C, C++, Rust and Python
 # here with each compiler that is there. Silent where all goes well; else the last line says what did not, and the status is 1.
-# Needs what build.sh does; a fresh Debian or Ubuntu has it after `apt-get install gcc`. With --asan or --tsan the examples
+# Needs what build.sh does; a fresh Debian or Ubuntu has it after `apt-get install gcc python3`. With --asan or --tsan the examples
 # in C and C++ run over a library that the sanitizer sees into, and nothing else.
 set -eu
 here=$(cd "$(dirname "$0")" && pwd)
@@ -46,6 +46,14 @@ compare numbers crate "the header has other numbers than crates/nekchhaul_c/src/
 { sed 's/ .*//' "$room/numbers" && echo UNCANCELLABLE && echo RETRY && echo ONE_CALLER; } | sort >"$room/statuses"
 sed -n 's/^ *NEKCHHAUL_NAME(\([A-Z_]*\))$/\1/p' "$header" | sort >"$room/named"
 compare statuses named "a status has no name in nekchhaul_status_name"
+# Each wrapper has each call of the header, but those that are within another that it has: one try of a call that must be alone, or
+# tries without end, in that of so many tries; a cancel in nekchhaul_abandon, a begin with its tale in the loops.
+within='nekchhaul_(begin_under|cancel|move|learn_of_another|switch|fence|give_back|close|install|take_range|return_range|end)'
+for wrapper in include/nekchhaul.hpp rust/src python/nekchhaul.py; do
+    for name in $(grep -vxE "$within" "$room/declared"); do
+        try "$wrapper has no call ${name#nekchhaul_}" grep -rqwE "(nekchhaul_)?${name#nekchhaul_}" "$here/$wrapper"
+    done
+done
 sed -n '/^```c$/,/^```$/{/^```/d;p;}' "$here/../docs/C.md" >"$room/shown"
 sed 1d "$here/examples/whole.c" >"$room/whole"
 compare shown whole "docs/C.md has another program than examples/whole.c"

@@ -48,6 +48,35 @@ void words(nh::caller &c)
     IS(c.atomically([&](auto &t) { return t.read(number); }) == -5.0);
 }
 
+// An attempt by hand, and many writes in one call.
+void by_hand(nh::caller &c, nh::caller &other)
+{
+    {
+        nh::begun t = c.begin();
+        t.write_many({3, 0, 3}, {1, 2, 3});
+        IS((t.read_many({3, 0}) == std::vector<uint64_t>{3, 2}));
+        IS(status_of([&] { t.write_many({1, 4}, {5, 5}); }) == NEKCHHAUL_ADDRESS);
+        IS(status_of([&] { t.write_many({1, 2}, {6}); }) == NEKCHHAUL_ROOM && status_of([&] { t.write_many({1}, {}); }) == NEKCHHAUL_ROOM);
+        IS(t.read(1) == 5);
+        t.commit();
+        IS(status_of([&] { t.read(1); }) == NEKCHHAUL_NO_ATTEMPT);
+    }
+    c.begin().write(1, 7);
+    nh::begun t = c.begin();
+    t.write(1, 8);
+    t.cancel();
+    IS(c.atomically([](auto &inner) { return inner.read(1); }) == 5);
+    IS(status_of([&] { c.atomically([](auto &inner) { inner.write_many({0, 1}, {1}); }); }) == NEKCHHAUL_ROOM);
+    other.take_range(0, 1);
+    {
+        nh::begun beside = c.begin();
+        IS(status_of([&] { beside.read(0); }) == NEKCHHAUL_FENCED && beside.read(1) == 5);
+    }
+    other.return_range();
+    c.atomically([](auto &inner) { inner.write_many({0, 1, 3}, {0, 0, 0}); });
+    IS((nh::version() & ~NEKCHHAUL_UNPROVED) == 65536u * NEKCHHAUL_VERSION_MAJOR + NEKCHHAUL_VERSION_MINOR && nh::sizes_of(4).words == 4);
+}
+
 void marks(nh::caller &c)
 {
     c.atomically([&](auto &t) {
@@ -175,6 +204,7 @@ int main()
         auto callers = nh::open({4, 16, 16, 16, 16, 0}, a, 2);
         words(callers[0]);
         callers[0].atomically([](auto &t) { for (size_t i = 0; i < 4; i++) t.write(i, 0); });
+        by_hand(callers[0], callers[1]);
         marks(callers[0]);
         callers[0].atomically([](auto &t) { t.write(0, 0); });
         nesting(callers[0]);

@@ -19,10 +19,12 @@ static nekchhaul_sizes sizes = { 4, 4, 4, 8, 8, 0 };
 static void outside(uint32_t status)
 {
     uint64_t v = 77;
-    size_t depth = 77, address = 0;
+    size_t depth = 77, address = 0, taken = 77;
     IS(nekchhaul_read(&c[0], 0, &v), status);
     IS(nekchhaul_read_many(&c[0], &address, 1, &v, 1), status);
     IS(nekchhaul_write(&c[0], 0, 1), status);
+    IS(nekchhaul_write_many(&c[0], &address, 1, &v, 1, &taken), status);
+    IS(taken, status == NEKCHHAUL_NO_CALLER ? 77 : 0);
     IS(nekchhaul_commit(&c[0]), status);
     IS(nekchhaul_cancel(&c[0]), status);
     IS(nekchhaul_become_irrevocable(&c[0]), status);
@@ -35,7 +37,9 @@ static void outside(uint32_t status)
 static void inside(uint32_t status, int gives)
 {
     uint64_t v = 77, words[4] = { 77, 77, 77, 77 };
+    uint32_t under = 77;
     IS(nekchhaul_begin(&c[0]), status);
+    IS(nekchhaul_begin_under(&c[0], &under), status);
     IS(nekchhaul_switch(&c[0], NEKCHHAUL_TML), status);
     IS(nekchhaul_fence(&c[0], 0, 1), status);
     IS(nekchhaul_direct_read(&c[0], 0, &v), status);
@@ -46,7 +50,7 @@ static void inside(uint32_t status, int gives)
     if (!gives) IS(nekchhaul_learn(&c[1], &c[0]), status); /* else c[1] is in an attempt */
     IS(nekchhaul_reserve(&c[0], 8, 8), status);
     IS(nekchhaul_release(&c[0]), status);
-    IS(v != 77 || words[0] != 77, 0);
+    IS(v != 77 || words[0] != 77 || under != 77, 0);
 }
 
 static void opening(void)
@@ -74,6 +78,31 @@ static void opening(void)
     for (int i = 0; i < 2; i++) IS(c[i].tag_ != 0 || c[i].at_ != NULL, 0);
 }
 
+/* Many writes in one call: in order, and none after one that is refused. */
+static void writes(void)
+{
+    const size_t addresses[4] = { 3, 0, 3, 4 };
+    const uint64_t values[4] = { 1, 2, 3, 4 };
+    uint64_t found[4];
+    size_t taken = 77;
+    IS(nekchhaul_write_many(&c[0], addresses, 3, values, 2, &taken), NEKCHHAUL_ROOM);
+    IS(taken, 0);
+    IS(nekchhaul_write_many(&c[0], addresses, 0, values, 0, &taken), 0);
+    IS(taken, 0);
+    IS(nekchhaul_write_many(&c[0], addresses, 4, values, 4, &taken), NEKCHHAUL_ADDRESS);
+    IS(taken, 3);
+    IS(nekchhaul_read_many(&c[0], addresses, 3, found, 4), 0);
+    IS(found[0] != 3 || found[1] != 2 || found[2] != 3, 0);
+    IS(nekchhaul_write_many(&c[0], addresses + 3, 1, values, 4, &taken), NEKCHHAUL_ADDRESS);
+    IS(taken, 0);
+    IS(nekchhaul_write_many(&c[0], addresses, 2, values + 2, 2, &taken), 0);
+    IS(taken, 2);
+    IS(nekchhaul_read_many(&c[0], addresses, 2, found, 2), 0);
+    IS(found[0] != 3 || found[1] != 4, 0);
+    const uint64_t zeros[2] = { 0, 0 };
+    IS(nekchhaul_write_many(&c[0], addresses, 2, zeros, 2, &taken), 0);
+}
+
 /* Marks, logs, ranges, and what came in the way. */
 static void attempts(void)
 {
@@ -81,7 +110,9 @@ static void attempts(void)
     size_t depth = 0;
     nekchhaul_state_of state;
     nekchhaul_cause cause;
-    IS(nekchhaul_begin(&c[0]), 0);
+    uint32_t under = 77;
+    IS(nekchhaul_begin_under(&c[0], &under), 0);
+    IS(under, NEKCHHAUL_OREC_LAZY);
     inside(NEKCHHAUL_IN_ATTEMPT, 0);
     IS(nekchhaul_read(&c[0], 4, &v), NEKCHHAUL_ADDRESS);
     IS(nekchhaul_read(&c[0], SIZE_MAX, &v), NEKCHHAUL_ADDRESS);
@@ -93,6 +124,7 @@ static void attempts(void)
     IS(nekchhaul_read_many(&c[0], addresses, 2, many, 3), 0);
     IS(many[0] || many[1] || many[2] != 77, 0);
     IS(nekchhaul_read_many(&c[0], addresses, 0, many, 0), 0);
+    writes();
     IS(nekchhaul_roll_to(&c[0], 1), NEKCHHAUL_DEPTH);
     IS(nekchhaul_drop_marks(&c[0], 0), NEKCHHAUL_DEPTH);
     for (size_t i = 1; i <= 8; i++) {
@@ -169,9 +201,18 @@ static void ranges(void)
     IS(nekchhaul_direct_read(&c[0], 1, &v), 0);
     IS(v != 6, 0);
     IS(nekchhaul_direct_write(&c[0], 1, 9), 0);
-    IS(nekchhaul_begin(&c[1]), 0);
+    uint32_t under = 77;
+    IS(nekchhaul_begin_under(&c[1], &under), 0);
+    IS(under, NEKCHHAUL_BESIDE + NEKCHHAUL_OREC_LAZY);
     IS(nekchhaul_read(&c[1], 1, &v), NEKCHHAUL_FENCED);
     IS(nekchhaul_write(&c[1], 1, 1), NEKCHHAUL_FENCED);
+    const size_t beside[3] = { 2, 1, 3 };
+    size_t taken = 77;
+    IS(nekchhaul_write_many(&c[1], beside, 3, words, 3, &taken), NEKCHHAUL_FENCED);
+    IS(taken, 1);
+    IS(nekchhaul_read(&c[1], 3, &v), 0);
+    IS(v, 0);
+    IS(nekchhaul_write(&c[1], 2, 0), 0);
     IS(nekchhaul_read(&c[1], 2, &v), 0);
     IS(nekchhaul_state(&c[1], &state), 0);
     IS(state.stand != 1 || state.range != 2, 0);

@@ -7,8 +7,8 @@
  *
  * ANSWERS. Every call returns, whatever was called before, and answers a nekchhaul_status. 0 is done. 1 to 15 say what
  * came in the way of the transaction. 16 and up say that the call didn't fit, or that no memory was opened: then nothing
- * has changed. A value behind a pointer is written only where the answer is 0 (nekchhaul_read_many says more). No call
- * waits. nekchhaul_open and nekchhaul_reserve alone take memory.
+ * has changed. A value behind a pointer is written only where the answer is 0 (nekchhaul_read_many and nekchhaul_write_many
+ * say more). No call waits. nekchhaul_open and nekchhaul_reserve alone take memory.
  *
  * OWNERSHIP. The two words of a handle are the caller's storage, and the library alone reads and writes them. A handle
  * that is all zero is no caller, and every call on it answers NEKCHHAUL_NO_CALLER, whatever else doesn't fit. A handle is
@@ -79,7 +79,7 @@ typedef enum nekchhaul_status {
     NEKCHHAUL_NO_RANGE = 28,    /* the caller has no range, or the word isn't in it */
     NEKCHHAUL_DEPTH = 30,       /* no such mark stands */
     NEKCHHAUL_LOGS = 31,        /* of reserve: a length isn't 1 to 4,096 */
-    NEKCHHAUL_ROOM = 32,        /* of close and read_many: too few places */
+    NEKCHHAUL_ROOM = 32,        /* of close, read_many and write_many: too few places */
     NEKCHHAUL_SIZE_WORDS = 33,  /* of open: this number is out of its range */
     NEKCHHAUL_SIZE_RECORDS = 34,
     NEKCHHAUL_SIZE_RING = 35,
@@ -174,6 +174,11 @@ uint32_t nekchhaul_open(const nekchhaul_sizes *sizes, uint32_t algorithm, nekchh
 /* Begins an attempt. GATE_CLOSED, HELD, CLOCK_FULL; IN_ATTEMPT. */
 uint32_t nekchhaul_begin(nekchhaul_caller *caller) NEKCHHAUL_CALL;
 
+/* Begins an attempt, as nekchhaul_begin, and says under which algorithm: `under` is its number, and NEKCHHAUL_BESIDE more where
+ * a range was out of the transactions as it began, of which it can't read or write a word. */
+uint32_t nekchhaul_begin_under(nekchhaul_caller *caller, uint32_t *under) NEKCHHAUL_CALL;
+#define NEKCHHAUL_BESIDE 8u
+
 /* Reads a word: the attempt's last write of it, else the memory at its start. CONFLICT, LOG_FULL; NO_ATTEMPT,
  * COMMITTING, ADDRESS, FENCED. */
 uint32_t nekchhaul_read(nekchhaul_caller *caller, size_t address, uint64_t *value) NEKCHHAUL_CALL;
@@ -187,6 +192,12 @@ uint32_t nekchhaul_read_many(nekchhaul_caller *caller, const size_t *addresses, 
 /* Writes a word, for this attempt until it commits. CONFLICT, LOG_FULL, CLOCK_FULL; NO_ATTEMPT, COMMITTING, ADDRESS,
  * FENCED. */
 uint32_t nekchhaul_write(nekchhaul_caller *caller, size_t address, uint64_t value) NEKCHHAUL_CALL;
+
+/* Writes the values at `values`, of which there are `places`, to the words at `count` addresses, in turn: one crossing for many
+ * writes. It answers as nekchhaul_write does for the first that is refused, after which none is made, and ROOM where there are
+ * fewer values than addresses. `taken` is how many were made: `count` with 0, none with ROOM. After a misuse the attempt goes on
+ * with them. */
+uint32_t nekchhaul_write_many(nekchhaul_caller *caller, const size_t *addresses, size_t count, const uint64_t *values, size_t places, size_t *taken) NEKCHHAUL_CALL;
 
 /* Commits the attempt: with 0 it took effect at one moment. CONFLICT, AGAIN, CLOCK_FULL; NO_ATTEMPT. */
 uint32_t nekchhaul_commit(nekchhaul_caller *caller) NEKCHHAUL_CALL;
@@ -393,12 +404,20 @@ NEKCHHAUL_INLINE uint32_t nekchhaul_join(nekchhaul_caller *caller, int may_stop,
 }
 
 /* Begins an attempt for a body that never stops or, where it `may_stop`, one that can be cancelled whatever the body does.
- * Where it is to be `sure`, it is irrevocable with 0. Else none is open. */
-static inline uint32_t nekchhaul_enter(nekchhaul_caller *caller, int may_stop, int sure, struct nekchhaul_pause *pause)
+ * With any answer but 0 none is open, but with IN_ATTEMPT the one that was. */
+static inline uint32_t nekchhaul_enter(nekchhaul_caller *caller, int may_stop)
 {
-    uint32_t s = nekchhaul_may_run(caller, may_stop);
-    if (s != NEKCHHAUL_OK) (void)nekchhaul_abandon(caller); /* which has done nothing */
-    if (s != NEKCHHAUL_OK || !sure) return s;
+    uint32_t under, s = nekchhaul_begin_under(caller, &under);
+    if (s != NEKCHHAUL_OK) return s;
+    if (may_stop ? under > NEKCHHAUL_TML && under < NEKCHHAUL_BESIDE : under < NEKCHHAUL_BESIDE) return s;
+    (void)nekchhaul_abandon(caller); /* which has done nothing */
+    return under & NEKCHHAUL_BESIDE ? (uint32_t)NEKCHHAUL_RANGE_TAKEN : (uint32_t)NEKCHHAUL_UNCANCELLABLE;
+}
+
+/* Makes the attempt irrevocable. With any answer but 0 none is open. */
+static inline uint32_t nekchhaul_be_sure(nekchhaul_caller *caller, struct nekchhaul_pause *pause)
+{
+    uint32_t s;
     while ((s = nekchhaul_become_irrevocable(caller)) == NEKCHHAUL_BUSY) nekchhaul_wait(pause);
     if (s == NEKCHHAUL_GATE_CLOSED) (void)!nekchhaul_cancel(caller);
     return s;
@@ -468,9 +487,8 @@ NEKCHHAUL_INLINE uint32_t nekchhaul_atomically(nekchhaul_caller *caller, nekchha
 {
     struct nekchhaul_pause pause = NEKCHHAUL_PAUSE_INIT;
     for (;;) {
-        uint32_t s = nekchhaul_begin(caller);
+        uint32_t s = nekchhaul_enter(caller, 1);
         if (s == NEKCHHAUL_IN_ATTEMPT) return nekchhaul_join(caller, 1, body, argument);
-        if (s == NEKCHHAUL_OK) s = nekchhaul_enter(caller, 1, 0, &pause);
         if (s == NEKCHHAUL_OK) {
             s = nekchhaul_run(caller, body, argument);
             if (s == NEKCHHAUL_OK && (s = nekchhaul_leave(caller, &pause)) == NEKCHHAUL_OK) return s;
@@ -489,9 +507,9 @@ NEKCHHAUL_INLINE uint32_t nekchhaul_atomically_for_good(nekchhaul_caller *caller
     struct nekchhaul_pause pause = NEKCHHAUL_PAUSE_INIT;
     unsigned failed = 0;
     for (;;) {
-        uint32_t s = nekchhaul_begin(caller);
+        uint32_t s = nekchhaul_enter(caller, 0);
         if (s == NEKCHHAUL_IN_ATTEMPT) return nekchhaul_join(caller, 0, body, argument);
-        if (s == NEKCHHAUL_OK) s = nekchhaul_enter(caller, 0, failed >= 16, &pause);
+        if (s == NEKCHHAUL_OK && failed >= 16) s = nekchhaul_be_sure(caller, &pause);
         if (s == NEKCHHAUL_OK) {
             s = nekchhaul_run(caller, body, argument);
             if (s == NEKCHHAUL_OK && (s = nekchhaul_leave(caller, &pause)) == NEKCHHAUL_OK) return s;

@@ -73,11 +73,18 @@ class attempt {
     };
     template <class F> using answer = std::decay_t<std::invoke_result_t<F &, attempt &>>;
     nekchhaul_caller *caller_;
+    bool by_hand_ = false;
     template <class F> friend class running;
     friend class caller;
+    friend class begun;
 
     explicit attempt(nekchhaul_caller *c) : caller_(c) {}
-    static void ask(uint32_t s)
+    void ask(uint32_t s)
+    {
+        if (by_hand_ && s != NEKCHHAUL_OK) throw error(s);
+        answered(s);
+    }
+    static void answered(uint32_t s)
     {
         // (with these the attempt goes on, and the body may catch the error)
         if (s == NEKCHHAUL_UNCANCELLABLE || s == NEKCHHAUL_RANGE_TAKEN || s == NEKCHHAUL_DEEP) throw error(s);
@@ -103,6 +110,14 @@ public:
         if (addresses.empty()) return values; // whose data may be null
         ask(nekchhaul_read_many(caller_, addresses.data(), addresses.size(), values.data(), values.size()));
         return values;
+    }
+
+    // Writes the values to these addresses, in turn.
+    void write_many(const std::vector<size_t> &addresses, const std::vector<uint64_t> &values)
+    {
+        size_t taken = 0;
+        if (addresses.empty()) return; // whose data may be null
+        ask(values.empty() ? uint32_t{NEKCHHAUL_ROOM} : nekchhaul_write_many(caller_, addresses.data(), addresses.size(), values.data(), values.size(), &taken));
     }
 
     size_t checkpoint()
@@ -165,6 +180,25 @@ public:
     }
 };
 
+// An attempt that caller::begin began: it goes on beside a range, and its calls throw an error. One that isn't committed leaves no
+// trace where it goes, unless it can only be committed; then it is.
+class begun : public attempt {
+    friend class caller;
+    explicit begun(nekchhaul_caller *c) : attempt(c) { by_hand_ = true; }
+
+public:
+    ~begun() { (void)nekchhaul_abandon(caller_); }
+    void commit()
+    {
+        nekchhaul_pause pause = NEKCHHAUL_PAUSE_INIT;
+        uint32_t s;
+        while ((s = nekchhaul_commit(caller_)) == NEKCHHAUL_AGAIN) nekchhaul_wait(&pause);
+        ask(s);
+    }
+    // IRREVOCABLE where it could only be committed: what it wrote stands.
+    void cancel() { ask(nekchhaul_abandon(caller_)); }
+};
+
 // A body with what it answered last, for the loops of nekchhaul.h.
 template <class F> class running {
     using R = attempt::answer<F>;
@@ -213,7 +247,7 @@ class caller {
     template <class F> attempt::answer<F> run(F &body, uint32_t (*loop)(nekchhaul_caller *, nekchhaul_body, void *), int may_stop)
     {
         running<F> r(body, depth_);
-        if (depth_) attempt::ask(nekchhaul_join(&handle_, may_stop, &running<F>::once, &r));
+        if (depth_) attempt::answered(nekchhaul_join(&handle_, may_stop, &running<F>::once, &r));
         else ask(loop(&handle_, &running<F>::once, &r));
         return r.answer();
     }
@@ -234,8 +268,15 @@ public:
         (void)!nekchhaul_release(&handle_);
     }
 
-    // The handle, for the calls of nekchhaul.h: an attempt that is to go on beside a range is made by those.
+    // The handle, for the calls of nekchhaul.h.
     nekchhaul_caller *get() { return &handle_; }
+
+    // Begins an attempt by hand, if it can be begun at once.
+    begun begin()
+    {
+        ask(nekchhaul_begin(&handle_));
+        return begun(&handle_);
+    }
 
     // What the body answers in the attempt that committed, as nekchhaul_atomically does: it may stop, by an exception of its
     // own, which goes on, and the attempt has left nothing. Inside a body of the same caller it is a part of that attempt.
@@ -295,6 +336,12 @@ public:
         return counts;
     }
 };
+
+// 65,536 * major + minor, and NEKCHHAUL_UNPROVED more where the library isn't proved.
+inline uint32_t version() { return nekchhaul_version(); }
+
+// Sizes to begin with, for so many words.
+inline nekchhaul_sizes sizes_of(size_t words) { return nekchhaul_sizes_of(words); }
 
 inline std::vector<caller> open(const nekchhaul_sizes &sizes, algorithm a, size_t count)
 {

@@ -91,6 +91,37 @@ def parts():
     assert is_refused("SIZE_WORDS", nekchhaul.open, 0)
 
 
+def by_hand():
+    caller, other = nekchhaul.open(3, callers=2)
+    with caller.begin() as t:
+        t.write_many([2, 0, 2], [1, 2, 3])
+        assert t.read_many([0, 2]) == [2, 3]
+        assert is_refused("ADDRESS", t.write_many, [1, 3], [5, 5])
+        depth = t.checkpoint()
+        t.write(1, 6)
+        t.roll_to(depth)
+        t.drop_marks(depth)
+        assert t.state().marks == 0 and t.state().stand == 1
+        t.commit()
+    with caller.begin() as t:
+        t.write(0, 9)
+        t.cancel()
+    other.take_range(0, 1)
+    with caller.begin() as t:
+        assert is_refused("FENCED", t.read, 0) and t.read(1) == 5
+        assert is_refused("BUSY", other.return_range, 2) and other.why().status == nekchhaul.BUSY
+    other.return_range()
+    caller.atomically(lambda t: (t.become_irrevocable(), t.write(0, 4)))
+    other.learn(caller)
+    caller.reserve(8, 8)
+    assert is_refused("LOGS", caller.reserve, 0, 8)
+    counts = caller.counts()
+    assert (counts.begun, counts.committed, counts.promoted, counts.clock_conflicts) == (4, 2, 1, 0)
+    assert caller.state().stand == 0 and nekchhaul.version() & 0xFFFF0000 == 0x10000 | nekchhaul.version() & 0x80000000
+    assert other.close(3) == [4, 5, 3]
+
+
 for of in (Algorithm.OREC_LAZY, Algorithm.OREC_EAGER, Algorithm.RING_SW, Algorithm.SERIAL):
     bank(of)
 parts()
+by_hand()

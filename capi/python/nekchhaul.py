@@ -1,19 +1,40 @@
 """Nekchhaul for Python, by ctypes over libnekchhaul.so.1. Not proved; the calls below it are.
 
 `open` makes a memory of words of 64 bits and as many callers as there are to be threads. `Caller.atomically` runs a function of an
-attempt until it commits; where that raises an exception of its own nothing is left, and the exception goes on. NEKCHHAUL_LIB is
-the folder of the library; else it is looked for in ../build, and where the system looks."""
+attempt until it commits; where that raises an exception of its own nothing is left, and the exception goes on. nekchhaul.h says of
+each call what it does. NEKCHHAUL_LIB is the folder of the library; else it is looked for in ../build, and where the system looks."""
 import ctypes
 import enum
 import os
+import time
 from ctypes import POINTER, Structure, byref, c_char_p, c_int, c_size_t, c_uint32, c_uint64, c_ulong, c_void_p
 
 Algorithm = enum.IntEnum("Algorithm", "CGL TML OREC_LAZY OREC_EAGER RING_SW SERIAL", start=0)
-RETRY, STOP = 49, 256
+BUSY, AGAIN, RETRY, STOP = 4, 5, 49, 256
 
 
 class Sizes(Structure):
     _fields_ = [(name, c_size_t) for name in ("words", "records", "ring", "reads", "writes")] + [("clock", c_uint64)]
+
+
+class State(Structure):
+    """Where a caller stands."""
+
+    _fields_ = [("marks", c_size_t)] + [(name, c_uint32) for name in ("stand", "algorithm", "irrevocable", "range")]
+
+
+class Cause(Structure):
+    """What came in the way of a caller last."""
+
+    _fields_ = [(name, c_uint32) for name in ("status", "kind")] + [(name, c_uint64) for name in ("first", "second", "third")]
+
+
+class Counts(Structure):
+    """How often the calls of a caller came to what."""
+
+    _fields_ = [(name, c_uint64) for name in (
+        "begun", "committed", "read_only", "promoted", "full_logs", "waits",
+        "clock_conflicts", "record_conflicts", "moved_conflicts", "filter_conflicts", "overrun_conflicts")]
 
 
 class _Handle(Structure):
@@ -28,14 +49,18 @@ def _load():
 
 _lib = _load()
 _BODY = ctypes.CFUNCTYPE(c_uint32, POINTER(_Handle), c_void_p)
+_VALUE, _DEPTH, _MANY = POINTER(c_uint64), POINTER(c_size_t), [POINTER(c_size_t), c_size_t, POINTER(c_uint64), c_size_t]
 _CALLS = {
-    "open": [POINTER(Sizes), c_uint32, POINTER(_Handle), c_size_t], "read": [c_size_t, POINTER(c_uint64)], "write": [c_size_t, c_uint64],
-    "atomically": [_BODY, c_void_p], "atomically_for_good": [_BODY, c_void_p], "nested": [_BODY, c_void_p],
-    "join": [c_int, _BODY, c_void_p], "install": [c_uint32], "take_range": [c_size_t, c_size_t], "return_range": [], "direct_read": [c_size_t, POINTER(c_uint64)],
-    "direct_write": [c_size_t, c_uint64], "end_within": [POINTER(c_uint64), c_size_t, c_ulong], "abandon": [], "release": [],
+    "begin": [], "commit": [], "abandon": [], "release": [], "reopen": [], "become_irrevocable": [], "reserve": [c_size_t, c_size_t],
+    "read": [c_size_t, _VALUE], "write": [c_size_t, c_uint64], "read_many": _MANY, "write_many": [*_MANY, _DEPTH],
+    "checkpoint": [_DEPTH], "roll_to": [c_size_t], "drop_marks": [c_size_t], "direct_read": [c_size_t, _VALUE], "direct_write": [c_size_t, c_uint64],
+    "atomically": [_BODY, c_void_p], "atomically_for_good": [_BODY, c_void_p], "nested": [_BODY, c_void_p], "join": [c_int, _BODY, c_void_p],
+    "install_within": [c_uint32, c_ulong], "take_range_within": [c_size_t, c_size_t, c_ulong], "return_range_within": [c_ulong],
+    "end_within": [_VALUE, c_size_t, c_ulong], "learn": [POINTER(_Handle)], "state": [POINTER(State)], "why": [POINTER(Cause)], "counts": [POINTER(Counts)],
 }
 for _name, _words in _CALLS.items():
-    getattr(_lib, f"nekchhaul_{_name}").argtypes = _words if _name == "open" else [POINTER(_Handle), *_words]
+    getattr(_lib, f"nekchhaul_{_name}").argtypes = [POINTER(_Handle), *_words]
+_lib.nekchhaul_open.argtypes = [POINTER(Sizes), c_uint32, POINTER(_Handle), c_size_t]
 _lib.nekchhaul_status_name.restype = c_char_p
 _lib.nekchhaul_sizes_of.argtypes, _lib.nekchhaul_sizes_of.restype = [c_size_t], Sizes
 
@@ -57,19 +82,66 @@ def _ask(status, error=Error):
         raise error(status & 0xFFFFFFFF)
 
 
+def _told(call, handle, kind):
+    """What a call puts behind its pointer."""
+    place = kind()
+    return call(handle, byref(place)), place
+
+
 class Attempt:
     """A running attempt."""
+
+    _error = _Over
 
     def __init__(self, handle):
         self._handle = handle
 
+    def _ask(self, status):
+        _ask(status, self._error)
+
     def read(self, address):
         value = c_uint64()
-        _ask(_lib.nekchhaul_read(self._handle, address, byref(value)), _Over)
+        self._ask(_lib.nekchhaul_read(self._handle, address, byref(value)))
         return value.value
 
+    def read_many(self, addresses):
+        """The words at these addresses, read in turn."""
+        count = len(addresses)
+        values = (c_uint64 * count)()
+        self._ask(_lib.nekchhaul_read_many(self._handle, (c_size_t * count)(*addresses), count, values, count))
+        return list(values)
+
     def write(self, address, value):
-        _ask(_lib.nekchhaul_write(self._handle, address, value), _Over)
+        self._ask(_lib.nekchhaul_write(self._handle, address, value))
+
+    def write_many(self, addresses, values):
+        """Writes the values to these addresses, in turn."""
+        count, taken = len(addresses), c_size_t()
+        every = (c_uint64 * len(values))(*values)
+        self._ask(_lib.nekchhaul_write_many(self._handle, (c_size_t * count)(*addresses), count, every, len(values), byref(taken)))
+
+    def checkpoint(self):
+        """Marks what it has written, and answers how many marks stand."""
+        status, depth = _told(_lib.nekchhaul_checkpoint, self._handle, c_size_t)
+        self._ask(status)
+        return depth.value
+
+    def roll_to(self, depth):
+        self._ask(_lib.nekchhaul_roll_to(self._handle, depth))
+
+    def drop_marks(self, depth):
+        self._ask(_lib.nekchhaul_drop_marks(self._handle, depth))
+
+    def become_irrevocable(self):
+        """Waits for the attempts of others; from then on this one can only be committed."""
+        while (status := _lib.nekchhaul_become_irrevocable(self._handle)) == BUSY:
+            time.sleep(0)
+        self._ask(status)
+
+    def state(self):
+        status, state = _told(_lib.nekchhaul_state, self._handle, State)
+        self._ask(status)
+        return state
 
     def retry(self):
         """Runs the body again once others have come further."""
@@ -87,6 +159,27 @@ class Attempt:
             if over.args[0] != RETRY:
                 raise
         return self.nested(second)
+
+
+class Begun(Attempt):
+    """An attempt that `Caller.begin` began: it goes on beside a range, and its calls raise an Error. Of one that isn't committed
+    nothing is left at the end of its `with`, unless it can only be committed; then it is."""
+
+    _error = Error
+
+    def __enter__(self):
+        return self
+
+    def __exit__(self, *_):
+        _lib.nekchhaul_abandon(self._handle)
+
+    def commit(self):
+        while (status := _lib.nekchhaul_commit(self._handle)) == AGAIN:
+            time.sleep(0)
+        _ask(status)
+
+    def cancel(self):
+        _ask(_lib.nekchhaul_abandon(self._handle))
 
 
 def _run(loop, handle, body, error):
@@ -118,6 +211,7 @@ class Caller:
 
     def __del__(self):
         _lib.nekchhaul_abandon(self._handle)
+        _lib.nekchhaul_reopen(self._handle)
         _lib.nekchhaul_release(self._handle)
 
     def _run(self, loop, may_stop, body):
@@ -141,14 +235,20 @@ class Caller:
         """The same of a body that never stops, under every algorithm."""
         return self._run(_lib.nekchhaul_atomically_for_good, 0, body)
 
-    def install(self, algorithm):
-        _ask(_lib.nekchhaul_install(self._handle, algorithm))
+    def begin(self):
+        """Begins an attempt by hand: `with caller.begin() as t: t.write(0, 1); t.commit()`."""
+        _ask(_lib.nekchhaul_begin(self._handle))
+        return Begun(self._handle)
 
-    def take_range(self, first, count):
-        _ask(_lib.nekchhaul_take_range(self._handle, first, count))
+    def install(self, algorithm, tries=0):
+        """Waits for the attempts of others, as the other calls that must be alone do, or makes so many tries."""
+        _ask(_lib.nekchhaul_install_within(self._handle, algorithm, tries))
 
-    def return_range(self):
-        _ask(_lib.nekchhaul_return_range(self._handle))
+    def take_range(self, first, count, tries=0):
+        _ask(_lib.nekchhaul_take_range_within(self._handle, first, count, tries))
+
+    def return_range(self, tries=0):
+        _ask(_lib.nekchhaul_return_range_within(self._handle, tries))
 
     def direct_read(self, address):
         value = c_uint64()
@@ -158,11 +258,37 @@ class Caller:
     def direct_write(self, address, value):
         _ask(_lib.nekchhaul_direct_write(self._handle, address, value))
 
-    def close(self, words):
+    def close(self, words, tries=0):
         """The memory after all that was committed, of so many words; nothing is run from then on."""
         out = (c_uint64 * words)()
-        _ask(_lib.nekchhaul_end_within(self._handle, out, words, 0))
+        _ask(_lib.nekchhaul_end_within(self._handle, out, words, tries))
         return list(out)
+
+    def reserve(self, reads, writes):
+        _ask(_lib.nekchhaul_reserve(self._handle, reads, writes))
+
+    def learn(self, other):
+        """Takes in what another caller of the same memory has seen."""
+        _ask(_lib.nekchhaul_learn(self._handle, other._handle))
+
+    def _shown(self, call, kind):
+        status, shown = _told(call, self._handle, kind)
+        _ask(status)
+        return shown
+
+    def state(self):
+        return self._shown(_lib.nekchhaul_state, State)
+
+    def why(self):
+        return self._shown(_lib.nekchhaul_why, Cause)
+
+    def counts(self):
+        return self._shown(_lib.nekchhaul_counts, Counts)
+
+
+def version():
+    """65,536 * major + minor, and 0x80000000 more where the library isn't proved."""
+    return _lib.nekchhaul_version() & 0xFFFFFFFF
 
 
 def open(words, algorithm=Algorithm.OREC_LAZY, callers=1):  # pylint: disable=redefined-builtin

@@ -33,6 +33,13 @@ impl Attempt<'_> {
         told(unsafe { raw::nekchhaul_write(self.0, address, value) })
     }
 
+    /// Writes the values to these addresses, in turn, in one call. Where one is refused, none after it is written.
+    pub fn write_many(&mut self, addresses: &[usize], values: &[u64]) -> Result<(), Status> {
+        let mut taken = 0;
+        // SAFETY: both slices are the caller's.
+        told(unsafe { raw::nekchhaul_write_many(self.0, addresses.as_ptr(), addresses.len(), values.as_ptr(), values.len(), &mut taken) })
+    }
+
     /// Reads a typed word.
     pub fn get<T: Value>(&mut self, word: Word<T>) -> Result<T, Status> {
         self.read(word.address()).map(T::of_bits)

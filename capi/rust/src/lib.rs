@@ -60,6 +60,13 @@ impl Sizes {
     }
 }
 
+/// The library's version, 65,536 times the major number, and the minor one; and whether it is proved.
+pub fn version() -> (u32, bool) {
+    // SAFETY: it takes nothing and gives a number.
+    let number = unsafe { raw::nekchhaul_version() };
+    (number & 0x7fff_ffff, number & 0x8000_0000 == 0)
+}
+
 /// An algorithm.
 #[derive(Clone, Copy, Debug, PartialEq, Eq, Hash)]
 #[repr(u32)]

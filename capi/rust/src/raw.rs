@@ -82,11 +82,13 @@ pub(crate) type Body = unsafe extern "C" fn(caller: *mut Handle, argument: *mut 
 pub(crate) type Loop = unsafe extern "C" fn(caller: *mut Handle, body: Body, argument: *mut c_void) -> u32;
 
 extern "C" {
+    pub(crate) fn nekchhaul_version() -> u32;
     pub(crate) fn nekchhaul_open(sizes: *const Sizes, algorithm: u32, callers: *mut Handle, count: usize) -> u32;
     pub(crate) fn nekchhaul_begin(caller: *mut Handle) -> u32;
     pub(crate) fn nekchhaul_read(caller: *mut Handle, address: usize, value: *mut u64) -> u32;
     pub(crate) fn nekchhaul_read_many(caller: *mut Handle, addresses: *const usize, count: usize, values: *mut u64, places: usize) -> u32;
     pub(crate) fn nekchhaul_write(caller: *mut Handle, address: usize, value: u64) -> u32;
+    pub(crate) fn nekchhaul_write_many(caller: *mut Handle, addresses: *const usize, count: usize, values: *const u64, places: usize, taken: *mut usize) -> u32;
     pub(crate) fn nekchhaul_commit(caller: *mut Handle) -> u32;
     pub(crate) fn nekchhaul_become_irrevocable(caller: *mut Handle) -> u32;
     pub(crate) fn nekchhaul_reopen(caller: *mut Handle) -> u32;

@@ -151,6 +151,20 @@ fn bodies_that_may_stop_are_not_run_where_writes_stand() {
 }
 
 #[test]
+fn many_writes_in_one_call() {
+    for [mut c, _] in callers() {
+        c.atomically(|t| t.write_many(&[3, 0, 3], &[1, 2, 3])).unwrap();
+        assert_eq!(words(&mut c), [2, 0, 0, 3]);
+        assert_eq!(c.atomically(|t| t.write_many(&[0, 1], &[9])), Err(Status::ROOM));
+        let mut begun = c.begin().unwrap();
+        assert_eq!(begun.write_many(&[0, 4, 1], &[7, 7, 7]), Err(Status::ADDRESS));
+        begun.commit().unwrap();
+        assert_eq!(words(&mut c), [7, 0, 0, 3]);
+    }
+    assert_eq!(nekchhaul::version().0, 65_537);
+}
+
+#[test]
 fn attempts_by_hand() {
     for [mut c, mut other] in callers() {
         let mut begun = c.begin().unwrap();

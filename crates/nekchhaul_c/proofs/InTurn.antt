@@ -18,7 +18,7 @@ one-more (b ∷ at) [] a x m k n wrong h = absurd wrong
 one-more (b ∷ at) (y ∷ xs) a x m k n r h = (r.0, r.1, one-more at xs a x r.0 k n r.2 h)
 
 -- the first elements and the next, of a list and of one whose next was set
-take-more : (n : ℕ) (xs : List ℕ) → n < length xs → take (suc n) xs ≡ take n xs ++ get_or xs n 0 ∷ []
+pub take-more : (n : ℕ) (xs : List ℕ) → n < length xs → take (suc n) xs ≡ take n xs ++ get_or xs n 0 ∷ []
 take-more n [] lt = absurd (omega arith)
 take-more zero (x ∷ xs) lt = refl
 take-more (suc n) (x ∷ xs) lt = ap (λ l. x ∷ l) (take-more n xs (omega (arith, lt)))

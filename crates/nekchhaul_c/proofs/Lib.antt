@@ -2,3 +2,4 @@ pub mod Dealing
 pub mod Handles
 pub mod InTurn
 pub mod Values
+pub mod WritesInTurn

@@ -1,5 +1,6 @@
 -- The numbers of the answers.
-use Rattle.std.specs.Prelude.{ℕ, Result, Ok, Err}
+use Rattle.std.specs.Prelude.{ℕ, Bool, ◌+◌, if◌then◌else◌, Result, Ok, Err}
+use Rattle.stm_model.specs.Algorithms.{alg_number}
 use Rattle.stm_model.specs.declared.memory.Memory.{Memory}
 use Rattle.stm_rule.specs.declared.refusal.NewError.{NewError}
 use Rattle.stm_rule.specs.declared.refusal.NewError.TheVariants as sizes
@@ -62,6 +63,14 @@ begin_code (Ok (begins.Closed gate)) = 2
 begin_code (Ok (begins.Held word)) = 3
 begin_code (Ok (begins.ClockFull clock)) = 7
 begin_code (Err e) = misuse_code e
+
+-- the algorithm's number, and 8 more for an attempt beside a range
+abbrev pub begin_value : Result Begin Misuse → Bool → ℕ → ℕ
+begin_value (Ok (begins.Begun alg)) beside old = alg_number alg + (if beside then 8 else 0)
+begin_value (Ok (begins.Closed gate)) beside old = old
+begin_value (Ok (begins.Held word)) beside old = old
+begin_value (Ok (begins.ClockFull clock)) beside old = old
+begin_value (Err e) beside old = old
 
 abbrev pub read_code : Result Read Misuse → ℕ
 read_code (Ok (reads.Value x)) = 0

@@ -5,3 +5,4 @@ pub mod Owned
 pub mod Reads
 pub mod Says
 pub mod Shown
+pub mod Writes

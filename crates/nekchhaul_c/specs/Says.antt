@@ -2,15 +2,17 @@
 use Rattle.std.specs.Prelude.{ℕ, ◌≡◌, ◌==◌, if◌then◌else◌, List, length, Option, Some, None, Result, IfErr}
 use Rattle.stm_model.specs.declared.alg.Alg.{Alg}
 use Rattle.stm_model.specs.declared.alg.Alg.TheVariants.{Cgl, Tml, OrecLazy, OrecEager, RingSw, Serial}
-use Rattle.nekchhaul_c.specs.Codes.{done_code, misuse_code, taken_code}
+use Rattle.nekchhaul_c.specs.Codes.{begin_code, begin_value, done_code, misuse_code, taken_code}
+use Rattle.tx_answers.specs.declared.answers.Begin.{Begin}
 use Rattle.tx_checked.specs.declared.errand.Errand.TheVariants.{Switch}
 use Rattle.tx_checked.specs.declared.member.Member.{Member}
 use Rattle.tx_checked.specs.declared.misuse.Misuse.{Misuse}
 use Rattle.tx_checked.specs.declared.refusal.Refusal.{Refusal}
 use Rattle.tx_checked.specs.Learning.{HasLearned, IsAsked, TellsKin, meeting}
+use Rattle.tx_checked.specs.Members.{is_beside, known_to}
 use Rattle.tx_checked.specs.Misuses.{doing, outside, ending}
 use Rattle.tx_checked.specs.Endings.{HasEnded}
-use Rattle.tx_checked.specs.Tells.{Tells, HasSwitched}
+use Rattle.tx_checked.specs.Tells.{Tells, HasBegun, HasSwitched}
 
 -- a handle that held no caller holds none, and then this is so; one that held a caller holds one, of which P
 abbrev pub Holds : Type 0 → (Member → Member → Type 0) → Option Member → Option Member → Type 0
@@ -26,6 +28,10 @@ Says {A = A} code wrong Told k m n = (r : Result A Misuse) × (k ≡ code r) × 
 -- the same of an answer with a word, which is put in a place that had `old`
 abbrev pub SaysWord : {A : Type 0} → (Result A Misuse → ℕ) → (Result A Misuse → ℕ → ℕ) → ℕ → ℕ → (Member → Option Misuse) → (Member → Member → A → Type 0) → ℕ → Member → Member → Type 0
 SaysWord {A = A} code word old new wrong Told k m n = (r : Result A Misuse) × (k ≡ code r) × (new ≡ word r old) × Tells (wrong m) (Told m n) m n r
+
+-- and of a begin with what the attempt runs under, a range beside it too
+abbrev pub BeginSays : ℕ → ℕ → ℕ → Member → Member → Type 0
+BeginSays old new k m n = (r : Result Begin Misuse) × (k ≡ begin_code r) × (new ≡ begin_value r (is_beside (known_to n)) old) × Tells (outside m) (HasBegun m n) m n r
 
 -- only a caller in no attempt that hasn't closed the gate is let go, and then the handle holds none
 abbrev pub LetsGo : ℕ → Option Member → Option Member → Type 0

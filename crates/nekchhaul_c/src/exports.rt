@@ -1,14 +1,15 @@
-//! The calls of an attempt, and the gate, for C.
+//! The begin and the ends of an attempt, and the gate, for C.
 ghost use Rattle.std.specs.Prelude.{◌≡◌};
-ghost use Rattle.nekchhaul_c.specs.Codes.{begin_code, read_code, read_value, write_code, commit_code, cancel_code, grant_code, done_code};
-ghost use Rattle.nekchhaul_c.specs.Says.{Holds, LetsGo, Says, SaysWord, SwitchSays, algorithm_numbered};
-ghost use Rattle.tx_checked.specs.Misuses.{outside, reopening, inside, running, access};
-ghost use Rattle.tx_checked.specs.Tells.{HasBegun, HasReadWord, HasWrittenWord, HasCommitted, HasCancelled, IsIrrevocable, HasReopened};
+ghost use Rattle.nekchhaul_c.specs.Codes.{begin_code, commit_code, cancel_code, grant_code, done_code};
+ghost use Rattle.nekchhaul_c.specs.Says.{BeginSays, Holds, LetsGo, Says, SwitchSays, algorithm_numbered};
+ghost use Rattle.tx_checked.specs.Misuses.{outside, reopening, inside, running};
+ghost use Rattle.tx_checked.specs.Tells.{HasBegun, HasCommitted, HasCancelled, IsIrrevocable, HasReopened};
 
 use crate::handle::Handle;
 use crate::status;
 use std::alloc::Global;
 use stm_model::alg::Alg;
+use tx_checked::member::Member;
 
 /// Tries to begin an attempt.
 #[unsafe(no_mangle)]
@@ -18,31 +19,30 @@ pub extern "C" fn nekchhaul_begin(caller: &mut Handle) -> u32
     if !caller.is_held() {
         return status::NO_CALLER;
     }
-    status::of_begin(caller.member().begin())
+    let mut under = 0;
+    begin(caller.member(), &mut under)
 }
 
-/// Reads a word. `value` is written only where the answer is 0.
+/// Tries to begin an attempt, and tells under which algorithm, and whether a range was out of the transactions. `under` is
+/// written only where the answer is 0.
 #[unsafe(no_mangle)]
-pub extern "C" fn nekchhaul_read(caller: &mut Handle, address: usize, value: &mut u64) -> u32
-    ensures { Holds ((result ≡ 16) × (value.new ≡ value.old)) (SaysWord read_code read_value value.old value.new (access address) (HasReadWord address) result) caller.old.inside caller.new.inside }
+pub extern "C" fn nekchhaul_begin_under(caller: &mut Handle, under: &mut u32) -> u32
+    ensures { Holds ((result ≡ 16) × (under.new ≡ under.old)) (BeginSays under.old under.new result) caller.old.inside caller.new.inside }
 {
     if !caller.is_held() {
         return status::NO_CALLER;
     }
-    let word = caller.member().read(address);
-    status::put_value(word, value);
-    status::of_read(word)
+    begin(caller.member(), under)
 }
 
-/// Writes a word.
-#[unsafe(no_mangle)]
-pub extern "C" fn nekchhaul_write(caller: &mut Handle, address: usize, value: u64) -> u32
-    ensures { Holds (result ≡ 16) (Says write_code (access address) (HasWrittenWord address value) result) caller.old.inside caller.new.inside }
+/// Apart, so that it stands once.
+#[inline(never)]
+fn begin(member: &mut Member, under: &mut u32) -> u32
+    ensures { BeginSays under.old under.new result member.old member.new }
 {
-    if !caller.is_held() {
-        return status::NO_CALLER;
-    }
-    status::of_write(caller.member().write(address, value))
+    let begun = member.begin();
+    status::put_under(begun, member.is_beside(), under);
+    status::of_begin(begun)
 }
 
 /// Commits the attempt.

@@ -12,3 +12,5 @@ mod opening;
 mod ranges;
 mod reading;
 mod status;
+mod words;
+mod writing;

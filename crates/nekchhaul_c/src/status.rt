@@ -1,7 +1,7 @@
 //! The numbers by which C learns what a call came to. They are never given another meaning: `capi/include/nekchhaul.h`
 //! has them too.
 ghost use Rattle.std.specs.Prelude.{◌≡◌};
-ghost use Rattle.nekchhaul_c.specs.Codes.{misuse_code, refusal_code, begin_code, read_code, read_value, write_code, commit_code, cancel_code, grant_code, mark_code, mark_value, roll_code, done_code, word_code, word_value, taken_code, given_code, reserved_code, open_code};
+ghost use Rattle.nekchhaul_c.specs.Codes.{misuse_code, refusal_code, begin_code, begin_value, read_code, read_value, write_code, commit_code, cancel_code, grant_code, mark_code, mark_value, roll_code, done_code, word_code, word_value, taken_code, given_code, reserved_code, open_code};
 
 use stm_model::memory::Memory;
 use stm_rule::refusal::NewError;
@@ -128,6 +128,16 @@ pub(crate) fn of_begin(answer: Result<Begin, Misuse>) -> u32
         Ok(Begin::Held { .. }) => HELD,
         Ok(Begin::ClockFull { .. }) => CLOCK_FULL,
         Err(misuse) => of_misuse(misuse),
+    }
+}
+
+/// Puts what an attempt runs under: the algorithm's number, and 8 more beside a range.
+#[inline]
+pub(crate) fn put_under(answer: Result<Begin, Misuse>, beside: bool, under: &mut u32)
+    ensures { under.new ≡ begin_value answer beside under.old }
+{
+    if let Ok(Begin::Begun(alg)) = answer {
+        *under = alg.number() as u32 + if beside { 8 } else { 0 };
     }
 }
 

@@ -4,4 +4,5 @@ pub mod Giving
 pub mod Held
 pub mod Mails
 pub mod Newcomers
+pub mod Reach
 pub mod Refused

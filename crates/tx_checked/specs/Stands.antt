@@ -17,6 +17,14 @@ Any memory = Unit {0}
 abbrev pub StandsAs : Stand → Known → Type 0
 StandsAs s v = (s ≡ Idle → IsIdle v) × (s ≡ Running → IsRunning v × (v.fence ≡ 0)) × (s ≡ Beside → IsRunning v) × (s ≡ Committing → v.running ≡ true) × ((e : Errand) → s ≡ Closing e → HoldsClosed v)
 
+-- of so many words how many can be read and written without another look
+abbrev pub reach_at : Stand → ℕ → ℕ
+reach_at Idle words = 0
+reach_at Running words = words
+reach_at Beside words = 0
+reach_at Committing words = 0
+reach_at (Closing errand) words = 0
+
 -- what is written down of a caller's range is true
 abbrev pub IsRangeOf : Range → ℕ → Fenced → Type 0
 IsRangeOf r words f = (f.held ≡ true) × (r.from + r.count ≤ words) × ((a : ℕ) → fenced f.number a ≡ is_within r.from r.count a)

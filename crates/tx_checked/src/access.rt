@@ -21,12 +21,14 @@ impl Member {
             Read::Value(word) => Ok(Read::Value(word)),
             Read::Conflict(cause) => {
                 self.stand = Stand::Idle;
+                self.reach = 0;
                 self.refusal = Some(Refusal::Conflict(cause));
                 self.counts.refuse(Refusal::Conflict(cause));
                 Ok(Read::Conflict(cause))
             }
             Read::Full { limit } => {
                 self.stand = Stand::Idle;
+                self.reach = 0;
                 self.refusal = Some(Refusal::LogFull { limit });
                 self.counts.refuse(Refusal::LogFull { limit });
                 Ok(Read::Full { limit })
@@ -44,18 +46,21 @@ impl Member {
             Write::Done => Ok(Write::Done),
             Write::Conflict(cause) => {
                 self.stand = Stand::Idle;
+                self.reach = 0;
                 self.refusal = Some(Refusal::Conflict(cause));
                 self.counts.refuse(Refusal::Conflict(cause));
                 Ok(Write::Conflict(cause))
             }
             Write::Full { limit } => {
                 self.stand = Stand::Idle;
+                self.reach = 0;
                 self.refusal = Some(Refusal::LogFull { limit });
                 self.counts.refuse(Refusal::LogFull { limit });
                 Ok(Write::Full { limit })
             }
             Write::ClockFull { clock } => {
                 self.stand = Stand::Idle;
+                self.reach = 0;
                 self.refusal = Some(Refusal::ClockFull { clock });
                 Ok(Write::ClockFull { clock })
             }

@@ -45,6 +45,7 @@ impl Member {
         match calls::try_begin(&mut self.desc, &self.stm) {
             Begin::Begun(alg) => {
                 self.stand = stand_of(&self.desc);
+                self.reach = self.stand.reach(self.stm.config.words);
                 self.counts.begun = self.counts.begun.wrapping_add(1);
                 Ok(Begin::Begun(alg))
             }
@@ -73,28 +74,33 @@ impl Member {
         match calls::commit(&mut self.desc, &self.stm) {
             Commit::Committed { time } => {
                 self.stand = Stand::Idle;
+                self.reach = 0;
                 self.counts.committed = self.counts.committed.wrapping_add(1);
                 Ok(Commit::Committed { time })
             }
             Commit::ReadOnly { time } => {
                 self.stand = Stand::Idle;
+                self.reach = 0;
                 self.counts.read_only = self.counts.read_only.wrapping_add(1);
                 Ok(Commit::ReadOnly { time })
             }
             Commit::Conflict(cause) => {
                 self.stand = Stand::Idle;
+                self.reach = 0;
                 self.refusal = Some(Refusal::Conflict(cause));
                 self.counts.refuse(Refusal::Conflict(cause));
                 Ok(Commit::Conflict(cause))
             }
             Commit::Again { word, had, now } => {
                 self.stand = Stand::Committing;
+                self.reach = 0;
                 self.refusal = Some(Refusal::Again { word, had, now });
                 self.counts.refuse(Refusal::Again { word, had, now });
                 Ok(Commit::Again { word, had, now })
             }
             Commit::ClockFull { clock } => {
                 self.stand = Stand::Idle;
+                self.reach = 0;
                 self.refusal = Some(Refusal::ClockFull { clock });
                 Ok(Commit::ClockFull { clock })
             }
@@ -109,6 +115,7 @@ impl Member {
         match calls::cancel(&mut self.desc, &self.stm) {
             Cancel::Cancelled { time } => {
                 self.stand = Stand::Idle;
+                self.reach = 0;
                 Ok(Cancel::Cancelled { time })
             }
             Cancel::Irrevocable => {
@@ -140,12 +147,14 @@ impl Member {
             }
             Irrev::Conflict(cause) => {
                 self.stand = Stand::Idle;
+                self.reach = 0;
                 self.refusal = Some(Refusal::Conflict(cause));
                 self.counts.refuse(Refusal::Conflict(cause));
                 Ok(Irrev::Conflict(cause))
             }
             Irrev::ClockFull { clock } => {
                 self.stand = Stand::Idle;
+                self.reach = 0;
                 self.refusal = Some(Refusal::ClockFull { clock });
                 Ok(Irrev::ClockFull { clock })
             }
@@ -161,10 +170,12 @@ impl Member {
         match install_alone(&mut self.desc, &self.stm, closing, alg) {
             Ok(()) => {
                 self.stand = Stand::Idle;
+                self.reach = 0;
                 Ok(Ok(()))
             }
             Err(refusal) => {
                 self.stand = Errand::Switch(alg).stand_after(refusal);
+                self.reach = 0;
                 self.refusal = Some(refusal);
                 self.counts.refuse(refusal);
                 Ok(Err(refusal))
@@ -179,6 +190,7 @@ impl Member {
         self.is_closing()?;
         reopen(&mut self.desc, &self.stm);
         self.stand = Stand::Idle;
+        self.reach = 0;
         Ok(())
     }
 }

@@ -59,11 +59,13 @@ impl Member {
         match take_out(&mut self.desc, &self.stm, closing, 0, count) {
             Ok(()) => {
                 self.stand = Stand::Idle;
+                self.reach = 0;
                 copy_out(&mut self.desc, &self.stm, words);
                 Ok(Ok(()))
             }
             Err(refusal) => {
                 self.stand = Errand::End.stand_after(refusal);
+                self.reach = 0;
                 self.refusal = Some(refusal);
                 self.counts.refuse(refusal);
                 Ok(Err(refusal))

@@ -1,8 +1,9 @@
 //! A caller with its memory.
+ghost use Rattle.std.specs.Prelude.{◌≡◌};
 ghost use Rattle.std.specs.Arc.{arc_value};
 ghost use Rattle.stm_rule.specs.Callers.{IsOf};
 ghost use Rattle.stm_tx.specs.Descs.{known};
-ghost use Rattle.tx_checked.specs.Stands.{StandsAs, HasRange};
+ghost use Rattle.tx_checked.specs.Stands.{StandsAs, HasRange, reach_at};
 
 use crate::counts::Counts;
 use crate::mail::Mail;
@@ -29,6 +30,8 @@ pub struct Member {
     pub mail: Arc<Mail, Global>,
     pub desc: Desc<AnyMem>,
     pub stand: Stand,
+    /// The number of words while it stands `Running`, else 0: a word below is read and written without another look.
+    pub reach: usize,
     pub range: Option<Range>,
     /// What came in the way last.
     pub refusal: Option<Refusal>,
@@ -36,5 +39,6 @@ pub struct Member {
     pub ghost own: { IsOf desc (arc_value stm) },
     pub ghost mailed: { IsOf (arc_value mail).table.shared.key (arc_value stm) },
     pub ghost stands: { StandsAs stand (known desc) },
+    pub ghost reaches: { reach ≡ reach_at stand (arc_value stm).config.words },
     pub ghost ranged: { HasRange range (arc_value stm).config.words (known desc).fenced },
 }

@@ -106,6 +106,7 @@ fn enlist(
             mail,
             desc,
             stand: Stand::Idle,
+            reach: 0,
             range: None,
             refusal: None,
             counts: Counts::none(),

@@ -72,11 +72,13 @@ impl Member {
         match take_out(&mut self.desc, &self.stm, closing, from, count) {
             Ok(()) => {
                 self.stand = Stand::Idle;
+                self.reach = 0;
                 self.range = Some(Range { from, count });
                 Ok(Ok(()))
             }
             Err(refusal) => {
                 self.stand = errand.stand_after(refusal);
+                self.reach = 0;
                 self.refusal = Some(refusal);
                 self.counts.refuse(refusal);
                 Ok(Err(refusal))
@@ -172,21 +174,25 @@ impl Member {
         match put_back(&mut self.desc, &self.stm, closing) {
             Ok(Give::Committed { time }) => {
                 self.stand = Stand::Idle;
+                self.reach = 0;
                 self.range = None;
                 Ok(Ok(Give::Committed { time }))
             }
             Ok(Give::Unchanged) => {
                 self.stand = Stand::Idle;
+                self.reach = 0;
                 self.range = None;
                 Ok(Ok(Give::Unchanged))
             }
             Ok(Give::ClockFull { clock }) => {
                 self.stand = Stand::Idle;
+                self.reach = 0;
                 self.refusal = Some(Refusal::ClockFull { clock });
                 Ok(Ok(Give::ClockFull { clock }))
             }
             Err(refusal) => {
                 self.stand = Errand::Give.stand_after(refusal);
+                self.reach = 0;
                 self.refusal = Some(refusal);
                 self.counts.refuse(refusal);
                 Ok(Err(refusal))

@@ -1,4 +1,7 @@
 //! Where a caller stands.
+ghost use Rattle.std.specs.Prelude.{◌≡◌};
+ghost use Rattle.tx_checked.specs.Stands.{reach_at};
+
 use crate::errand::Errand;
 
 /// Where a caller stands between two calls.
@@ -15,4 +18,17 @@ pub enum Stand {
     /// In no attempt, with the gate closed for this call, which answered `Busy`: no attempt of others begins until the
     /// call is done or given up.
     Closing(Errand),
+}
+
+impl Stand {
+    /// Of so many words how many such a caller may read and write without another look.
+    #[inline]
+    pub(crate) fn reach(self, words: usize) -> usize
+        ensures { result ≡ reach_at self words }
+    {
+        match self {
+            Stand::Running => words,
+            Stand::Idle | Stand::Beside | Stand::Committing | Stand::Closing(_) => 0,
+        }
+    }
 }

@@ -1,11 +1,12 @@
 //! Whether a call fits where the caller stands.
-ghost use Rattle.std.specs.Prelude.{◌≡◌, ◌<◌, None, Some, true, false, OnOk, IfOk, IfErr};
+ghost use Rattle.std.specs.Prelude.{◌≡◌, ◌≢◌, ◌<◌, None, Some, true, false, OnOk, IfOk, IfErr};
 ghost use Rattle.std.specs.Arc.{arc_value};
 ghost use Rattle.rule_base.specs.Encodings.{fenced};
 ghost use Rattle.tx_answers.specs.Answers.{HoldsClosed};
 ghost use Rattle.tx_answers.specs.Known.{IsIdle, IsRunning};
 ghost use Rattle.tx_checked.specs.Errands.{is_closing};
 ghost use Rattle.tx_checked.specs.Members.{known_to};
+ghost use Rattle.tx_checked.specs.declared.stand.Stand.TheVariants.{Idle};
 ghost use Rattle.tx_checked.specs.Misuses.{outside, doing, reopening, inside, running, access};
 
 use crate::errand::Errand;
@@ -23,8 +24,22 @@ impl Member {
     {
         match self.stand {
             Stand::Idle => Ok(()),
-            Stand::Running | Stand::Beside | Stand::Committing => Err(Misuse::InAttempt),
-            Stand::Closing(_) => Err(Misuse::Closing),
+            Stand::Running | Stand::Beside | Stand::Committing | Stand::Closing(_) => {
+                Err(self.not_outside())
+            }
+        }
+    }
+
+    /// What is wrong where it isn't idle. Apart, so that the calls that fit look once.
+    #[cold]
+    #[inline(never)]
+    fn not_outside(&self) -> Misuse
+        requires busy { self.now.stand ≢ Idle }
+        ensures { outside self.now ≡ Some result }
+    {
+        match self.stand {
+            Stand::Idle | Stand::Running | Stand::Beside | Stand::Committing => Misuse::InAttempt,
+            Stand::Closing(_) => Misuse::Closing,
         }
     }
 
@@ -106,17 +121,14 @@ impl Member {
         ensures fits { OnOk result (access a self.now ≡ None) }
         ensures wrong { IfErr result (λ e. access a self.now ≡ Some e) }
     {
+        if a < self.reach {
+            return Ok(());
+        }
         match self.stand {
             Stand::Idle => Err(Misuse::NoAttempt),
             Stand::Committing => Err(Misuse::Committing),
             Stand::Closing(_) => Err(Misuse::Closing),
-            Stand::Running => {
-                if a < self.stm.config.words {
-                    Ok(())
-                } else {
-                    Err(Misuse::Address)
-                }
-            }
+            Stand::Running => Err(Misuse::Address),
             Stand::Beside => {
                 if a >= self.stm.config.words {
                     Err(Misuse::Address)

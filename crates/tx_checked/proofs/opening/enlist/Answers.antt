@@ -25,6 +25,7 @@ invariant_of-push_reserved c =
       own = subst (λ (s : Stm AnyMem). IsOf desc s) (sym c.in-Ok.ensures) ready.own;
       mailed = subst (λ (s : Stm AnyMem). IsOf (arc_value c.in-Ok-try_clone.mail).table.shared.key s) (sym c.in-Ok.ensures) (subst (λ (b : Mail). IsOf b.table.shared.key stm) (sym c.in-Ok-try_clone.ensures) c.requires.mail);
       stands = idle-stands (known desc) ready.idle;
+      reaches = refl;
       ranged = no-range (arc_value c.in-Ok.shared).config.words (known desc).fenced;
     }
 
