@@ -8,7 +8,7 @@ pub mod reading;
 pub mod replay;
 mod rows;
 mod running;
-mod scripts;
+pub mod scripts;
 mod table;
 pub mod verdict;
 pub mod wanted;

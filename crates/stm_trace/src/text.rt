@@ -94,7 +94,8 @@ fn put_stopped(text: &mut String, op: Op, stop: Stop) -> Result<(), AllocError>
     put_stop(text, stop)
 }
 
-fn put_stop(text: &mut String, stop: Stop) -> Result<(), AllocError>
+/// Why an operation ended the attempt, after its name: a space and its words. Memory may be refused.
+pub fn put_stop(text: &mut String, stop: Stop) -> Result<(), AllocError>
     ensures { OnOk result (string_bytes text.new ≡ string_bytes text.old ++ stop_bytes stop) }
 {
     match stop {
@@ -186,22 +187,22 @@ fn put_alg(text: &mut String, words: &str, alg: Alg) -> Result<(), AllocError>
     text.push_str(alg.name())
 }
 
-/// Words, and a number after them; two; three.
-fn put_one(text: &mut String, words: &str, a: u64) -> Result<(), AllocError>
+/// Words, and a number after them; two; three. Memory may be refused.
+pub fn put_one(text: &mut String, words: &str, a: u64) -> Result<(), AllocError>
     ensures { OnOk result (string_bytes text.new ≡ string_bytes text.old ++ (words.now ++ spaced (a ∷ []))) }
 {
     text.push_str(words)?;
     put_number(text, a)
 }
 
-fn put_two(text: &mut String, words: &str, a: u64, b: u64) -> Result<(), AllocError>
+pub fn put_two(text: &mut String, words: &str, a: u64, b: u64) -> Result<(), AllocError>
     ensures { OnOk result (string_bytes text.new ≡ string_bytes text.old ++ (words.now ++ spaced (a ∷ b ∷ []))) }
 {
     put_one(text, words, a)?;
     put_number(text, b)
 }
 
-fn put_three(text: &mut String, words: &str, a: u64, b: u64, c: u64) -> Result<(), AllocError>
+pub fn put_three(text: &mut String, words: &str, a: u64, b: u64, c: u64) -> Result<(), AllocError>
     ensures { OnOk result (string_bytes text.new ≡ string_bytes text.old ++ (words.now ++ spaced (a ∷ b ∷ c ∷ []))) }
 {
     put_two(text, words, a, b)?;
