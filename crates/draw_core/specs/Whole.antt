@@ -15,7 +15,7 @@ use Rattle.draw_core.specs.Walks.{first_stands, walked}
 
 -- a workload begins so, and no line of a trace does
 abbrev pub has_workload : List ℕ → Bool
-has_workload text = bytes_eq (codes "stm") (take 3 text)
+has_workload text = bytes_eq (take 3 text) (codes "stm")
 
 abbrev pub trace_alone : Result (List Line) ℕ → Result (List Step) ℕ
 trace_alone (Ok lines) = Ok (bare_of lines)
