@@ -34,7 +34,7 @@ const TABLE: [Told<'static>; 8] = [
         &[],
         4096,
         Some(
-            "line 12, `ad 3 1`: it has a word that isn't allowed here, too many words or too few; here stands an operation of the transaction or its end: `read A`, `write A V`, `add A V`, `move A B V`, `irrev`, `emit A`, `cancel`, `end`",
+            "line 12, `ad 3 1`: its first word isn't allowed here; here stands an operation of the transaction or its end: `read A`, `write A V`, `add A V`, `move A B V`, `irrev`, `emit A`, `cancel`, `end`",
         ),
     ),
     (
@@ -94,7 +94,7 @@ const TABLE: [Told<'static>; 8] = [
         &[],
         4096,
         Some(
-            "in the report, after the workload's 14 lines: line 2, `W 1 0 0 : 2`: wanted  W 1 0 0 : 1  by its script, on the memory that the rows above leave",
+            "in the report, after the workload's 14 lines: line 2, which is line 16 of the whole text, `W 1 0 0 : 2`: wanted  W 1 0 0 : 1  by its script, on the memory that the rows above leave",
         ),
     ),
 ];

@@ -24,7 +24,7 @@ const FAULTS_ONE: [(usize, &str, &str); 23] = [
     (
         1,
         "stm 3",
-        "line 1, `stm 3`: it has a word that isn't allowed here, too many words or too few; here stands `stm 1` or `stm 2`",
+        "line 1, `stm 3`: it has a word that isn't allowed; here stands `stm 1` or `stm 2`",
     ),
     (
         2,
@@ -34,7 +34,7 @@ const FAULTS_ONE: [(usize, &str, &str); 23] = [
     (
         3,
         "caller 1",
-        "line 3, `caller 1`: it has a word that isn't allowed here, too many words or too few; here stands `callers N`, N a number from 1 to 32",
+        "line 3, `caller 1`: its first word isn't allowed here; here stands `callers N`, N a number from 1 to 32",
     ),
     (
         5,
@@ -64,17 +64,17 @@ const FAULTS_ONE: [(usize, &str, &str); 23] = [
     (
         11,
         "add 3 1",
-        "line 11, `add 3 1`: it has a word that isn't allowed here, too many words or too few; here stands `tx C`, `switch C ALG`, `schedule`, `done`",
+        "line 11, `add 3 1`: its first word isn't allowed here; here stands `tx C`, `switch C ALG`, `schedule`, `done`",
     ),
     (
         12,
         "ad 3 1",
-        "line 12, `ad 3 1`: it has a word that isn't allowed here, too many words or too few; here stands an operation of the transaction or its end: `read A`, `write A V`, `add A V`, `move A B V`, `irrev`, `emit A`, `cancel`, `end`",
+        "line 12, `ad 3 1`: its first word isn't allowed here; here stands an operation of the transaction or its end: `read A`, `write A V`, `add A V`, `move A B V`, `irrev`, `emit A`, `cancel`, `end`",
     ),
     (
         12,
         "add 3",
-        "line 12, `add 3`: it has too many words, too few, or one that isn't allowed; here stands `add A V`, A an address from 0 to 7, V a number below 2^64",
+        "line 12, `add 3`: it has too few words; here stands `add A V`, A an address from 0 to 7, V a number below 2^64",
     ),
     (
         12,
@@ -109,12 +109,12 @@ const FAULTS_ONE: [(usize, &str, &str); 23] = [
     (
         12,
         "0123456789012345678901234567890123456789012345678901234567890",
-        "line 12, `012345678901234567890123456789012345678901234567890123456789 ..`: it has a word that isn't allowed here, too many words or too few; here stands an operation of the transaction or its end: `read A`, `write A V`, `add A V`, `move A B V`, `irrev`, `emit A`, `cancel`, `end`",
+        "line 12, `012345678901234567890123456789012345678901234567890123456789 ..`: its first word isn't allowed here; here stands an operation of the transaction or its end: `read A`, `write A V`, `add A V`, `move A B V`, `irrev`, `emit A`, `cancel`, `end`",
     ),
     (
         13,
         "done",
-        "line 13, `done`: it has a word that isn't allowed here, too many words or too few; here stands an operation of the transaction or its end: `read A`, `write A V`, `add A V`, `move A B V`, `irrev`, `emit A`, `cancel`, `end`",
+        "line 13, `done`: its first word isn't allowed here; here stands an operation of the transaction or its end: `read A`, `write A V`, `add A V`, `move A B V`, `irrev`, `emit A`, `cancel`, `end`",
     ),
     (
         14,
@@ -148,12 +148,12 @@ const FAULTS_TWO: [(usize, &str, &str); 7] = [
     (
         11,
         "region stack 0 4",
-        "line 11, `region stack 0 4`: it has a word that isn't allowed here, too many words or too few; here stands `region KIND AT SIZE`, KIND one of counter, list, hash, tree, queue, summap, AT its first word, SIZE a number from 1 to 4096, of a counter to 64",
+        "line 11, `region stack 0 4`: it has a word that isn't allowed; here stands `region KIND AT SIZE`, KIND one of counter, list, hash, tree, queue, summap, AT its first word, SIZE a number from 1 to 4096, of a counter to 64",
     ),
     (
         12,
         "region queue 3 3",
-        "line 12, `region queue 3 3`: a region begins where the one above it ends or later, and ends within the 100 words; a counter has SIZE words, a list 1 + 2 SIZE, a hash 16 + 2 SIZE, a tree 1 + 3 SIZE, a queue 2 + SIZE, a summap 1 + 5 SIZE",
+        "line 12, `region queue 3 3`: a region begins where the one above it ends or later, and ends within the 100 words; a counter has SIZE words, a list 1 + 2 SIZE, a hash 16 + 2 SIZE, a tree 1 + 3 SIZE, a queue 2 + SIZE, a summap 1 + 5 SIZE; this one would begin at 3 and end before 8, and the one above it ends before 4",
     ),
     (
         13,
@@ -163,7 +163,7 @@ const FAULTS_TWO: [(usize, &str, &str); 7] = [
     (
         14,
         "reserve 0 1",
-        "line 14, `reserve 0 1`: it has too many words, too few, or one that isn't allowed; here stands `reserve C X Y`, C a caller from 0 to 1, X a read log's length from 1 to 4096, Y a write log's length from 1 to 4096",
+        "line 14, `reserve 0 1`: it has too few words; here stands `reserve C X Y`, C a caller from 0 to 1, X a read log's length from 1 to 4096, Y a write log's length from 1 to 4096",
     ),
     (
         15,
@@ -220,51 +220,51 @@ const THREE: &str =
 const WRONG_REPORTS: [(&str, &str); 12] = [
     (
         "report 1 / W 1 0 0 : 2 / end",
-        "in the report, after the workload's 23 lines: line 2, `W 1 0 0 : 2`: wanted  W 1 0 0 : 1  by its script, on the memory that the rows above leave",
+        "in the report, after the workload's 23 lines: line 2, which is line 25 of the whole text, `W 1 0 0 : 2`: wanted  W 1 0 0 : 1  by its script, on the memory that the rows above leave",
     ),
     (
         "report 1 / R 1 0 0 : 1 / end",
-        "in the report, after the workload's 23 lines: line 2, `R 1 0 0 : 1`: wanted  W 1 0 0 : 1  by its script, on the memory that the rows above leave",
+        "in the report, after the workload's 23 lines: line 2, which is line 25 of the whole text, `R 1 0 0 : 1`: wanted  W 1 0 0 : 1  by its script, on the memory that the rows above leave",
     ),
     (
         "report 1 / C 1 0 0 : 1 / end",
-        "in the report, after the workload's 23 lines: line 2, `C 1 0 0 : 1`: wanted  W 1 0 0 : 1  by its script, on the memory that the rows above leave",
+        "in the report, after the workload's 23 lines: line 2, which is line 25 of the whole text, `C 1 0 0 : 1`: wanted  W 1 0 0 : 1  by its script, on the memory that the rows above leave",
     ),
     (
         "report 1 / W 1 0 0 : 1 / C 1 0 1 : 1 / end",
-        "in the report, after the workload's 23 lines: line 3, `C 1 0 1 : 1`: wanted  C 1 0 1 : 1 1  by its script, on the memory that the rows above leave",
+        "in the report, after the workload's 23 lines: line 3, which is line 26 of the whole text, `C 1 0 1 : 1`: wanted  C 1 0 1 : 1 1  by its script, on the memory that the rows above leave",
     ),
     (
         "report 1 / W 1 0 0 : 1 / C 1 0 1 : 1 1 / W 2 1 0 : 2 1 2 / end",
-        "in the report, after the workload's 23 lines: line 4, `W 2 1 0 : 2 1 2`: wanted  W 2 1 0 : 2 1 2 ! 2  by its script, on the memory that the rows above leave",
+        "in the report, after the workload's 23 lines: line 4, which is line 27 of the whole text, `W 2 1 0 : 2 1 2`: wanted  W 2 1 0 : 2 1 2 ! 2  by its script, on the memory that the rows above leave",
     ),
     (
         "report 1 / W 1 0 0 : 1 / W 0 1 0 : 2 1 2 ! 2 / end",
-        "in the report, after the workload's 23 lines: line 3, `W 0 1 0 : 2 1 2 ! 2`: wanted a row that comes after the one above it: by place, W before R and C, then by caller, then by number",
+        "in the report, after the workload's 23 lines: line 3, which is line 26 of the whole text, `W 0 1 0 : 2 1 2 ! 2`: wanted a row that comes after the one above it: by place, W before R and C, then by caller, then by number",
     ),
     (
         "report 1 / W 1 0 0 : 1 / W 1 1 0 : 2 1 2 ! 2 / end",
-        "in the report, after the workload's 23 lines: line 3, `W 1 1 0 : 2 1 2 ! 2`: wanted another place than that of the W row above it",
+        "in the report, after the workload's 23 lines: line 3, which is line 26 of the whole text, `W 1 1 0 : 2 1 2 ! 2`: wanted another place than that of the W row above it",
     ),
     (
         "report 1 / W 1 0 0 : 1 / C 1 0 2 : 1 1 / end",
-        "in the report, after the workload's 23 lines: line 3, `C 1 0 2 : 1 1`: wanted its caller's transaction 1, which is next, if the workload has it",
+        "in the report, after the workload's 23 lines: line 3, which is line 26 of the whole text, `C 1 0 2 : 1 1`: wanted its caller's transaction 1, which is next, if the workload has it",
     ),
     (
         "report 1 / W 1 0 0 : 1 / W 2 1 0 : 2 1 2 ! 2 / mem 3 2 / end",
-        "in the report, after the workload's 23 lines: line 4, `mem 3 2`: transaction 1 of caller 0 has no row; transactions count from 0",
+        "in the report, after the workload's 23 lines: line 4, which is line 27 of the whole text, `mem 3 2`: transaction 1 of caller 0 has no row; transactions count from 0; here stands `R PLACE 0 1 : REPLIES`, with W for R where it wrote, and C where it was cancelled",
     ),
     (
         "report 1 / W 1 0 0 : 1 / C 1 0 1 : 1 1 / W 2 1 0 : 2 1 2 ! 2 / mem 3 1 / end",
-        "in the report, after the workload's 23 lines: line 5, `mem 3 1`: wanted  mem 3 2  by the memory that the rows leave",
+        "in the report, after the workload's 23 lines: line 5, which is line 28 of the whole text, `mem 3 1`: wanted  mem 3 2  by the memory that the rows leave",
     ),
     (
         "report 1 / W 1 0 0 : 1 / C 1 0 1 : 1 1 / W 2 1 0 : 2 1 2 ! 2 / end",
-        "in the report, after the workload's 23 lines: line 5, `end`: wanted  mem 3 2  by the memory that the rows leave",
+        "in the report, after the workload's 23 lines: line 5, which is line 28 of the whole text, `end`: wanted  mem 3 2  by the memory that the rows leave",
     ),
     (
         "report 1 / W 1 0 0 : 1 / C 1 0 1 : 1 1 / W 2 1 0 : 2 1 2 ! 2 / mem 3 2 / mem 4 1 / end",
-        "in the report, after the workload's 23 lines: line 6, `mem 4 1`: wanted  end  as no further word isn't 0",
+        "in the report, after the workload's 23 lines: line 6, which is line 29 of the whole text, `mem 4 1`: wanted  end  as no further word isn't 0",
     ),
 ];
 

@@ -1,6 +1,6 @@
 -- The words of a box have no character that a tag is made of.
 use Rattle.std.proofs.Common.{ℕ, ◌≡◌, List, [], ◌∷◌, ◌++◌, true, refl}
-use Rattle.std.specs.Prelude.{codes}
+use Rattle.std.specs.Prelude.{Option, Some, None, codes}
 use Rattle.std.specs.Fmt.{decimal}
 use Rattle.stm_model.specs.Algorithms.{alg_name}
 use Rattle.stm_model.specs.declared.alg.Alg.{Alg}
@@ -23,7 +23,10 @@ use Rattle.stm_trace.specs.declared.line.Line.TheVariants.{Of, Finish}
 use Rattle.stm_trace.specs.declared.said.Said.{Said}
 use Rattle.stm_trace.specs.declared.said.Said.TheVariants.{TryBegin, Reply, Stopped, TryCancel, TryIrrevocable, TryCommit, TryClose, Looked, Installed, Reserved, Idle, Dropped, Reopened}
 use Rattle.stm_trace.specs.Texts.{spaced, cause_bytes, stop_bytes, full_clock_bytes, said_bytes}
-use Rattle.draw_core.specs.Shapes.{label_of}
+use Rattle.draw_core.specs.declared.step.Deed.{Deed}
+use Rattle.draw_core.specs.declared.step.Step.{Step}
+use Rattle.draw_core.specs.declared.style.TheConstants.{ARROW}
+use Rattle.draw_core.specs.Labels.{region_numbers, operands, deed_bytes, done_bytes, told_bytes, words_of_line, label_of}
 use Rattle.draw_core.proofs.Marking.{all_calm, Calm, calm, calm-append, calm-decimal}
 
 alg-test : (alg : Alg) → all_calm (alg_name alg) ≡ true
@@ -94,6 +97,24 @@ said-calm Idle = calm (codes " idle") refl
 said-calm Dropped = calm (codes " drop") refl
 said-calm Reopened = calm (codes " reopen") refl
 
-pub label-calm : (line : Line) → Calm (label_of line)
-label-calm (Of caller said) = said-calm said
-label-calm Finish = calm (codes " finish") refl
+deed-calm : (deed : Deed) (rest : List ℕ) → Calm rest → Calm (deed_bytes deed ++ rest)
+deed-calm deed rest c =
+    let numbers : List ℕ = spaced (region_numbers deed.version deed.op) ++ spaced (operands deed.op) in
+    calm-append (deed_bytes deed) rest
+    (op-calm deed.op numbers (calm-append (spaced (region_numbers deed.version deed.op)) (spaced (operands deed.op)) (spaced-calm (region_numbers deed.version deed.op)) (spaced-calm (operands deed.op)))) c
+
+done-calm : (deed : Deed) (said : Said) → Calm (done_bytes deed said)
+done-calm deed (Reply op reply) = deed-calm deed (ARROW.now ++ spaced (reply ∷ [])) (after ARROW.now (spaced (reply ∷ [])) refl (spaced-calm (reply ∷ [])))
+done-calm deed (Stopped op stop) = deed-calm deed (stop_bytes stop) (stop-calm stop)
+done-calm deed said = said-calm said
+
+told-calm : (deed : Option Deed) (said : Said) → Calm (told_bytes deed said)
+told-calm (Some deed) said = done-calm deed said
+told-calm None said = said-calm said
+
+words-calm : (deed : Option Deed) (line : Line) → Calm (words_of_line deed line)
+words-calm deed (Of caller said) = told-calm deed said
+words-calm deed Finish = calm (codes " finish") refl
+
+pub label-calm : (step : Step) → Calm (label_of step)
+label-calm step = words-calm step.deed step.line

@@ -3,6 +3,7 @@ pub mod Tracing
 pub mod Fitting
 pub mod Boxes
 pub mod ReadLaws
+pub mod Walking
 pub mod Drawing
 pub mod Marking
 pub mod Labelling

@@ -3,7 +3,7 @@ use Rattle.std.proofs.Common.{ℕ, ◌≡◌, ◌+◌, ◌*◌, List, [], ◌∷
 use Rattle.std.specs.Prelude.{if◌then◌else◌, ltb, length, Option, Some, None, codes}
 use Rattle.std.specs.Fmt.{decimal}
 use Rattle.stm_model.specs.Algorithms.{alg_name}
-use Rattle.stm_trace.specs.declared.line.Line.{Line}
+use Rattle.draw_core.specs.declared.step.Step.{Step}
 use Rattle.draw_core.specs.declared.kind.Kind.{Kind}
 use Rattle.draw_core.specs.declared.kind.Kind.TheVariants.{Begins}
 use Rattle.draw_core.specs.declared.picture.Sheet.{Sheet}
@@ -148,7 +148,7 @@ box-keeps s row b c = record {
       ∙ (text-keeps (codes "row") (codes "words") 34 (top row + 16) [] (decimal (row + 1)) (calm (codes "row") refl) plain none-more (calm-decimal (row + 1))).keeps tags));
 }
 
-boxes-keep : (s : Sheet) (row : ℕ) (ls : List Line) → Keeps (boxes_bytes s row (boxes_of ls))
+boxes-keep : (s : Sheet) (row : ℕ) (ls : List Step) → Keeps (boxes_bytes s row (boxes_of ls))
 boxes-keep s row [] = keeps-none
 boxes-keep s row (l ∷ ls) = keeps-append (box_bytes s row (box_of l)) (boxes_bytes s (row + 1) (boxes_of ls)) (box-keeps s row (box_of l) (label-calm l)) (boxes-keep s (row + 1) ls)
 
@@ -199,7 +199,7 @@ foot-reads s =
 on-page : (xs ys : List ℕ) → reads_on (Some (Words [])) xs ≡ Some (Words page) → Keeps ys → reads_on (Some (Words [])) (xs ++ ys) ≡ Some (Words page)
 on-page xs ys is c = onto (Some (Words [])) xs ys (Some (Words page)) is ∙ c.keeps page
 
-module _ (s : Sheet) (ls : List Line) where
+module _ (s : Sheet) (ls : List Step) where
   abbrev over : Layer → List ℕ
   over y = layer_bytes s y 0 (boxes_of ls)
 
@@ -221,5 +221,5 @@ module _ (s : Sheet) (ls : List Line) where
       let r7 = on-page t6 (boxes_bytes s 0 (boxes_of ls)) r6 (boxes-keep s 0 ls) in
       onto (Some (Words [])) t7 (foot_bytes s) (Some (Words page)) r7 ∙ foot-reads s
 
-pub picture-is-markup : (ls : List Line) → IsMarkup (svg_of (boxes_of ls))
+pub picture-is-markup : (ls : List Step) → IsMarkup (svg_of (boxes_of ls))
 picture-is-markup ls = drawing-is-markup (sheet_of (boxes_of ls)) ls

@@ -24,6 +24,7 @@ use Rattle.draw_core.specs.Grammar.{said_of, line_of, is_full_clock, is_title, r
 use Rattle.draw_core.specs.declared.kind.Kind.{Kind}
 use Rattle.draw_core.specs.Kinds.{said_kind}
 use Rattle.draw_core.specs.Shapes.{Box, box_of, boxes_of}
+use Rattle.draw_core.specs.Steps.{bare, bare_of}
 use Rattle.draw_core.specs.Statements.{LinesFit, LinesHaveWords, IsTail, TraceIsDrawn}
 use Rattle.draw_core.proofs.Saying.{spaced_words, Reads, said-reads}
 
@@ -58,7 +59,7 @@ full-by w (v ∷ ws) other = rw other refl
 -- what a line is read as, which has the same box
 pub record LineReads (line : Line) : Type 0 where
   pub got : Line
-  pub box : box_of got ≡ box_of line
+  pub box : box_of (bare got) ≡ box_of (bare line)
   pub step : (told : List Line) (k : ℕ) (rest : List ℕ) → read told k (lines_of (line_bytes line ++ rest)) ≡ read (told ++ got ∷ []) (k + 1) (lines_of rest)
 
 regroup : (d s rest : List ℕ) → (d ++ (s ++ 10 ∷ [])) ++ rest ≡ (d ++ s) ++ 10 ∷ rest
@@ -119,7 +120,7 @@ finish-reads = record {
 pub record TraceReads (lines told : List Line) (k : ℕ) (tail : List ℕ) : Type 0 where
   pub got : List Line
   pub at : ℕ
-  pub boxes : boxes_of got ≡ boxes_of lines
+  pub boxes : boxes_of (bare_of got) ≡ boxes_of (bare_of lines)
   pub is : read told k (lines_of (trace_bytes lines ++ tail)) ≡ read (told ++ got) at (lines_of tail)
 
 cons-same : (b c : Box) (bs cs : List Box) → b ≡ c → bs ≡ cs → b ∷ bs ≡ c ∷ cs
@@ -129,7 +130,7 @@ one-more : (l : Line) (ls told : List Line) (k : ℕ) (tail : List ℕ) (one : L
 one-more l ls told k tail one rest = record {
   got = one.got ∷ rest.got;
   at = rest.at;
-  boxes = cons-same (box_of one.got) (box_of l) (boxes_of rest.got) (boxes_of ls) one.box rest.boxes;
+  boxes = cons-same (box_of (bare one.got)) (box_of (bare l)) (boxes_of (bare_of rest.got)) (boxes_of (bare_of ls)) one.box rest.boxes;
   is = ap (λ t. read told k (lines_of t)) (append_assoc (line_bytes l) (trace_bytes ls) tail)
       ∙ (one.step told k (trace_bytes ls ++ tail) ∙ (rest.is ∙ ap (λ t. read t rest.at (lines_of tail)) (append_assoc told (one.got ∷ []) rest.got)));
 }

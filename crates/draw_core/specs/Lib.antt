@@ -1,5 +1,10 @@
 pub mod Grammar
 pub mod Kinds
+pub mod Steps
+pub mod Turns
+pub mod Walks
+pub mod Whole
+pub mod Labels
 pub mod Shapes
 pub mod Texts
 pub mod Markup

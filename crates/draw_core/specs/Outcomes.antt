@@ -2,13 +2,13 @@
 use Rattle.std.specs.Prelude.{ℕ, ◌≡◌, ◌≢◌, ◌≤◌, List, ◌++◌, length, Option, Ok, Err, codes}
 use Rattle.std.specs.Fmt.{decimal}
 use Rattle.stm_io.specs.Ends.{Rose, Took, TookSome, IsText, Gained, GainedSome}
-use Rattle.stm_trace.specs.declared.line.Line.{Line}
 use Rattle.draw_core.specs.declared.status.Status.{Status}
 use Rattle.draw_core.specs.declared.status.Status.TheVariants.{Ok as Done, Usage, Refused, ReadFault, WriteFault, Memory}
-use Rattle.draw_core.specs.Grammar.{trace_of}
+use Rattle.draw_core.specs.declared.step.Step.{Step}
 use Rattle.draw_core.specs.Markup.{IsMarkup}
 use Rattle.draw_core.specs.Shapes.{boxes_of}
 use Rattle.draw_core.specs.Texts.{svg_of}
+use Rattle.draw_core.specs.Whole.{steps_of}
 
 abbrev pub exit_code_of : Status → ℕ
 exit_code_of Done = 0
@@ -27,17 +27,17 @@ read_fault_line = codes "read fault\n"
 abbrev pub refused_line : ℕ → List ℕ
 refused_line line = codes "refused " ++ (decimal line ++ codes "\n")
 
--- the text has a trace, and what is said is the picture of the boxes of its lines, one for each: text that is markup
+-- the text has a trace, alone or below its workload, and what is said is the picture of the boxes of its lines, one for each: text that is markup
 pub record IsDrawn (text said : List ℕ) : Type 0 where
-  pub lines : List Line
-  pub trace : trace_of text ≡ Ok lines
-  pub is : said ≡ svg_of (boxes_of lines)
+  pub steps : List Step
+  pub trace : steps_of text ≡ Ok steps
+  pub is : said ≡ svg_of (boxes_of steps)
   pub markup : IsMarkup said
 
 -- what is said of a text that was read: its picture, or the first line at fault
 abbrev pub SaidOf : List ℕ → Status → List ℕ → Type 0
 SaidOf text Done said = IsDrawn text said
-SaidOf text (Refused line) said = (trace_of text ≡ Err line) × (said ≡ refused_line line)
+SaidOf text (Refused line) said = (steps_of text ≡ Err line) × (said ≡ refused_line line)
 SaidOf text Usage said = ⊥
 SaidOf text ReadFault said = ⊥
 SaidOf text WriteFault said = ⊥

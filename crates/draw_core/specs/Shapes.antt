@@ -1,10 +1,9 @@
 -- THE DRAWING: a box for each line of the trace, and the shapes that its lines tell together.
-use Rattle.std.specs.Prelude.{ℕ, ◌+◌, ◌-◌, ◌==◌, min, Bool, true, false, ◌&&◌, ltb, if◌then◌else◌, List, [], ◌∷◌, length, take, drop, Option, Some, None, codes}
+use Rattle.std.specs.Prelude.{ℕ, ◌+◌, ◌-◌, ◌==◌, min, Bool, true, false, ◌&&◌, ltb, if◌then◌else◌, List, [], ◌∷◌, length, take, drop, Option, Some, None}
 use Rattle.stm_model.specs.Algorithms.{closes_gate, irrevocable_under}
 use Rattle.stm_model.specs.declared.alg.Alg.{Alg}
 use Rattle.stm_trace.specs.declared.line.Line.{Line}
 use Rattle.stm_trace.specs.declared.line.Line.TheVariants.{Of, Finish}
-use Rattle.stm_trace.specs.Texts.{said_bytes}
 use Rattle.draw_core.specs.declared.kind.Kind.{Kind}
 use Rattle.draw_core.specs.declared.kind.Kind.TheVariants.{Begins, Holds, Promotes, Commits, Closes, Installs, Reopens, Finishes}
 use Rattle.draw_core.specs.declared.shape.Shape.{Shape}
@@ -13,7 +12,9 @@ use Rattle.draw_core.specs.declared.shape.Layer.{Layer}
 use Rattle.draw_core.specs.declared.shape.Layer.TheVariants.{Lanes, Closings, Installs as Installings, Attempts, Promotions, Clocks}
 use Rattle.draw_core.specs.declared.shape.Sought.{Sought}
 use Rattle.draw_core.specs.declared.shape.Sought.TheVariants.{Any, End, Promotion, Holding, Opening}
+use Rattle.draw_core.specs.declared.step.Step.{Step}
 use Rattle.draw_core.specs.Kinds.{kind_of, ends_attempt}
+use Rattle.draw_core.specs.Labels.{label_of}
 
 -- a box: the caller in whose lane it lies, what it is, and the words on it; its row is its place in the list
 pub record Box : Type 0 where
@@ -25,18 +26,13 @@ abbrev pub lane_of : Line → ℕ
 lane_of (Of caller said) = caller
 lane_of Finish = 0
 
--- the line's words, after its caller
-abbrev pub label_of : Line → List ℕ
-label_of (Of caller said) = said_bytes said
-label_of Finish = codes " finish"
-
-abbrev pub box_of : Line → Box
-box_of line = record { lane = lane_of line; kind = kind_of line; label = label_of line }
+abbrev pub box_of : Step → Box
+box_of step = record { lane = lane_of step.line; kind = kind_of step.line; label = label_of step }
 
 -- ONE BOX A LINE
-abbrev pub boxes_of : List Line → List Box
+abbrev pub boxes_of : List Step → List Box
 boxes_of [] = []
-boxes_of (line ∷ lines) = box_of line ∷ boxes_of lines
+boxes_of (step ∷ steps) = box_of step ∷ boxes_of steps
 
 abbrev pub is_finish : Kind → Bool
 is_finish Finishes = true

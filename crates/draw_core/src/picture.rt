@@ -6,14 +6,14 @@ ghost use Rattle.draw_core.specs.Markup.{IsMarkup};
 ghost use Rattle.draw_core.specs.Texts.{left, top, tall, edge, lanes_of, sheet_of, shape_bytes, part_bytes, layer_bytes, narrowed, squeezed, box_rect, box_bytes, boxes_bytes, page_width, page_height, page_bytes, style_bytes, legend_bytes, name_bytes, axis_bytes, head_bytes, foot_bytes, svg_of};
 
 use crate::kind::{Kind, line_kind};
+use crate::label::label;
 use crate::shape::{Layer, Shape, lane, shape_at};
+use crate::step::Step;
 use crate::style::{LEGEND, STYLE};
 use crate::writing::{put_open, put_rect};
 use std::alloc::{AllocError, Global};
 use stm_model::alg::Alg;
 use stm_model::memory::Memory;
-use stm_trace::line::Line;
-use stm_trace::text::put_said;
 
 /// The page: how many lanes and rows it has.
 #[derive(Clone, Copy, Drop, Debug, PartialEq, Eq)]
@@ -41,27 +41,9 @@ fn tall(more: usize) -> u128
     22 + more as u128 * 24
 }
 
-/// The words on the box of a line: those after the caller's number.
-fn put_label(text: &mut String, line: Line) -> Result<(), AllocError>
-    ensures { OnOk result (string_bytes text.new ≡ string_bytes text.old ++ (box_of line).label) }
-{
-    match line {
-        Line::Of { said, .. } => put_said(text, said),
-        Line::Finish => text.push_str(" finish"),
-    }
-}
-
-fn label(alloc: Global, line: Line) -> Result<String, AllocError>
-    ensures { IfOk result (λ t. string_bytes t ≡ (box_of line).label) }
-{
-    let mut words = String::new(alloc);
-    put_label(&mut words, line)?;
-    Ok(words)
-}
-
 impl Sheet {
     /// The page that these lines need.
-    fn of(lines: &[Line]) -> Sheet
+    fn of(lines: &[Step]) -> Sheet
         ensures is { result ≡ sheet_of (boxes_of lines.now) }
         ensures lanes { result.lanes ≤ 2 ^ 64 }
         ensures rows { result.rows ≤ 2 ^ 64 }
@@ -96,7 +78,7 @@ impl Sheet {
 }
 
 /// How many lanes the lines lie in.
-fn lanes(lines: &[Line]) -> u128
+fn lanes(lines: &[Step]) -> u128
     ensures all { result ≡ lanes_of (boxes_of lines.now) }
     ensures few { result ≤ 2 ^ 64 }
 {
@@ -188,22 +170,22 @@ fn put_at(
     sheet: Sheet,
     sort: Layer,
     row: usize,
-    line: Line,
-    rest: &[Line],
+    step: Step,
+    rest: &[Step],
 ) -> Result<(), AllocError>
     requires lanes { sheet.lanes ≤ 2 ^ 64 }
     requires rows { sheet.rows ≤ 2 ^ 64 }
     requires room { row + length rest.now + 1 < 2 ^ 64 }
-    ensures { OnOk result (string_bytes text.new ≡ string_bytes text.old ++ part_bytes sheet (shape_at sort row (box_of line) (boxes_of rest.now))) }
+    ensures { OnOk result (string_bytes text.new ≡ string_bytes text.old ++ part_bytes sheet (shape_at sort row (box_of step) (boxes_of rest.now))) }
 {
-    match shape_at(sort, row, line, rest) {
+    match shape_at(sort, row, step, rest) {
         None => Ok(()),
         Some(shape) => put_shape(text, sheet, shape),
     }
 }
 
 /// A layer, shape by shape.
-fn put_layer(text: &mut String, sheet: Sheet, sort: Layer, lines: &[Line]) -> Result<(), AllocError>
+fn put_layer(text: &mut String, sheet: Sheet, sort: Layer, lines: &[Step]) -> Result<(), AllocError>
     requires lanes { sheet.lanes ≤ 2 ^ 64 }
     requires rows { sheet.rows ≤ 2 ^ 64 }
     ensures { OnOk result (string_bytes text.new ≡ string_bytes text.old ++ layer_bytes sheet sort 0 (boxes_of lines.now)) }
@@ -227,15 +209,15 @@ fn squeezed(words: &str) -> &'static str
 
 /// The rectangle of a box: in its lane, or across all where it ends the schedule.
 #[tactic(auto, unfolding(crate::specs::Texts::box_rect))]
-fn put_box_rect(text: &mut String, sheet: Sheet, row: usize, line: Line) -> Result<(), AllocError>
+fn put_box_rect(text: &mut String, sheet: Sheet, row: usize, step: Step) -> Result<(), AllocError>
     requires { sheet.lanes ≤ 2 ^ 64 }
-    ensures { OnOk result (string_bytes text.new ≡ string_bytes text.old ++ box_rect sheet row (box_of line)) }
+    ensures { OnOk result (string_bytes text.new ≡ string_bytes text.old ++ box_rect sheet row (box_of step)) }
 {
-    let class = line_kind(line).class();
+    let class = line_kind(step.line).class();
     let y = top(row) + 3;
-    match line_kind(line) {
+    match line_kind(step.line) {
         Kind::Finishes => put_rect(text, "box", class, 88, y, sheet.lanes * 216 + 8, 18),
-        _ => put_rect(text, "box", class, left(lane(line)) + 14, y, 194, 18),
+        _ => put_rect(text, "box", class, left(lane(step)) + 14, y, 194, 18),
     }
 }
 
@@ -246,20 +228,20 @@ fn put_box(
     text: &mut String,
     sheet: Sheet,
     row: usize,
-    line: Line,
+    step: Step,
 ) -> Result<(), AllocError>
     requires { sheet.lanes ≤ 2 ^ 64 }
-    ensures { OnOk result (string_bytes text.new ≡ string_bytes text.old ++ box_bytes sheet row (box_of line)) }
+    ensures { OnOk result (string_bytes text.new ≡ string_bytes text.old ++ box_bytes sheet row (box_of step)) }
 {
-    let words = label(alloc, line)?;
-    let class = line_kind(line).class();
+    let words = label(alloc, step)?;
+    let class = line_kind(step.line).class();
     let y = top(row) + 16;
-    put_box_rect(text, sheet, row, line)?;
+    put_box_rect(text, sheet, row, step)?;
     put_open(
         text,
         "label",
         class,
-        left(lane(line)) + 19,
+        left(lane(step)) + 19,
         y,
         squeezed(words.as_str()),
     )?;
@@ -274,7 +256,7 @@ fn put_boxes(
     alloc: Global,
     text: &mut String,
     sheet: Sheet,
-    lines: &[Line],
+    lines: &[Step],
 ) -> Result<(), AllocError>
     requires { sheet.lanes ≤ 2 ^ 64 }
     ensures { OnOk result (string_bytes text.new ≡ string_bytes text.old ++ boxes_bytes sheet 0 (boxes_of lines.now)) }
@@ -356,8 +338,8 @@ fn put_foot(text: &mut String, sheet: Sheet) -> Result<(), AllocError>
 }
 
 /// The picture of a trace: one box for each of its lines, in the lane of its caller and in the order of the lines, with
-/// the line's words; and under them what the lines tell together. Its text is markup. Memory may be refused.
-pub fn picture(alloc: Global, lines: &[Line]) -> Result<Vec<u8>, Memory>
+/// what the line tells; and under them what the lines tell together. Its text is markup. Memory may be refused.
+pub fn picture(alloc: Global, lines: &[Step]) -> Result<Vec<u8>, Memory>
     ensures is { IfOk result (λ t. t.items ≡ svg_of (boxes_of lines.now)) }
     ensures markup { IfOk result (λ t. IsMarkup t.items) }
 {

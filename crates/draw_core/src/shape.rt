@@ -4,6 +4,7 @@ ghost use Rattle.stm_model.specs.Algorithms.{closes_gate};
 ghost use Rattle.draw_core.specs.Shapes.{boxes_of, box_of, meets, is_by, before, more, ended_by, attempt_at, part, closing_at, promotion_at, is_over, lane_at, shape_at};
 
 use crate::kind::{Kind, line_kind};
+use crate::step::Step;
 use stm_model::alg::Alg;
 use stm_trace::line::Line;
 
@@ -95,14 +96,14 @@ fn meets(sought: Sought, kind: Kind) -> bool
 }
 
 /// Whether a line is this caller's, and what is looked for.
-fn is_by(sought: Sought, caller: usize, line: Line) -> bool
-    ensures { result ≡ is_by sought caller (box_of line) }
+fn is_by(sought: Sought, caller: usize, step: Step) -> bool
+    ensures { result ≡ is_by sought caller (box_of step) }
 {
-    lane(line) == caller && meets(sought, line_kind(line))
+    lane(step) == caller && meets(sought, line_kind(step.line))
 }
 
 /// How many lines come before the first of this caller that is looked for; all where none is.
-fn before(sought: Sought, lane: usize, lines: &[Line]) -> usize
+fn before(sought: Sought, lane: usize, lines: &[Step]) -> usize
     ensures place { result ≡ before sought lane (boxes_of lines.now) }
     ensures within { result ≤ length lines.now }
 {
@@ -115,25 +116,25 @@ fn before(sought: Sought, lane: usize, lines: &[Line]) -> usize
 }
 
 /// How many rows follow the first, up to and with the line that so many come before.
-fn more(k: usize, lines: &[Line]) -> usize
+fn more(k: usize, lines: &[Step]) -> usize
     ensures { result ≡ more k (boxes_of lines.now) }
 {
     if k < lines.len() { k + 1 } else { lines.len() }
 }
 
 /// The kind of an attempt's end, which is the first of these lines; where it has none, that of its begin.
-fn ended_by(alg: Alg, lines: &[Line]) -> Kind
+fn ended_by(alg: Alg, lines: &[Step]) -> Kind
     ensures { result ≡ ended_by alg (boxes_of lines.now) }
 {
     if lines.is_empty() {
         Kind::Begins(alg)
     } else {
-        line_kind(lines[0])
+        line_kind(lines[0].line)
     }
 }
 
 /// The attempt that begins in this row, where these lines follow.
-fn attempt_at(row: usize, lane: usize, alg: Alg, rest: &[Line]) -> Shape
+fn attempt_at(row: usize, lane: usize, alg: Alg, rest: &[Step]) -> Shape
     ensures { result ≡ attempt_at row lane alg (boxes_of rest.now) }
 {
     let k = before(Sought::End, lane, rest);
@@ -157,7 +158,7 @@ fn closes_gate(alg: Alg) -> bool
 
 /// The part of an attempt from its first line that is looked for on: its first row, and how many follow. The attempt
 /// begins in this row, and these lines follow.
-fn part(sought: Sought, row: usize, lane: usize, rest: &[Line]) -> Option<(usize, usize)>
+fn part(sought: Sought, row: usize, lane: usize, rest: &[Step]) -> Option<(usize, usize)>
     requires { row + length rest.now + 1 < 2 ^ 64 }
     ensures { result ≡ part sought row lane (boxes_of rest.now) }
 {
@@ -172,7 +173,7 @@ fn part(sought: Sought, row: usize, lane: usize, rest: &[Line]) -> Option<(usize
 }
 
 /// The gate closed: from the line that closes it, or by an attempt that is to become irrevocable.
-fn closing_at(row: usize, lane: usize, kind: Kind, rest: &[Line]) -> Option<Shape>
+fn closing_at(row: usize, lane: usize, kind: Kind, rest: &[Step]) -> Option<Shape>
     requires { row + length rest.now + 1 < 2 ^ 64 }
     ensures { result ≡ closing_at row lane kind (boxes_of rest.now) }
 {
@@ -194,7 +195,7 @@ fn closing_at(row: usize, lane: usize, kind: Kind, rest: &[Line]) -> Option<Shap
 }
 
 /// The part of an attempt in which it is irrevocable: the whole under an algorithm that makes it so at its begin.
-fn promotion_at(row: usize, lane: usize, kind: Kind, rest: &[Line]) -> Option<Shape>
+fn promotion_at(row: usize, lane: usize, kind: Kind, rest: &[Step]) -> Option<Shape>
     requires { row + length rest.now + 1 < 2 ^ 64 }
     ensures { result ≡ promotion_at row lane kind (boxes_of rest.now) }
 {
@@ -215,28 +216,28 @@ fn promotion_at(row: usize, lane: usize, kind: Kind, rest: &[Line]) -> Option<Sh
 }
 
 /// The caller in whose lane a line lies.
-pub fn lane(line: Line) -> usize
-    ensures { result ≡ (box_of line).lane }
+pub fn lane(step: Step) -> usize
+    ensures { result ≡ (box_of step).lane }
 {
-    match line {
+    match step.line {
         Line::Of { caller, .. } => caller,
         Line::Finish => 0,
     }
 }
 
 /// Whether none of these lines is this caller's.
-fn is_over(lane: usize, rest: &[Line]) -> bool
+fn is_over(lane: usize, rest: &[Step]) -> bool
     ensures { result ≡ is_over lane (boxes_of rest.now) }
 {
     before(Sought::Any, lane, rest) == rest.len()
 }
 
 /// The lane of a caller, at its last line.
-fn lane_at(line: Line, rest: &[Line]) -> Option<Shape>
-    ensures { result ≡ lane_at (box_of line) (boxes_of rest.now) }
+fn lane_at(step: Step, rest: &[Step]) -> Option<Shape>
+    ensures { result ≡ lane_at (box_of step) (boxes_of rest.now) }
 {
-    let lane = lane(line);
-    if meets(Sought::Any, line_kind(line)) && is_over(lane, rest) {
+    let lane = lane(step);
+    if meets(Sought::Any, line_kind(step.line)) && is_over(lane, rest) {
         Some(Shape::Lane { lane })
     } else {
         None
@@ -244,14 +245,14 @@ fn lane_at(line: Line, rest: &[Line]) -> Option<Shape>
 }
 
 /// The shape of a layer at a line, where these lines follow.
-pub fn shape_at(layer: Layer, row: usize, line: Line, rest: &[Line]) -> Option<Shape>
+pub fn shape_at(layer: Layer, row: usize, step: Step, rest: &[Step]) -> Option<Shape>
     requires { row + length rest.now + 1 < 2 ^ 64 }
-    ensures { result ≡ shape_at layer row (box_of line) (boxes_of rest.now) }
+    ensures { result ≡ shape_at layer row (box_of step) (boxes_of rest.now) }
 {
-    let lane = lane(line);
-    let kind = line_kind(line);
+    let lane = lane(step);
+    let kind = line_kind(step.line);
     match layer {
-        Layer::Lanes => lane_at(line, rest),
+        Layer::Lanes => lane_at(step, rest),
         Layer::Closings => closing_at(row, lane, kind, rest),
         Layer::Promotions => promotion_at(row, lane, kind, rest),
         Layer::Installs => match kind {

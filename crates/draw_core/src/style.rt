@@ -1,4 +1,7 @@
-//! The style of a picture, and its legend.
+//! The style of a picture, its legend, and what stands between an operation and its reply.
+
+/// Before a reply, and the space before that.
+pub const ARROW: &str = " →";
 
 /// Colours for a light and for a dark page.
 pub const STYLE: &str =

@@ -4,8 +4,9 @@ use std::alloc::{AllocError, Global};
 
 /// How the program is used.
 const USE: &str =
-    "it takes no words: it reads what `stm_bench step` writes from standard input, and writes its picture to standard output, as
-  bin/stm_bench step < docs/pictures/conflict.stm | bin/stm_draw > conflict.svg";
+    "it takes no words: it reads from standard input what `stm_bench step` writes, or a workload and then that, and writes its picture to standard output, as
+  bin/stm_bench step < docs/pictures/conflict.stm > conflict.trace
+  cat docs/pictures/conflict.stm conflict.trace | bin/stm_draw > conflict.svg";
 
 /// What there is to tell of a status, where `why` is what is wrong with the text that was read.
 ///

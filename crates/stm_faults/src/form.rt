@@ -73,6 +73,19 @@ const LONGER: [&str; 1] = ["reserve C X Y"];
 
 const TURNS: [&str; 2] = ["go C N", "done"];
 
+/// The lines of the header, by their number from 1.
+const HEAD: [&str; 9] = [
+    "stm N",
+    "words N",
+    "callers N",
+    "records N",
+    "ring N",
+    "reads N",
+    "writes N",
+    "clock N",
+    "alg ALG",
+];
+
 /// Of these forms the one that begins with this word.
 fn find(forms: &[&'static str], word: &[u8]) -> Option<&'static str> {
     for form in forms {
@@ -93,6 +106,21 @@ pub(crate) fn form_of(spot: &Spot, word: &[u8]) -> Option<&'static str> {
         (Place::Ops, Version::Two) => find(&PLAIN, word).or(find(&PLACED, word)),
         (Place::Turns, _) => find(&TURNS, word),
         (Place::Head(_) | Place::Region(_) | Place::Policy, _) => None,
+    }
+}
+
+/// The form of a line that begins with this word, where one may stand there.
+pub(crate) fn begun_by(spot: &Spot, word: &[u8]) -> Option<&'static str> {
+    match (spot.place, spot.version) {
+        (Place::Head(10), Version::One) => find(&["structs SWITCH"], word),
+        (Place::Head(10), Version::Two) => find(&["regions N"], word),
+        (Place::Head(number), _) => {
+            let form = HEAD.get(number.saturating_sub(1))?;
+            find(&[*form], word)
+        }
+        (Place::Region(_), _) => find(&["region KIND AT SIZE"], word),
+        (Place::Policy, _) => find(&["policy P"], word),
+        _ => form_of(spot, word),
     }
 }
 

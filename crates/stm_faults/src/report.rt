@@ -1,5 +1,5 @@
 //! The fault of a report's text, in a sentence.
-use crate::shown::{first_line, from_line, is_ended, put_line, put_wrong_byte};
+use crate::shown::{first_line, from_line, is_ended, put_bytes, put_line, put_wrong_byte};
 use crate::workload::workload_fault;
 use std::alloc::{AllocError, Global};
 use stm_check::reading::MAX_REPORT;
@@ -67,7 +67,12 @@ pub fn wrong_line(
     let above = count_lines(head);
     let number = line.saturating_sub(above);
     write!(said, "in the report, after the workload's {above} lines: ")?;
-    put_line(&mut said, number, first_line(from_line(behind, number)))?;
+    write!(
+        said,
+        "line {number}, which is line {line} of the whole text, `"
+    )?;
+    put_bytes(&mut said, first_line(from_line(behind, number)))?;
+    said.push_str("`: ")?;
     put_wanted(alloc, &mut said, wanted)?;
     Ok(said)
 }
@@ -91,7 +96,7 @@ fn put_wanted(alloc: Global, said: &mut String, wanted: Wanted) -> Result<(), Me
         Wanted::Missing { caller, seq } => {
             write!(
                 said,
-                "transaction {seq} of caller {caller} has no row; transactions count from 0"
+                "transaction {seq} of caller {caller} has no row; transactions count from 0; here stands `R PLACE {caller} {seq} : REPLIES`, with W for R where it wrote, and C where it was cancelled"
             )?;
         }
         Wanted::Word { address, value } => {

@@ -1,9 +1,10 @@
 //! The fault of a text that isn't one that `step` writes, in a sentence.
 use crate::report::put_report_fault;
-use crate::shown::{first_line, is_ended, put_line};
+use crate::shown::{first_line, from_line, is_ended, put_line};
 use std::alloc::{AllocError, Global};
 use stm_check::words::first_word;
 use stm_text::lines;
+use stm_text::parting::{count_lines, part_at_done};
 
 /// What stands above a line.
 #[derive(Clone, Copy, Drop, Debug, PartialEq, Eq)]
@@ -30,6 +31,49 @@ pub fn trace_fault(
     let mut said = String::new(alloc);
     put_fault(&mut said, text, line, most)?;
     Ok(said)
+}
+
+/// The same of a trace below its workload; lines count through both, and line 0 is of the whole.
+///
+/// # Errors
+/// Memory, where it is refused.
+pub fn traced_fault(
+    alloc: Global,
+    text: &[u8],
+    line: usize,
+    most: usize,
+) -> Result<String, AllocError> {
+    let (head, behind) = part_at_done(text);
+    let above = count_lines(head);
+    if line <= above {
+        return trace_fault(alloc, text, 0, most);
+    }
+    let mut said = String::new(alloc);
+    put_place(&mut said, above)?;
+    put_fault(&mut said, behind, line - above, most)?;
+    Ok(said)
+}
+
+/// What is wrong with a line of a trace that may not come there in the workload above it.
+///
+/// # Errors
+/// Memory, where it is refused.
+pub fn unfit_line(alloc: Global, text: &[u8], line: usize) -> Result<String, AllocError> {
+    let (head, behind) = part_at_done(text);
+    let above = count_lines(head);
+    let number = line.saturating_sub(above);
+    let mut said = String::new(alloc);
+    put_place(&mut said, above)?;
+    put_line(&mut said, number, first_line(from_line(behind, number)))?;
+    said.push_str(
+        "this isn't what comes next in that workload: an attempt begins where its caller has a transaction left and no attempt open, an operation is the next one of its script, and the commit comes after the last",
+    )?;
+    Ok(said)
+}
+
+/// Appends in which part the line is.
+fn put_place(said: &mut String, above: usize) -> Result<(), AllocError> {
+    write!(said, "in the trace, after the workload's {above} lines: ")
 }
 
 fn put_fault(said: &mut String, text: &[u8], line: usize, most: usize) -> Result<(), AllocError> {

@@ -1,5 +1,5 @@
 //! The fault of a workload's text, in a sentence.
-use crate::form::{form_of, put_expected};
+use crate::form::{begun_by, put_expected};
 use crate::shown::{first_line, from_line, put_bytes, put_line, put_wrong_byte};
 use crate::spot::{Place, Spot, second_word, spot_of};
 use std::alloc::{AllocError, Global};
@@ -97,11 +97,31 @@ fn wrong_word(spot: &Spot, bytes: &[u8]) -> &'static str {
     if has_wrong_space(bytes) {
         return "one space stands between two words, and none at either end";
     }
-    let (word, _) = first_word(bytes);
-    if form_of(spot, word).is_some() {
-        return "it has too many words, too few, or one that isn't allowed";
+    let (word, rest) = first_word(bytes);
+    let Some(form) = begun_by(spot, word) else {
+        return "its first word isn't allowed here";
+    };
+    let (_, others) = first_word(form.as_bytes());
+    let had = count_spaces(rest);
+    let wanted = count_spaces(others);
+    if had < wanted {
+        "it has too few words"
+    } else if wanted < had {
+        "it has too many words"
+    } else {
+        "it has a word that isn't allowed"
     }
-    "it has a word that isn't allowed here, too many words or too few"
+}
+
+/// How many spaces there are, and so how many words behind them, where one stands before each.
+fn count_spaces(bytes: &[u8]) -> usize {
+    let mut count = 0usize;
+    for byte in bytes {
+        if *byte == b' ' {
+            count = count.saturating_add(1);
+        }
+    }
+    count
 }
 
 /// Whether a space stands beside another, before the first word or after the last.
@@ -143,13 +163,69 @@ fn put_region_fault(
                 spot.words
             )
         }
-        Place::Region(_) => write!(
-            said,
-            "a region begins where the one above it ends or later, and ends within the {} words; a counter has SIZE words, a list 1 + 2 SIZE, a hash 16 + 2 SIZE, a tree 1 + 3 SIZE, a queue 2 + SIZE, a summap 1 + 5 SIZE",
-            spot.words
-        ),
+        Place::Region(left) => {
+            write!(
+                said,
+                "a region begins where the one above it ends or later, and ends within the {} words; a counter has SIZE words, a list 1 + 2 SIZE, a hash 16 + 2 SIZE, a tree 1 + 3 SIZE, a queue 2 + SIZE, a summap 1 + 5 SIZE",
+                spot.words
+            )?;
+            put_extents(said, text, spot.regions.saturating_sub(left), bytes)
+        }
         _ => put_operation_fault(said, text, spot, bytes),
     }
+}
+
+/// Appends which words a region would have, and where the one above it ends; so many stand above it.
+fn put_extents(said: &mut String, text: &[u8], above: u64, bytes: &[u8]) -> Result<(), AllocError> {
+    if let Some((first, behind)) = extent_of(bytes) {
+        write!(
+            said,
+            "; this one would begin at {first} and end before {behind}"
+        )?;
+    }
+    if above == 0 {
+        return Ok(());
+    }
+    // the first region stands on line 11
+    let line = usize::try_from(above).unwrap_or(0).saturating_add(10);
+    match extent_of(first_line(from_line(text, line))) {
+        Some((_, behind)) => write!(said, ", and the one above it ends before {behind}"),
+        None => Ok(()),
+    }
+}
+
+/// The first word of a region, and the one behind its last, by its line.
+fn extent_of(bytes: &[u8]) -> Option<(u64, u64)> {
+    let (_, rest) = first_word(bytes);
+    let kind = second_word(rest);
+    let (_, rest) = next_word(rest)?;
+    let (at, rest) = next_word(rest)?;
+    let (size, _) = next_word(rest)?;
+    let first = lines::number(at)?;
+    let words = words_of(kind, lines::number(size)?)?;
+    Some((first, first.saturating_add(words)))
+}
+
+/// The next word and what stands after it, where a space stands before it.
+fn next_word(rest: &[u8]) -> Option<(&[u8], &[u8])> {
+    if rest.is_empty() {
+        return None;
+    }
+    Some(first_word(lines::past(rest, 0)))
+}
+
+/// How many words a region of this kind and size has.
+fn words_of(kind: &[u8], size: u64) -> Option<u64> {
+    let (fixed, each) = match kind {
+        b"counter" => (0, 1),
+        b"list" => (1, 2),
+        b"hash" => (16, 2),
+        b"tree" => (1, 3),
+        b"queue" => (2, 1),
+        b"summap" => (1, 5),
+        _ => return None,
+    };
+    Some(size.saturating_mul(each).saturating_add(fixed))
 }
 
 /// Appends what is wrong with an operation's address, or with the structure that it works on.

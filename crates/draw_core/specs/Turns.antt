@@ -1,0 +1,113 @@
+-- What a line does to its caller's attempt, and which operation of the script it tells of.
+use Rattle.std.specs.Prelude.{ℕ, Bool, true, false, List, [], ◌∷◌, Option, Some, None, bytes_eq, if◌then◌else◌, is_some}
+use Rattle.stm_script.specs.declared.op.Op.{Op}
+use Rattle.stm_script.specs.declared.op.Op.TheVariants.{Cancel, Irrev}
+use Rattle.stm_script.specs.Operations.{op_name}
+use Rattle.tx_answers.specs.declared.answers.Begin.TheVariants.{Begun, Closed, Held, ClockFull}
+use Rattle.tx_answers.specs.declared.answers.Cancel.TheVariants.{Cancelled, Irrevocable}
+use Rattle.tx_answers.specs.declared.answers.Commit.TheVariants.{Committed, ReadOnly, Conflict, Again, ClockFull}
+use Rattle.tx_answers.specs.declared.answers.Irrev.TheVariants as irrevs
+use Rattle.stm_trace.specs.declared.said.Said.{Said}
+use Rattle.stm_trace.specs.declared.said.Said.TheVariants.{TryBegin, Reply, Stopped, TryCancel, TryIrrevocable, TryCommit, TryClose, Looked, Installed, Reserved, Idle, Dropped, Reopened}
+use Rattle.draw_core.specs.declared.turn.Turn.{Turn}
+use Rattle.draw_core.specs.declared.turn.Turn.TheVariants.{Begins, Does, Stops, Grants, Cancels, Commits, Fails, Stays}
+
+-- THE TABLE: what each answer does to its caller's attempt
+abbrev pub turn_of : Said → Turn
+turn_of (TryBegin (Begun alg)) = Begins
+turn_of (TryBegin (Closed gate)) = Stays
+turn_of (TryBegin (Held word)) = Stays
+turn_of (TryBegin (ClockFull clock)) = Stays
+turn_of (Reply op reply) = Does op
+turn_of (Stopped op stop) = Stops op
+turn_of (TryCancel (Cancelled time)) = Cancels
+turn_of (TryCancel Irrevocable) = Does Cancel
+turn_of (TryIrrevocable irrevs.Granted) = Grants
+turn_of (TryIrrevocable (irrevs.Busy caller status)) = Stays
+turn_of (TryIrrevocable (irrevs.Taken gate)) = Fails
+turn_of (TryIrrevocable (irrevs.Conflict cause)) = Fails
+turn_of (TryIrrevocable (irrevs.ClockFull clock)) = Fails
+turn_of (TryCommit (Committed time)) = Commits
+turn_of (TryCommit (ReadOnly time)) = Commits
+turn_of (TryCommit (Conflict cause)) = Fails
+turn_of (TryCommit (Again word had now)) = Stays
+turn_of (TryCommit (ClockFull clock)) = Fails
+turn_of (TryClose c) = Stays
+turn_of (Looked l) = Stays
+turn_of (Installed alg) = Stays
+turn_of (Reserved reads writes) = Stays
+turn_of Idle = Stays
+turn_of Dropped = Fails
+turn_of Reopened = Stays
+
+-- where a caller stands: the scripts of its transactions that haven't ended; and of an open attempt, which runs the first of them, the operations still to come
+pub record Stand : Type 0 where
+  pub scripts : List (List Op)
+  pub attempt : Option (List Op)
+
+abbrev pub next_of : Option (List Op) → Option Op
+next_of None = None
+next_of (Some []) = None
+next_of (Some (op ∷ ops)) = Some op
+
+abbrev pub past_next : Option (List Op) → Option (List Op)
+past_next None = None
+past_next (Some []) = Some []
+past_next (Some (op ∷ ops)) = Some ops
+
+-- the next operation is of this one's name
+abbrev pub is_next : Op → Option Op → Bool
+is_next like None = false
+is_next like (Some op) = bytes_eq (op_name op) (op_name like)
+
+-- an attempt is open, and every operation of its script done
+abbrev pub is_done : Option (List Op) → Bool
+is_done None = false
+is_done (Some []) = true
+is_done (Some (op ∷ ops)) = false
+
+abbrev pub later : List (List Op) → List (List Op)
+later [] = []
+later (script ∷ scripts) = scripts
+
+-- an attempt begins: none is open, and a transaction is left
+abbrev pub begun : Option (List Op) → List (List Op) → Option Stand
+begun (Some rest) scripts = None
+begun None [] = None
+begun None (script ∷ scripts) = Some (record { scripts = script ∷ scripts; attempt = Some script })
+
+-- the next operation is done; the transaction has ended; the attempt has
+abbrev pub done : Stand → Stand
+done at = record at { attempt = past_next at.attempt }
+
+abbrev pub ended : Stand → Stand
+ended at = record { scripts = later at.scripts; attempt = None }
+
+abbrev pub given_up : Stand → Stand
+given_up at = record at { attempt = None }
+
+-- `irrev`, where it comes next, is done
+abbrev pub granted : Stand → Stand
+granted at = if is_next Irrev (next_of at.attempt) then done at else at
+
+-- where the caller stands behind a line that does this, if it may
+abbrev pub after : Stand → Turn → Option Stand
+after at Begins = begun at.attempt at.scripts
+after at (Does like) = if is_next like (next_of at.attempt) then Some (done at) else None
+after at (Stops like) = if is_next like (next_of at.attempt) then Some (given_up at) else None
+after at Grants = if is_some at.attempt then Some (granted at) else None
+after at Cancels = if is_next Cancel (next_of at.attempt) then Some (ended at) else None
+after at Commits = if is_done at.attempt then Some (ended at) else None
+after at Fails = Some (given_up at)
+after at Stays = Some at
+
+-- the operation that the line tells of: its caller's next one
+abbrev pub told_by : Stand → Turn → Option Op
+told_by at Begins = None
+told_by at (Does like) = next_of at.attempt
+told_by at (Stops like) = next_of at.attempt
+told_by at Grants = None
+told_by at Cancels = None
+told_by at Commits = None
+told_by at Fails = None
+told_by at Stays = None

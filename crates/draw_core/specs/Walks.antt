@@ -1,0 +1,67 @@
+-- A TRACE ALONG ITS WORKLOAD: a line of an operation tells of the one that comes next in its caller's script.
+use Rattle.std.specs.Prelude.{ℕ, zero, suc, ◌≡◌, ◌≤◌, ◌+◌, List, [], ◌∷◌, ◌++◌, drop, length, ltb, if◌then◌else◌, Option, Some, None, Result, Ok, Err, slice_index_or, slice_set}
+use Rattle.stm_script.specs.declared.op.Op.{Op}
+use Rattle.stm_script.specs.declared.workload.Item.{Item}
+use Rattle.stm_script.specs.declared.workload.Version.{Version}
+use Rattle.stm_script.specs.Reports.{scripts_of}
+use Rattle.stm_trace.specs.declared.line.Line.{Line}
+use Rattle.stm_trace.specs.declared.line.Line.TheVariants.{Of, Finish}
+use Rattle.stm_trace.specs.declared.said.Said.{Said}
+use Rattle.draw_core.specs.declared.cursor.Cursor.{Cursor}
+use Rattle.draw_core.specs.declared.step.Deed.{Deed}
+use Rattle.draw_core.specs.declared.step.Step.{Step}
+use Rattle.draw_core.specs.Steps.{bare}
+use Rattle.draw_core.specs.Turns.{Stand, turn_of, after, told_by}
+
+-- where each caller stands at first: all its transactions are still to do
+abbrev pub first_from : List Item → ℕ → ℕ → List Stand
+first_from items n zero = []
+first_from items n (suc callers) = record { scripts = scripts_of n items; attempt = None } ∷ first_from items (n + 1) callers
+
+abbrev pub first_stands : List Item → ℕ → List Stand
+first_stands items callers = first_from items 0 callers
+
+abbrev pub stand_at : List Stand → ℕ → Stand
+stand_at stands n = slice_index_or stands n (record { scripts = []; attempt = None })
+
+abbrev pub deed_of : Version → Option Op → Option Deed
+deed_of version None = None
+deed_of version (Some op) = Some (record { op = op; version = version })
+
+abbrev pub turned : Version → List Stand → ℕ → Said → Option Stand → Option (Step × List Stand)
+turned version stands n said None = None
+turned version stands n said (Some at) = Some (record { line = Of n said; deed = deed_of version (told_by (stand_at stands n) (turn_of said)) }, slice_set stands n at)
+
+-- the line with what it tells of, and where the callers stand behind it; none where it may not come
+abbrev pub goes : Version → List Stand → Line → Option (Step × List Stand)
+goes version stands (Of n said) = if ltb n (length stands) then turned version stands n said (after (stand_at stands n) (turn_of said)) else None
+goes version stands Finish = Some (bare Finish, stands)
+
+abbrev pub go_on : Option (Step × List Stand) → ℕ → (Step × List Stand → Result (List Step) ℕ) → Result (List Step) ℕ
+go_on None k rest = Err k
+go_on (Some went) k rest = rest went
+
+-- the steps told so far and those of these lines, the first of which is the text's line k; or the first line that may not come
+abbrev pub walked : Version → List Step → ℕ → List Stand → List Line → Result (List Step) ℕ
+walked version told k stands [] = Ok told
+walked version told k stands (line ∷ lines) = go_on (goes version stands line) k (λ went. walked version (told ++ went.0 ∷ []) (k + 1) went.1 lines)
+
+-- what a cursor says of its caller
+abbrev pub first_of : List (List Op) → List Op
+first_of [] = []
+first_of (script ∷ scripts) = script
+
+abbrev pub opened : List (List Op) → Option ℕ → Option (List Op)
+opened scripts None = None
+opened scripts (Some done) = Some (drop done (first_of scripts))
+
+abbrev pub stand_of : List Item → ℕ → Cursor → Stand
+stand_of items n c = record { scripts = scripts_of n (drop c.item items); attempt = opened (scripts_of n (drop c.item items)) c.done }
+
+abbrev pub stands_of : List Item → ℕ → List Cursor → List Stand
+stands_of items n [] = []
+stands_of items n (c ∷ cs) = stand_of items n c ∷ stands_of items (n + 1) cs
+
+abbrev pub AreWithin : List Item → List Cursor → Type 0
+AreWithin items [] = Unit {0}
+AreWithin items (c ∷ cs) = (c.item ≤ length items) × AreWithin items cs

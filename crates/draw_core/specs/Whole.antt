@@ -1,0 +1,45 @@
+-- THE TEXT that is drawn: a trace alone, or a workload and then its trace.
+use Rattle.std.specs.Prelude.{ℕ, ◌≡◌, ◌+◌, ◌-◌, ◌^◌, min, Bool, List, [], length, ltb, take, if◌then◌else◌, Result, Ok, Err, codes, bytes_eq}
+use Rattle.stm_script.specs.declared.workload.Workload.{Workload}
+use Rattle.stm_text.specs.declared.parse.Mode.TheVariants.{Step as Stepwise}
+use Rattle.stm_text.specs.Grammar.{workload_of}
+use Rattle.stm_text.specs.Parting.{to_done, behind_done, lines_to_done}
+use Rattle.stm_trace.specs.declared.line.Line.{Line}
+use Rattle.draw_core.specs.declared.reading.TheConstants.{MOST_DRAWN}
+use Rattle.draw_core.specs.declared.step.Step.{Step}
+use Rattle.draw_core.specs.declared.walk.StepsError.{StepsError}
+use Rattle.draw_core.specs.declared.walk.StepsError.TheVariants.{Workload as InWorkload, Trace, Unfit, Memory}
+use Rattle.draw_core.specs.Grammar.{trace_of}
+use Rattle.draw_core.specs.Steps.{bare_of}
+use Rattle.draw_core.specs.Walks.{first_stands, walked}
+
+-- a workload begins so, and no line of a trace does
+abbrev pub has_workload : List ℕ → Bool
+has_workload text = bytes_eq (take 3 text) (codes "stm")
+
+abbrev pub trace_alone : Result (List Line) ℕ → Result (List Step) ℕ
+trace_alone (Ok lines) = Ok (bare_of lines)
+trace_alone (Err line) = Err line
+
+-- the trace of a workload, below so many lines
+abbrev pub below : Workload → ℕ → Result (List Line) ℕ → Result (List Step) ℕ
+below w above (Ok lines) = walked w.header.version [] (above + 1) (first_stands w.items w.header.callers) lines
+below w above (Err line) = Err (min (above + line) (2 ^ 64 - 1))
+
+-- a workload's fault comes before one of the trace
+abbrev pub both : Result Workload (ℕ × ℕ) → ℕ → Result (List Line) ℕ → Result (List Step) ℕ
+both (Ok w) above trace = below w above trace
+both (Err fault) above trace = Err fault.0
+
+-- THE STEPS OF A TEXT: its trace's lines, with what the workload above it tells of them; or the first line at fault, 0 for a text that is too long
+abbrev pub steps_of : List ℕ → Result (List Step) ℕ
+steps_of text =
+    if ltb MOST_DRAWN (length text) then Err 0 else
+    (if has_workload text then both (workload_of Stepwise (to_done text)) (lines_to_done text) (trace_of (behind_done text)) else trace_alone (trace_of text))
+
+-- an error names the first line at fault; want of memory is free
+abbrev pub IsStepsFault : StepsError → Result (List Step) ℕ → Type 0
+IsStepsFault (InWorkload line code) r = r ≡ Err line
+IsStepsFault (Trace line) r = r ≡ Err line
+IsStepsFault (Unfit line) r = r ≡ Err line
+IsStepsFault Memory r = Unit {0}

@@ -1,0 +1,44 @@
+//! A line of a trace, with what its caller's script has there.
+ghost use Rattle.std.specs.Prelude.{◌≡◌, IfOk};
+ghost use Rattle.draw_core.specs.Steps.{bare_of};
+
+use std::alloc::{AllocError, Global};
+use stm_script::op::Op;
+use stm_script::workload::Version;
+use stm_trace::line::Line;
+
+/// An operation of a script, of a workload of this version.
+#[derive(Clone, Copy, Drop, Debug, PartialEq, Eq)]
+pub struct Deed {
+    pub op: Op,
+    pub version: Version,
+}
+
+/// A line, and the operation that it tells of, where a workload has it.
+#[derive(Clone, Copy, Drop, Debug, PartialEq, Eq)]
+pub struct Step {
+    pub line: Line,
+    pub deed: Option<Deed>,
+}
+
+impl Step {
+    ghost use Rattle.draw_core.specs.Steps.{bare};
+
+    /// The line alone.
+    pub fn bare(line: Line) -> Step
+        ensures { result ≡ bare line }
+    {
+        Step { line, deed: None }
+    }
+}
+
+/// The lines alone. Memory may be refused.
+pub fn bare_steps(alloc: Global, lines: &[Line]) -> Result<Vec<Step>, AllocError>
+    ensures { IfOk result (λ t. t.items ≡ bare_of lines.now) }
+{
+    let mut steps = Vec::new(alloc);
+    for line in lines {
+        steps.push(Step::bare(*line))?;
+    }
+    Ok(steps)
+}
