@@ -1,22 +1,18 @@
 //! A bank: its rule, and its three transactions.
 
-use nekchhaul::words::{read_two, write_two};
+use nekchhaul::words::{read_sum, read_two, write_two};
 use nekchhaul::{Access, MemRule, Stop, Transaction};
 
-/// A bank with so many accounts and this capital. Its memory has a word for each balance, and one more for what was
-/// paid in.
+/// A bank with eight accounts. The first words of its memory are their balances, and word 8 is what was paid in.
 #[derive(Clone, Copy, Drop, Debug, PartialEq, Eq)]
-pub struct Bank {
-    pub accounts: usize,
-    pub capital: u64,
-}
+pub struct Bank;
 
 /// No money is made or lost: between transactions the balances' sum is what was paid in, nothing at first and then the
-/// capital.
+/// capital of 8,000.
 impl MemRule for Bank {
     ghost use Rattle.example_bank.specs.Banks.{IsBalanced};
 
-    ghost good = { IsBalanced };
+    ghost good = { λ bank memory. IsBalanced memory };
 }
 
 /// Pays the capital in to account 0. Answers false where it was paid in before, and then does nothing.
@@ -24,19 +20,23 @@ impl MemRule for Bank {
 pub struct Open;
 
 impl Transaction<Bank> for Open {
-    ghost use Rattle.example_bank.specs.Banks.{Fits, HasEffect, opened_in};
+    ghost use Rattle.std.specs.Prelude.{◌≡◌};
+    ghost use Rattle.nekchhaul.specs.Effects.{DoesOver};
+    ghost use Rattle.nekchhaul.specs.FreshLaws.{nothing};
+    ghost use Rattle.example_bank.specs.Banks.{IsBalanced, opened_in};
 
     type Output = bool;
 
-    ghost fits = { λ it bank words. Fits bank words };
+    ghost fits = { λ it bank words. words ≡ 9 };
 
-    ghost tells = { λ it bank words opened log. HasEffect bank words (opened_in bank) opened log };
+    ghost tells = { λ it bank words opened log. DoesOver IsBalanced words opened_in nothing opened log };
 
-    fn run<A: Access>(&self, bank: &Bank, memory: &mut A) -> Result<bool, Stop> {
-        if memory.read(bank.accounts)? != 0 {
+    fn run<A: Access>(&self, _: &Bank, memory: &mut A) -> Result<bool, Stop> {
+        let (paid, _) = read_two(memory, 8, 0)?;
+        if paid != 0 {
             return Ok(false);
         }
-        write_two(memory, (bank.accounts, bank.capital), (0, bank.capital))?;
+        write_two(memory, (8, 8_000), (0, 8_000))?;
         Ok(true)
     }
 }
@@ -50,14 +50,16 @@ pub struct Transfer {
 }
 
 impl Transaction<Bank> for Transfer {
-    ghost use Rattle.std.specs.Prelude.{◌<◌, ◌≢◌};
-    ghost use Rattle.example_bank.specs.Banks.{Fits, HasEffect, moved_in};
+    ghost use Rattle.std.specs.Prelude.{◌≡◌, ◌<◌, ◌≢◌};
+    ghost use Rattle.nekchhaul.specs.Effects.{DoesOver};
+    ghost use Rattle.nekchhaul.specs.FreshLaws.{nothing};
+    ghost use Rattle.example_bank.specs.Banks.{IsBalanced, moved_in};
 
     type Output = bool;
 
-    ghost fits = { λ it bank words. Fits bank words × (it.from < bank.accounts) × (it.to < bank.accounts) × (it.from ≢ it.to) };
+    ghost fits = { λ it bank words. (words ≡ 9) × (it.from < 8) × (it.to < 8) × (it.from ≢ it.to) };
 
-    ghost tells = { λ it bank words moved log. HasEffect bank words (moved_in it.from it.to it.amount) moved log };
+    ghost tells = { λ it bank words moved log. DoesOver IsBalanced words (moved_in it) nothing moved log };
 
     fn run<A: Access>(&self, _: &Bank, memory: &mut A) -> Result<bool, Stop> {
         let (payer, payee) = read_two(memory, self.from, self.to)?;
@@ -80,22 +82,20 @@ impl Transaction<Bank> for Transfer {
 pub struct Audit;
 
 impl Transaction<Bank> for Audit {
-    ghost use Rattle.std.specs.Prelude.{◌≡◌, ◌⊎◌};
-    ghost use Rattle.example_bank.specs.Banks.{Fits, HasEffect, audited_in};
+    ghost use Rattle.std.specs.Prelude.{◌≡◌};
+    ghost use Rattle.nekchhaul.specs.Effects.{DoesOver, unchanged};
+    ghost use Rattle.nekchhaul.specs.FreshLaws.{nothing};
+    ghost use Rattle.nekchhaul.specs.WordLaws.{sum_in};
+    ghost use Rattle.example_bank.specs.Banks.{IsBalanced, IsPaid};
 
     type Output = u64;
 
-    ghost fits = { λ it bank words. Fits bank words };
+    ghost fits = { λ it bank words. words ≡ 9 };
 
-    ghost tells = { λ it bank words sum log. HasEffect bank words (audited_in bank) sum log × ((sum ≡ 0) ⊎ (sum ≡ bank.capital)) };
+    ghost tells = { λ it bank words sum log. DoesOver IsBalanced words (λ m. unchanged (sum_in 0 8 m) m) nothing sum log × IsPaid sum };
 
-    fn run<A: Access>(&self, bank: &Bank, memory: &mut A) -> Result<u64, Stop> {
-        let mut sum = 0;
-        for account in 0..bank.accounts {
-            let balance = memory.read(account)?;
-            // no sum on the way can wrap: each is part of the capital
-            sum += balance;
-        }
+    fn run<A: Access>(&self, _: &Bank, memory: &mut A) -> Result<u64, Stop> {
+        let sum = read_sum(memory, 0..8)?;
         Ok(sum)
     }
 }
