@@ -2,7 +2,7 @@
 # build.sh [--unproved | --asan | --tsan]: makes capi/build/libnekchhaul.a and libnekchhaul.so.1, of the proved static library
 # nekchhaul_c, the kit's heap, and the C functions of nekchhaul.h. Needs `rt` of the Rattle kit, a C compiler and binutils.
 #
-# `rt lib` proves what isn't proved yet, which from nothing takes hours. Behind `rt ci` in a fresh checkout, whose proved
+# `rt lib` proves what isn't proved yet, which from nothing takes hours. After `rt ci` in a fresh checkout, whose proved
 # libraries `rt lib` would make anew, the library is built over those, which proves nekchhaul_c alone. `--unproved` proves
 # nothing and takes a minute or two, for trying; `nekchhaul_version` tells the two apart. It needs Python 3. `--asan` and `--tsan`
 # are unproved builds that the address or the thread sanitizer sees into, as capi/build/asan/libnekchhaul.a and

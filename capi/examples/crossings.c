@@ -1,5 +1,5 @@
 /* What `capi/instructions` counts: a number of transactions of each kind, under each algorithm, by one thread. Writes a line
- * for each call of `measure`, in their order, behind one that says whether the library is proved. */
+ * for each call of `measure`, in their order, after one that says whether the library is proved. */
 #include "nekchhaul.h"
 #include <stdio.h>
 #include <stdlib.h>

@@ -14,7 +14,7 @@
  * that is all zero is no caller, and every call on it answers NEKCHHAUL_NO_CALLER, whatever else doesn't fit. A handle is
  * never copied: nekchhaul_move hands it on. The memory is freed with the last of its callers that is released.
  *
- * THREADS. A handle is used by one thread at a time. It may go to another thread behind anything that orders the two: a
+ * THREADS. A handle is used by one thread at a time. It may go to another thread after anything that orders the two: a
  * lock, a thread's start or its join. Different handles are used by as many threads at once as there are handles.
  *
  * WHAT IS PROVED, and of what. Each call of the archive meets its contract in crates/nekchhaul_c, which was checked by

@@ -41,7 +41,7 @@ template <class T> struct word {
     }
 };
 
-// As many words of one type, one behind the other.
+// As many words of one type, one after the other.
 template <class T> struct words {
     size_t first = 0, count = 0;
     size_t size() const { return count; }

@@ -1,4 +1,4 @@
-/* A memory behind one pthread mutex. With -DRELEASES_EARLY it is wrong: it lets go of the mutex between two operations. */
+/* A memory after one pthread mutex. With -DRELEASES_EARLY it is wrong: it lets go of the mutex between two operations. */
 #include "driver.h"
 #include <sched.h>
 

@@ -84,7 +84,7 @@ impl<T> fmt::Debug for Word<T> {
     }
 }
 
-/// As many words of one type, one behind the other.
+/// As many words of one type, one after the other.
 #[derive(Debug)]
 pub struct Words<T> {
     first: Word<T>,

@@ -1,9 +1,9 @@
--- What the calls of an attempt cost: at most so many steps, each of which adds one item to the trail.
+-- What the calls of an attempt cost: at most so many steps, each of which adds one item to the step trace.
 use Rattle.std.specs.Prelude.{ℕ, ◌+◌, ◌-◌, ◌*◌}
 use Rattle.stm_model.specs.declared.alg.Alg.{Alg}
 use Rattle.stm_model.specs.declared.alg.Alg.TheVariants.{Cgl, Tml, OrecLazy, OrecEager, RingSw, Serial}
 use Rattle.stm_model.specs.declared.config.Config.{Config}
-use Rattle.tx_answers.specs.Known.{Known}
+use Rattle.tx_answers.specs.CallerState.{CallerState}
 
 pub record Costs : Type 0 where
   pub read : ℕ
@@ -41,5 +41,5 @@ roll_steps RingSw x = 0
 roll_steps Serial x = x
 
 -- what the calls of a caller's attempt cost under an algorithm
-abbrev pub costs_under : Alg → Config → Known → Costs
+abbrev pub costs_under : Alg → Config → CallerState → Costs
 costs_under a c v = steps_of a v.reads_limit v.writes_limit c.ring c.callers

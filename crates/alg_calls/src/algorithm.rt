@@ -10,7 +10,7 @@ ghost use Rattle.stm_rule.specs.Counting.{TakesAtMost};
 ghost use Rattle.stm_rule.specs.Kept.{IsSameSeat, view_of};
 ghost use Rattle.tx_answers.specs.Answers.{Cancels, Commits, HasRead, HasWritten, Irrevs, KeepsRule, Rolls};
 ghost use Rattle.tx_answers.specs.Counting.{AddsAtMost};
-ghost use Rattle.tx_answers.specs.Known.{IsRunning};
+ghost use Rattle.tx_answers.specs.CallerState.{IsRunning};
 
 use stm_model::rule::MemRule;
 use stm_rule::desc::Desc;
@@ -78,7 +78,7 @@ pub trait Algorithm {
         ensures steps { AddsAtMost (costs_under alg stm.now.config (known desc.old)).cancel (known desc.old) (known desc.new) };
 
     /// Tries to make the attempt irrevocable.
-    fn become_irrevocable<K: MemRule>(desc: &mut Desc<K>, stm: &Stm<K>) -> Irrev
+    fn try_irrevocable<K: MemRule>(desc: &mut Desc<K>, stm: &Stm<K>) -> Irrev
         requires stm { IsOf desc.old stm.now }
         requires running { IsRunning (known desc.old) }
         requires algorithm { (known desc.old).alg ≡ alg }

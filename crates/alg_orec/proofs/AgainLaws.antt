@@ -9,7 +9,7 @@ use Rattle.rule_base.specs.declared.entries.Entry.{Entry}
 use Rattle.rule_base.specs.declared.layout.At.TheVariants.{Clock}
 use Rattle.rule_base.specs.declared.views.Act.TheVariants.{Exchange}
 use Rattle.rule_base.specs.declared.views.Phase.TheVariants.{In}
-use Rattle.rule_base.specs.declared.views.TrailItem.{TrailItem}
+use Rattle.rule_base.specs.declared.views.TracedStep.{TracedStep}
 use Rattle.rule_base.specs.declared.views.Validation.{Validation}
 use Rattle.rule_base.specs.declared.views.View.{View}
 use Rattle.rule_base.specs.Bridge.{public_history}
@@ -19,21 +19,21 @@ use Rattle.tx_answers.specs.Answers.{StartMoves, GoesOn}
 use Rattle.tx_answers.specs.Causes.{IsAgain, OwesValidation}
 use Rattle.tx_answers.specs.Causes.Asked.{ToCommit}
 use Rattle.tx_answers.specs.Evidence.{Found}
-use Rattle.tx_answers.specs.Known.{Grows, known_of, fenced_of, granted_under, is_in, is_closing, locked_under}
-use Rattle.tx_answers.specs.KnownLaws.{grows-same, grows-trans}
+use Rattle.tx_answers.specs.CallerState.{Grows, known_of, fenced_of, granted_under, is_in, is_closing, locked_under}
+use Rattle.tx_answers.specs.CallerStateLaws.{grows-same, grows-trans}
 use Rattle.alg_orec.proofs.Proving.{owes-later, with_commit}
 use Rattle.alg_orec.specs.Committing.{readied}
 
 -- the exchange of the clock, which found another number
-abbrev pub tried : ℕ → ℕ → TrailItem
+abbrev pub tried : ℕ → ℕ → TracedStep
 tried start now = record { place = Clock; act = Exchange start (start + 1); found = Some now }
 
 -- A commit that answered Again: another commit was faster, and the attempt stands in the middle of its own.
-module _ (v : View) (more : List TrailItem) {w u : View} {start : ℕ} {seen : List Entry} {held : List Cell}
+module _ (v : View) (more : List TracedStep) {w u : View} {start : ℕ} {seen : List Entry} {held : List Cell}
     {loaded : Bool} {check : Validation} (is : w ≡ readied v seen start held loaded check more) (now : ℕ)
-    (still : u ≡ record w { steps = record w.steps { trail = tried start now ∷ w.steps.trail } }) where
+    (still : u ≡ record w { steps = record w.steps { step_trace = tried start now ∷ w.steps.step_trace } }) where
   pub path : u ≡ readied v seen start held loaded check (tried start now ∷ more)
-  path = still ∙ ap (λ (y : View). record y { steps = record y.steps { trail = tried start now ∷ y.steps.trail } }) is
+  path = still ∙ ap (λ (y : View). record y { steps = record y.steps { step_trace = tried start now ∷ y.steps.step_trace } }) is
 
   start_is : u.attempt.start ≡ start
   start_is = ap (λ (y : View). y.attempt.start) path
@@ -42,7 +42,7 @@ module _ (v : View) (more : List TrailItem) {w u : View} {start : ℕ} {seen : L
   later : (o : Own) → Found Clock start (known_of v o) (known_of w o) → Found Clock start (known_of v o)
       (known_of u (with_commit true o))
   later o f = found-later Clock start (known_of v o) (known_of w o) (known_of u (with_commit true o)) f
-      (tried start now ∷ []) (ap (λ (y : View). y.steps.trail) still)
+      (tried start now ∷ []) (ap (λ (y : View). y.steps.step_trace) still)
 
   pub goes-on : (c : Config) (alg : Alg) (o : Own) → v.gate.algorithm ≡ alg → v.gate.phase ≡ In → v.attempt.start ≤ start → Grows
       (known_of v o) (known_of w o)
@@ -55,7 +55,7 @@ module _ (v : View) (more : List TrailItem) {w u : View} {start : ℕ} {seen : L
       made = ap (λ (y : View). public_history y.history.made) path;
       grows = grows-trans (known_of v o) (known_of w o) (known_of u p) grows
           (grows-same (known_of w o) (known_of u p) (ap (λ (y : View). public_history y.history.seen) still)
-          (ap (λ (y : View). y.history.front) still) (tried start now ∷ []) (ap (λ (y : View). y.steps.trail) still)
+          (ap (λ (y : View). y.history.front) still) (tried start now ∷ []) (ap (λ (y : View). y.steps.step_trace) still)
           refl refl (ap (λ (y : View). fenced_of y.fence) still));
       alg = ap (λ (y : View). y.gate.algorithm) path;
       fence = ap (λ (y : View). y.gate.fence) path;
@@ -89,7 +89,7 @@ module _ (v : View) (more : List TrailItem) {w u : View} {start : ℕ} {seen : L
   start-moves c o old was (inr f) = inr (
     subst (λ (x : ℕ). Found Clock x (known_of v o) (known_of u (with_commit true o))) (sym start_is) (later o f.0),
     owes-later c ToCommit (known_of v o) (known_of w o) (known_of u (with_commit true o)) (tried start now ∷ [])
-        (ap (λ (y : View). y.steps.trail) still) f.1,
+        (ap (λ (y : View). y.steps.step_trace) still) f.1,
   )
 
   pub is-again : (c : Config) (n : ℕ) (o : Own) → has_records v.gate.algorithm ≡ true → now ≢ start
@@ -102,7 +102,7 @@ module _ (v : View) (more : List TrailItem) {w u : View} {start : ℕ} {seen : L
     (
       (λ s. apart (sym s)),
       tried start now ∷ more,
-      ap (λ (y : View). y.steps.trail) path,
+      ap (λ (y : View). y.steps.step_trace) path,
       start + 1,
       (0, omega arith, refl),
     ),

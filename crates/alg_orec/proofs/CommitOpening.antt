@@ -10,7 +10,7 @@ use Rattle.stm_rule.specs.declared.stm.Stm.{Stm}
 use Rattle.stm_rule.specs.Attempts.{IsInside, own_of}
 use Rattle.stm_rule.specs.Callers.{Handle}
 use Rattle.stm_rule.specs.StandLemmas.{inside-of}
-use Rattle.tx_answers.specs.Known.{Known, is_irrevocable}
+use Rattle.tx_answers.specs.CallerState.{CallerState, is_irrevocable}
 use Rattle.stm_gate.specs.Knowing.{known}
 use Rattle.stm_gate.specs.Opening.{Opened}
 use Rattle.stm_gate.specs.Standing.{in-of}
@@ -33,10 +33,10 @@ module _ {K : Type 0} (good : K → List ℕ → Type 0) (stm : Stm K) {e : Hand
     {l : Local} (a : Opened good stm e who v n l) where
   pub inside : (known e).running ≡ true → IsInside (good stm.rule) stm.config n l v
   inside runs = inside-of (good stm.rule) stm.config n l v
-      (in-of v.gate.phase (ap (λ (k : Known). k.running) (sym a.knows) ∙ runs)) a.stands
+      (in-of v.gate.phase (ap (λ (k : CallerState). k.running) (sym a.knows) ∙ runs)) a.stands
 
   pub named : (alg : Alg) → (known e).alg ≡ alg → v.gate.algorithm ≡ alg
-  named alg is = ap (λ (k : Known). k.alg) (sym a.knows) ∙ is
+  named alg is = ap (λ (k : CallerState). k.alg) (sym a.knows) ∙ is
 
   module _ (runs : (known e).running ≡ true) (eager : (known e).alg ≡ OrecEager) where
     pub promoted : (known e).granted ≡ true → Promoted (good stm.rule) stm.config n l v
@@ -44,7 +44,7 @@ module _ {K : Type 0} (good : K → List ℕ → Type 0) (stm : Stm K) {e : Hand
       inside = inside runs;
       eager = named OrecEager eager;
       granted = proving.was-granted (good stm.rule) stm.config n l v (inside runs) (named OrecEager eager) (own_of l)
-          (ap (λ (k : Known). k.granted) (sym a.knows) ∙ granted);
+          (ap (λ (k : CallerState). k.granted) (sym a.knows) ∙ granted);
       holds = a.stands.holds;
     }
 
@@ -52,7 +52,7 @@ module _ {K : Type 0} (good : K → List ℕ → Type 0) (stm : Stm K) {e : Hand
     unpromoted plain = record { inside = inside runs; eager = named OrecEager eager; plain = plain }
 
     pub granted-known : l.granted ≡ true → (known e).granted ≡ true
-    granted-known granted = ap (λ (k : Known). k.granted) a.knows ∙ proving.granted-of (good stm.rule) stm.config n l v
+    granted-known granted = ap (λ (k : CallerState). k.granted) a.knows ∙ proving.granted-of (good stm.rule) stm.config n l v
         (inside runs) (named OrecEager eager) (own_of l) true granted
 
     pub irrevocable-known : l.granted ≡ true → is_irrevocable (known e) ≡ true

@@ -7,14 +7,14 @@ use Rattle.stm_model.specs.Memories.{item_at}
 use Rattle.rule_base.specs.declared.entries.Cell.{Cell}
 use Rattle.rule_base.specs.declared.layout.At.TheVariants.{Clock}
 use Rattle.rule_base.specs.declared.views.Act.TheVariants.{Raise}
-use Rattle.rule_base.specs.declared.views.TrailItem.{TrailItem}
+use Rattle.rule_base.specs.declared.views.TracedStep.{TracedStep}
 use Rattle.rule_base.specs.declared.views.View.{View}
 use Rattle.rule_base.specs.Bridge.{items}
 use Rattle.rule_base.specs.BridgeLemmas.{item-some}
 use Rattle.rule_base.specs.History.{over, touches}
 use Rattle.rule_base.specs.StepKinds.{Tells}
-use Rattle.rule_orec.specs.OrecOwning.{lifted}
-use Rattle.rule_orec.specs.OrecSteps.{orec_lift, CanOrecLift}
+use Rattle.rule_orec.specs.OrecOwning.{clock_raised}
+use Rattle.rule_orec.specs.OrecSteps.{orec_raise_clock, CanOrecRaiseClock}
 use Rattle.stm_gate.specs.Leaving.{CanLeave, left}
 use Rattle.stm_gate.specs.LeavingLaws.{IsUnmade}
 use Rattle.stm_gate.specs.Logging.{item-touched}
@@ -22,7 +22,7 @@ use Rattle.stm_gate.specs.Peeling.{no-items}
 use Rattle.stm_rule.specs.declared.local.Local.{Local}
 use Rattle.stm_rule.specs.Attempts.{IsOutside}
 use Rattle.steps_orec.specs.RecordFindings.{FindsClock}
-use Rattle.alg_orec.specs.EagerEnding.{restoring, AllBelow, CanRestoreAll, RestoresAll, IsNewest, CanReleaseAbove, CanGiveBack, GivesBack, CanTakeBack, TakesBack}
+use Rattle.alg_orec.specs.EagerEnding.{restoring, AllBelow, CanRestoreAll, RestoresAll, IsNewest, CanReleaseAbove, CanGiveBack, GivesBack, CanAbortEager, AbortsEager}
 use Rattle.alg_orec.specs.Locking.{holding_still, ReleasesAll}
 
 pub length-none : (ws : List (ℕ × ℕ)) → length ws ≡ 0 → ws ≡ []
@@ -41,8 +41,8 @@ module _ (ws : List (ℕ × ℕ)) (held : List Cell) (is : ws ≡ items held) (x
   newest-low some below = let o = newest-one some in let b = below o.0 o.1 in let e = o.2 in omega arith
 
 -- the clock was found, and raised where it was lower
-abbrev pub lift_item : ℕ → ℕ → TrailItem
-lift_item least found = record { place = Clock; act = Raise least; found = Some found }
+abbrev pub raise_clock_item : ℕ → ℕ → TracedStep
+raise_clock_item least found = record { place = Clock; act = Raise least; found = Some found }
 
 module _ (c : Config) (l : Local) (v : View) (k : CanGiveBack c l v) where
   -- no record is held
@@ -62,17 +62,17 @@ module _ (c : Config) (l : Local) (v : View) (k : CanGiveBack c l v) where
     pub low : x < CLOCK_LIMIT
     low = newest-low l.locks.items v.owned.held k.locks x top some k.below
 
-    pub may-lift : (least : ℕ) → least ≡ x + 1 → CanOrecLift least u
-    may-lift least is = subst (CanOrecLift least) (sym h.is) (record {
+    pub may-raise_clock : (least : ℕ) → least ≡ x + 1 → CanOrecRaiseClock least u
+    may-raise_clock least is = subst (CanOrecRaiseClock least) (sym h.is) (record {
       has = record { runs = record { phase = k.opens.has.runs.phase; algorithm = k.opens.has.runs.algorithm; plain = k.opens.has.runs.plain }; inside = k.opens.has.inside };
       restored = refl;
-      uncalm = λ calm. (let b = k.earlier calm one.0 one.1 in let e = one.2 in omega arith);
+      not_quiescent = λ quiescent. (let b = k.earlier quiescent one.0 one.1 in let e = one.2 in omega arith);
       limit = (let b = low in omega arith);
       above = λ r t. (let m = most r t in omega arith);
       greatest = (one.0, one.1, (let e = one.2 in omega arith));
     })
 
-    module _ (least found : ℕ) (w : View) (t : Tells (orec_lift least) (FindsClock c) u found w) where
+    module _ (least found : ℕ) (w : View) (t : Tells (orec_raise_clock least) (FindsClock c) u found w) where
       abbrev restored : View
       restored = restoring v [] h.more
 
@@ -80,17 +80,17 @@ module _ (c : Config) (l : Local) (v : View) (k : CanGiveBack c l v) where
       raised b = if b then v.steps.rises + 1 else v.steps.rises
 
       abbrev risen : Bool → View
-      risen b = record v { owned = record v.owned { in_place = []; undo = []; raised = true }; steps = record v.steps { rises = raised b; trail = lift_item least found ∷ (h.more ++ v.steps.trail) } }
+      risen b = record v { owned = record v.owned { in_place = []; undo = []; raised = true }; steps = record v.steps { rises = raised b; step_trace = raise_clock_item least found ∷ (h.more ++ v.steps.step_trace) } }
 
-      lift_path : w ≡ risen (ltb found least)
-      lift_path = t.2 ∙ (ap (λ (y : View). record y { owned = lifted y.owned; steps = record (if ltb found least then record y.steps { rises = y.steps.rises + 1 } else y.steps) { trail = lift_item least found ∷ (if ltb found least then record y.steps { rises = y.steps.rises + 1 } else y.steps).trail } }) h.is ∙ by (ltb found least))
+      raise_clock_path : w ≡ risen (ltb found least)
+      raise_clock_path = t.2 ∙ (ap (λ (y : View). record y { owned = clock_raised y.owned; steps = record (if ltb found least then record y.steps { rises = y.steps.rises + 1 } else y.steps) { step_trace = raise_clock_item least found ∷ (if ltb found least then record y.steps { rises = y.steps.rises + 1 } else y.steps).step_trace } }) h.is ∙ by (ltb found least))
         where
-          by : (b : Bool) → record restored { owned = lifted restored.owned; steps = record (if b then record restored.steps { rises = restored.steps.rises + 1 } else restored.steps) { trail = lift_item least found ∷ (if b then record restored.steps { rises = restored.steps.rises + 1 } else restored.steps).trail } } ≡ risen b
+          by : (b : Bool) → record restored { owned = clock_raised restored.owned; steps = record (if b then record restored.steps { rises = restored.steps.rises + 1 } else restored.steps) { step_trace = raise_clock_item least found ∷ (if b then record restored.steps { rises = restored.steps.rises + 1 } else restored.steps).step_trace } } ≡ risen b
           by true = refl
           by false = refl
 
       pub may-release : CanReleaseAbove c l w
-      may-release = subst (CanReleaseAbove c l) (sym lift_path) (record {
+      may-release = subst (CanReleaseAbove c l) (sym raise_clock_path) (record {
         has = record { runs = record { phase = k.opens.has.runs.phase; algorithm = k.opens.has.runs.algorithm; plain = k.opens.has.runs.plain }; inside = k.opens.has.inside };
         open_yet = k.opens.open_yet;
         raised = refl;
@@ -105,9 +105,9 @@ module _ (c : Config) (l : Local) (v : View) (k : CanGiveBack c l v) where
       gives-all z q = record {
         owned = record v.owned { in_place = []; undo = []; raised = true; held = [] };
         rises = raised (ltb found least);
-        more = q.more ++ lift_item least found ∷ h.more;
-        is = q.is ∙ (ap (λ (y : View). holding_still y [] q.more) lift_path
-            ∙ ap (λ (s : List TrailItem). record v { owned = record v.owned { in_place = []; undo = []; raised = true; held = [] }; steps = record v.steps { rises = raised (ltb found least); trail = s } }) (sym (append_assoc q.more (lift_item least found ∷ h.more) v.steps.trail)));
+        more = q.more ++ raise_clock_item least found ∷ h.more;
+        is = q.is ∙ (ap (λ (y : View). holding_still y [] q.more) raise_clock_path
+            ∙ ap (λ (s : List TracedStep). record v { owned = record v.owned { in_place = []; undo = []; raised = true; held = [] }; steps = record v.steps { rises = raised (ltb found least); step_trace = s } }) (sym (append_assoc q.more (raise_clock_item least found ∷ h.more) v.steps.step_trace)));
         handed = refl;
         rose = by (ltb found least);
         level = λ e. absurd (let f : l.locks.items ≡ [] = k.locks ∙ ap items e in let g = ap (λ (ws : List (ℕ × ℕ)). length ws) f in omega arith);
@@ -118,7 +118,7 @@ module _ (c : Config) (l : Local) (v : View) (k : CanGiveBack c l v) where
           by false = (omega arith, omega arith)
 
 -- the attempt ends
-module _ (c : Config) (l : Local) (v : View) (k : CanTakeBack c l v) (u : View) (h : GivesBack v u) where
+module _ (c : Config) (l : Local) (v : View) (k : CanAbortEager c l v) (u : View) (h : GivesBack v u) where
   pub may-leave : CanLeave u
   may-leave = subst CanLeave (sym h.is) (record {
     phase = k.gives.opens.has.runs.phase;
@@ -133,11 +133,11 @@ module _ (c : Config) (l : Local) (v : View) (k : CanTakeBack c l v) (u : View) 
     marked = λ e q. absurd (let f : true ≡ false = sym q ∙ k.unentered in cc);
   })
 
-  pub takes-back : (n : ℕ) (z : View) → IsOutside z → z ≡ left n u → TakesBack n v z
+  pub takes-back : (n : ℕ) (z : View) → IsOutside z → z ≡ left n u → AbortsEager n v z
   takes-back n z out is = record {
     outside = out;
     before = u;
-    unmade = subst (IsUnmade v) (sym h.is) (record { carried = record { named = refl; base = refl; installs = refl; fence = refl; trail = (h.more, refl); unlocked = k.unlocked; unwritten = k.unwritten }; history = refl });
+    unmade = subst (IsUnmade v) (sym h.is) (record { carried = record { named = refl; base = refl; installs = refl; fence = refl; step_trace = (h.more, refl); unlocked = k.unlocked; unwritten = k.unwritten }; history = refl });
     rose = subst (λ (y : View). (v.steps.rises ≤ y.steps.rises) × (y.steps.rises ≤ v.steps.rises + 1)) (sym h.is) h.rose;
     level = λ e. ap (λ (y : View). y.steps.rises) h.is ∙ h.level e;
     is = is;

@@ -16,7 +16,7 @@ use Rattle.rule_base.specs.declared.entries.Cell.{Cell}
 use Rattle.rule_base.specs.declared.entries.Entry.{Entry}
 use Rattle.rule_base.specs.declared.layout.At.TheVariants.{Clock, Record}
 use Rattle.rule_base.specs.declared.views.Act.TheVariants.{Load}
-use Rattle.rule_base.specs.declared.views.TrailItem.{TrailItem}
+use Rattle.rule_base.specs.declared.views.TracedStep.{TracedStep}
 use Rattle.rule_base.specs.declared.views.Validation.{Validation}
 use Rattle.rule_base.specs.declared.views.View.{View}
 use Rattle.rule_base.specs.Bridge.{items, of_words, public_entry, public_history}
@@ -30,7 +30,7 @@ use Rattle.rule_orec.specs.OrecOwning.{entered_at}
 use Rattle.rule_orec.specs.OrecReading.{no_check}
 use Rattle.rule_orec.specs.OrecSteps.{HasOrec, orec_entry, orec_limit, orec_commit, CanOrecCommit}
 use Rattle.stm_gate.specs.Leaving.{CanLeave, left}
-use Rattle.stm_gate.specs.LeavingLaws.{IsUnmade, unmade-refl, ended-left, trail-left, finds-full, found-later}
+use Rattle.stm_gate.specs.LeavingLaws.{IsUnmade, unmade-refl, ended-left, step_trace-left, finds-full, found-later}
 use Rattle.stm_gate.specs.Logging.{item-touched}
 use Rattle.stm_gate.specs.Opacity.{opaque-inside, later-seen}
 use Rattle.stm_gate.specs.Told.{running-by}
@@ -46,8 +46,8 @@ use Rattle.tx_answers.specs.Answers.{KeepsRule, Commits, CommitsAt, Cancels, End
 use Rattle.tx_answers.specs.Causes.{Conflicts, IsStaleAt, has_item, is_some}
 use Rattle.tx_answers.specs.Causes.Asked.{ToCommit}
 use Rattle.tx_answers.specs.Evidence.{Found}
-use Rattle.tx_answers.specs.Known.{Grows, known_of, granted_under, written_under, wrote, has_written}
-use Rattle.tx_answers.specs.KnownLaws.{grows-same}
+use Rattle.tx_answers.specs.CallerState.{Grows, known_of, granted_under, written_under, wrote, has_written}
+use Rattle.tx_answers.specs.CallerStateLaws.{grows-same}
 use Rattle.tx_logs.specs.LogStates.{LogState}
 use Rattle.alg_orec.proofs.AgainLaws as again
 use Rattle.alg_orec.proofs.AgainLaws.{tried}
@@ -58,7 +58,7 @@ use Rattle.alg_orec.proofs.LoadLaws.{untouched-loads}
 use Rattle.alg_orec.proofs.Proving.{Leads, quits-leads, full-leads, commits-leads, ends-own, with_commit}
 use Rattle.alg_orec.specs.Committing.{readied}
 use Rattle.alg_orec.specs.EagerCommitting.{CanCommitPlaced, IsRevalidated, IsOverrun, Revalidates}
-use Rattle.alg_orec.specs.EagerEnding.{CanTakeBack, TakesBack}
+use Rattle.alg_orec.specs.EagerEnding.{CanAbortEager, AbortsEager}
 use Rattle.alg_orec.specs.Locking.{OwesNothing, holding_still, ReleasesAll}
 use Rattle.alg_orec.specs.Validating.{load_of, OnlyLoads, CanValidate, HasVersions, IsFoundStale, IsHeldNewer, Refuses, IsValid, Validates}
 use Rattle.stm_gate.specs.InnerLaws.{unlocked-of}
@@ -74,7 +74,7 @@ module _ {good : List ℕ → Type 0} {c : Config} {n : ℕ} {l : Local} {v : Vi
   versions r version e = let f = item-some v.owned.held r version (sym (ap (λ (ws : List (ℕ × ℕ)). item_at r ws) k.locks) ∙ e) in let b = k.below r f.0 in let s = f.1 in omega arith
 
   -- it may be taken back after steps that changed nothing of it
-  pub may-take : (m : Local) (check : Validation) (more : List TrailItem) → m.locks ≡ l.locks → m.undo ≡ l.undo → CanTakeBack c m (record v { check = check; steps = record v.steps { trail = more ++ v.steps.trail } })
+  pub may-take : (m : Local) (check : Validation) (more : List TracedStep) → m.locks ≡ l.locks → m.undo ≡ l.undo → CanAbortEager c m (record v { check = check; steps = record v.steps { step_trace = more ++ v.steps.step_trace } })
   may-take m check more locks undo = record {
     gives = record {
       opens = record { has = record { runs = record { phase = p.inside.phase; algorithm = ap has_records p.eager; plain = k.optimistic.ungranted }; inside = k.inside }; open_yet = k.open_yet };
@@ -85,7 +85,7 @@ module _ {good : List ℕ → Type 0} {c : Config} {n : ℕ} {l : Local} {v : Vi
       locks = ap (λ (q : LogState). q.items) locks ∙ k.locks;
       places = k.places;
       below = k.below;
-      earlier = λ calm. absurd (let f : true ≡ false = sym calm ∙ k.optimistic.uncalm in cc);
+      earlier = λ quiescent. absurd (let f : true ≡ false = sym quiescent ∙ k.optimistic.not_quiescent in cc);
     };
     unlocked = k.optimistic.unlocked;
     unfixed = k.optimistic.unfixed;
@@ -95,14 +95,14 @@ module _ {good : List ℕ → Type 0} {c : Config} {n : ℕ} {l : Local} {v : Vi
     unentered = p.inside.unentered;
   }
 
-  pub may-take-here : CanTakeBack c l v
+  pub may-take-here : CanAbortEager c l v
   may-take-here = may-take l v.check [] refl refl
 
   pub clean : (o : Own) → has_written (known_of v o) ≡ false → v.owned.held ≡ []
   clean o = proving.never-held c l v k p.eager v o refl refl
 
   -- CANCEL
-  pub tells-cancelled : (z : View) (o : Own) → TakesBack n v z → Cancels good c n (Cancelled l.start) (known_of v o) (known_of z (with_commit false o))
+  pub tells-cancelled : (z : View) (o : Own) → AbortsEager n v z → Cancels good c n (Cancelled l.start) (known_of v o) (known_of z (with_commit false o))
   tells-cancelled z o g = (
     record { ends = ends-own v z o (with_commit false o) refl refl q.ends; made = q.made; is_start = q.is_start; seen = q.seen; kept = q.kept; sees = q.sees },
     (let a = rose.0 in let e = rises in omega arith),
@@ -120,7 +120,7 @@ module _ {good : List ℕ → Type 0} {c : Config} {n : ℕ} {l : Local} {v : Vi
       rose = proving.rose n v v z o p.eager k.optimistic.ungranted k.optimistic.rises refl (clean o) g
 
   -- where it was rolled back and wrote nothing else
-  pub tells-unwritten : l.wrote ≡ false → (z : View) (o : Own) → TakesBack n v z → Commits good c n (commits.ReadOnly l.start) (known_of v o) (known_of z (with_commit false o))
+  pub tells-unwritten : l.wrote ≡ false → (z : View) (o : Own) → AbortsEager n v z → Commits good c n (commits.ReadOnly l.start) (known_of v o) (known_of z (with_commit false o))
   tells-unwritten unwritten z o g = let t = tells-cancelled z o g in (t.0, (t.1, t.2), proving.wrote-known c l v k p.eager v o refl refl ∙ unwritten)
 
   pub may-commit : l.wrote ≡ true → Stands good c n l v → CanCommitPlaced good c n l v
@@ -195,17 +195,17 @@ module _ {good : List ℕ → Type 0} {c : Config} {n : ℕ} {l : Local} {v : Vi
   pub may-limit : HasOrec v
   may-limit = has-orec here
 
-  pub may-take-full : (b : Bool) (clock : ℕ) (u : View) → Tells orec_limit (FindsClock c) v clock u → CanTakeBack c (record l { committing = b }) u
-  may-take-full b clock u t = subst (CanTakeBack c (record l { committing = b })) (sym t.2) (may-take here (record l { committing = b }) v.check (load_of Clock clock ∷ []) refl refl)
+  pub may-take-full : (b : Bool) (clock : ℕ) (u : View) → Tells orec_limit (FindsClock c) v clock u → CanAbortEager c (record l { committing = b }) u
+  may-take-full b clock u t = subst (CanAbortEager c (record l { committing = b })) (sym t.2) (may-take here (record l { committing = b }) v.check (load_of Clock clock ∷ []) refl refl)
 
-  pub tells-full : (o : Own) (clock : ℕ) (u z : View) → CLOCK_LIMIT ≤ l.start → Tells orec_limit (FindsClock c) v clock u → TakesBack n u z → Commits good c n (commits.ClockFull clock) (known_of v o) (known_of z (with_commit false o))
+  pub tells-full : (o : Own) (clock : ℕ) (u z : View) → CLOCK_LIMIT ≤ l.start → Tells orec_limit (FindsClock c) v clock u → AbortsEager n u z → Commits good c n (commits.ClockFull clock) (known_of v o) (known_of z (with_commit false o))
   tells-full o clock u z high t g = let f = proving.ended-by n u z g in (
     proving.quits-back n v u z o eager kept.optimistic.ungranted kept.optimistic.rises (ap (λ (y : View). y.steps.rises) t.2) (λ e. ap (λ (y : View). y.owned.held) t.2 ∙ clean here o e) g
-        (subst (IsUnmade v) (sym t.2) (record { carried = record { named = refl; base = refl; installs = refl; fence = refl; trail = (load_of Clock clock ∷ [], refl); unlocked = kept.optimistic.unlocked; unwritten = kept.optimistic.unwritten }; history = refl })),
+        (subst (IsUnmade v) (sym t.2) (record { carried = record { named = refl; base = refl; installs = refl; fence = refl; step_trace = (load_of Clock clock ∷ [], refl); unlocked = kept.optimistic.unlocked; unwritten = kept.optimistic.unwritten }; history = refl })),
     ap asks_at_commit eager,
     wrote_is o,
     finds-full clock v z o (with_commit false o) (let a = t.1.started in let b = i.start in omega arith)
-        (found-later Clock clock (known_of v o) (known_of u o) (known_of z (with_commit false o)) (load_of Clock clock ∷ [], ap (λ (y : View). y.steps.trail) t.2, Load, (0, omega arith, refl)) f.0 f.1),
+        (found-later Clock clock (known_of v o) (known_of u o) (known_of z (with_commit false o)) (load_of Clock clock ∷ [], ap (λ (y : View). y.steps.step_trace) t.2, Load, (0, omega arith, refl)) f.0 f.1),
   )
 
   -- THE ENTRY
@@ -221,7 +221,7 @@ module _ {good : List ℕ → Type 0} {c : Config} {n : ℕ} {l : Local} {v : Vi
   pub may-enter : (o : Own) → l.start < CLOCK_LIMIT → KeepsRule good c n (known_of v o) → CanOrecCommit (home_of c) rule c.words l.start ws [] v
   may-enter o under keeps = record {
     has = may-limit;
-    uncalm = kept.optimistic.uncalm;
+    not_quiescent = kept.optimistic.not_quiescent;
     from = sym i.start;
     limit = omega arith;
     ready = record {
@@ -242,7 +242,7 @@ module _ {good : List ℕ → Type 0} {c : Config} {n : ℕ} {l : Local} {v : Vi
   abbrev exchanged : World → ℕ → Bool → View
   exchanged w now b = record v {
     history = if b then record v.history { made = orec_entry n (l.start + 1) ws v ∷ v.history.made; seen = orec_entry n (l.start + 1) ws v ∷ w.history; front = l.start + 1 } else v.history;
-    steps = record v.steps { rises = if b then v.steps.rises + 1 else v.steps.rises; trail = tried l.start now ∷ v.steps.trail };
+    steps = record v.steps { rises = if b then v.steps.rises + 1 else v.steps.rises; step_trace = tried l.start now ∷ v.steps.step_trace };
     owned = if b then entered_at (l.start + 1) [] v.owned else v.owned;
   }
 
@@ -251,14 +251,14 @@ module _ {good : List ℕ → Type 0} {c : Config} {n : ℕ} {l : Local} {v : Vi
     where
       by : (d : Bool) → record v {
         history = if d then record v.history { made = orec_entry n (l.start + 1) ws v ∷ v.history.made; seen = orec_entry n (l.start + 1) ws v ∷ t.0.history; front = l.start + 1 } else v.history;
-        steps = record (if d then record v.steps { rises = v.steps.rises + 1 } else v.steps) { trail = tried l.start now ∷ (if d then record v.steps { rises = v.steps.rises + 1 } else v.steps).trail };
+        steps = record (if d then record v.steps { rises = v.steps.rises + 1 } else v.steps) { step_trace = tried l.start now ∷ (if d then record v.steps { rises = v.steps.rises + 1 } else v.steps).step_trace };
         owned = if d then entered_at (l.start + 1) [] v.owned else v.owned;
       } ≡ exchanged t.0 now d
       by true = refl
       by false = refl
 
   -- it didn't: the attempt stands as before
-  pub refused_path : (now : ℕ) (u : View) → now ≢ l.start → Tells (orec_commit n l.start ws []) (FindsCommit rule c n l.start ws) v now u → u ≡ record v { steps = record v.steps { trail = tried l.start now ∷ v.steps.trail } }
+  pub refused_path : (now : ℕ) (u : View) → now ≢ l.start → Tells (orec_commit n l.start ws []) (FindsCommit rule c n l.start ws) v now u → u ≡ record v { steps = record v.steps { step_trace = tried l.start now ∷ v.steps.step_trace } }
   refused_path now u apart t = exchange_path now u false (grind (arith, nat_tests)) t
 
   pub refused-others : n < c.callers → (now : ℕ) (u : View) → now ≢ l.start → Tells (orec_commit n l.start ws []) (FindsCommit rule c n l.start ws) v now u → 1 < c.callers
@@ -327,8 +327,8 @@ module _ {good : List ℕ → Type 0} {c : Config} {n : ℕ} {l : Local} {v : Vi
           as_entry : public_entry made ≡ entry (l.start + 1) n (length (public_history v.history.made)) (known_of v o).log
           as_entry = λ j. record { time = l.start + 1; caller = n; number = sym (length-public_history v.history.made) j; reads = items v.attempt.reads; writes = sym (written_is o) j }
 
-          trail : (more : List TrailItem) × ((left n gives).steps.trail ≡ more ++ gives.steps.trail)
-          trail = trail-left n gives gives (record { named = refl; base = refl; installs = refl; fence = refl; trail = ([], refl); unlocked = kept.optimistic.unlocked; unwritten = kept.optimistic.unwritten })
+          step_trace : (more : List TracedStep) × ((left n gives).steps.step_trace ≡ more ++ gives.steps.step_trace)
+          step_trace = step_trace-left n gives gives (record { named = refl; base = refl; installs = refl; fence = refl; step_trace = ([], refl); unlocked = kept.optimistic.unlocked; unwritten = kept.optimistic.unwritten })
 
           grown : Grows (known_of v o) (known_of (left n gives) (with_commit false o))
           grown = record {
@@ -337,15 +337,15 @@ module _ {good : List ℕ → Type 0} {c : Config} {n : ℕ} {l : Local} {v : Vi
             ascending = ((let a = i.front in omega arith), tt);
             up_to = (omega arith, tt);
             front_rose = (let a = i.front in omega arith);
-            more = trail.0 ++ (q.more ++ tried l.start now ∷ []);
-            trail = trail.1 ∙ (ap (λ (s : List TrailItem). trail.0 ++ s) (sym (append_assoc q.more (tried l.start now ∷ []) v.steps.trail)) ∙ sym (append_assoc trail.0 (q.more ++ tried l.start now ∷ []) v.steps.trail));
+            more = step_trace.0 ++ (q.more ++ tried l.start now ∷ []);
+            step_trace = step_trace.1 ∙ (ap (λ (s : List TracedStep). step_trace.0 ++ s) (sym (append_assoc q.more (tried l.start now ∷ []) v.steps.step_trace)) ∙ sym (append_assoc step_trace.0 (q.more ++ tried l.start now ∷ []) v.steps.step_trace));
             reads_limit = refl;
             writes_limit = refl;
             fenced = refl;
           }
 
   -- the attempt stands where its reads are valid at a start, in the middle of its commit or not
-  module _ (start : ℕ) (mid : Bool) (seen : List Entry) (loaded : Bool) (check : Validation) (more : List TrailItem) where
+  module _ (start : ℕ) (mid : Bool) (seen : List Entry) (loaded : Bool) (check : Validation) (more : List TracedStep) where
     abbrev q : Local
     q = record l { start = start; committing = mid }
 
@@ -369,7 +369,7 @@ module _ {good : List ℕ → Type 0} {c : Config} {n : ℕ} {l : Local} {v : Vi
       steady = λ e. absurd (let f : (not (asks_at_commit OrecEager) || false) ≡ true = subst (λ (b : Bool). (not (asks_at_commit OrecEager) || b) ≡ true) can.plain (subst (λ (a : Alg). (not (asks_at_commit a) || l.granted) ≡ true) can.eager e) in cc);
       spared = record { is = i.spared.is; fits = i.spared.fits };
       keeps = subst (λ (a : Alg). attempts.Keeps c a l.granted q y) (sym can.eager) (subst (λ (b : Bool). attempts.Keeps c OrecEager b q y) (sym can.plain) (record {
-        optimistic = record { unlocked = kept.optimistic.unlocked; unfixed = kept.optimistic.unfixed; unwritten = kept.optimistic.unwritten; uncommitted = kept.optimistic.uncommitted; ungranted = kept.optimistic.ungranted; uncalm = kept.optimistic.uncalm; unstored = kept.optimistic.unstored; rises = kept.optimistic.rises };
+        optimistic = record { unlocked = kept.optimistic.unlocked; unfixed = kept.optimistic.unfixed; unwritten = kept.optimistic.unwritten; uncommitted = kept.optimistic.uncommitted; ungranted = kept.optimistic.ungranted; not_quiescent = kept.optimistic.not_quiescent; unstored = kept.optimistic.unstored; rises = kept.optimistic.rises };
         inside = kept.inside;
         eager = kept.eager;
         open_yet = kept.open_yet;
@@ -398,8 +398,8 @@ module _ {good : List ℕ → Type 0} {c : Config} {n : ℕ} {l : Local} {v : Vi
     }
 
   -- AGAIN: it is in the middle
-  pub stays-on : (more : List TrailItem) → IsInside good c n (record l { committing = true }) (record v { steps = record v.steps { trail = more ++ v.steps.trail } })
-  stays-on more = subst (IsInside good c n (record l { committing = true })) (λ j. record v { history = record v.history { front = sym i.front j }; attempt = record v.attempt { start = sym i.start j }; steps = record v.steps { trail = more ++ v.steps.trail } })
+  pub stays-on : (more : List TracedStep) → IsInside good c n (record l { committing = true }) (record v { steps = record v.steps { step_trace = more ++ v.steps.step_trace } })
+  stays-on more = subst (IsInside good c n (record l { committing = true })) (λ j. record v { history = record v.history { front = sym i.front j }; attempt = record v.attempt { start = sym i.start j }; steps = record v.steps { step_trace = more ++ v.steps.step_trace } })
       (stays-at l.start true v.history.seen v.sample.loaded v.check more i.legal i.below i.sees kept.olds kept.sole)
 
   -- THE VALIDATION: it wasn't asked for
@@ -436,7 +436,7 @@ module _ {good : List ℕ → Type 0} {c : Config} {n : ℕ} {l : Local} {v : Vi
       y = readied v h.history m.start v.owned.held false no_check h.more
 
       found : (p : Own) → Found Clock m.start (known_of v p) (known_of w p)
-      found p = (h.more, ap (λ (z : View). z.steps.trail) h.is, Load, h.found)
+      found p = (h.more, ap (λ (z : View). z.steps.step_trace) h.is, Load, h.found)
 
       grown : (p : Own) → Grows (known_of v p) (known_of y p)
       grown p = let d = later-seen h.history v.history.front m.start h.moves.below h.moves.front in record {
@@ -446,7 +446,7 @@ module _ {good : List ℕ → Type 0} {c : Config} {n : ℕ} {l : Local} {v : Vi
         up_to = d.3;
         front_rose = h.moves.front;
         more = h.more;
-        trail = refl;
+        step_trace = refl;
         reads_limit = refl;
         writes_limit = refl;
         fenced = refl;
@@ -468,7 +468,7 @@ module _ {good : List ℕ → Type 0} {c : Config} {n : ℕ} {l : Local} {v : Vi
   }
     where
       y : View
-      y = record v { check = w.check; steps = record v.steps { trail = h.more ++ v.steps.trail } }
+      y = record v { check = w.check; steps = record v.steps { step_trace = h.more ++ v.steps.step_trace } }
 
       mine : IsHeldNewer c n index word start v → ⊥
       mine f = let old = kept.olds index f.held in let s = h.start in let b = i.start in let late = f.newer in absurd (omega arith)
@@ -482,7 +482,7 @@ module _ {good : List ℕ → Type 0} {c : Config} {n : ℕ} {l : Local} {v : Vi
       told p q owed (inl f) = (
         ap has_records eager,
         h.start,
-        record { early = f.early; act = Load; late = []; trail = ap (λ (s : List TrailItem). s ++ v.steps.trail) f.last; untouched = untouched-loads (Record index) f.early (early f.last) },
+        record { early = f.early; act = Load; late = []; step_trace = ap (λ (s : List TracedStep). s ++ v.steps.step_trace) f.last; untouched = untouched-loads (Record index) f.early (early f.last) },
         inr (inl owed, (h.a, h.home, read), subst (λ (s : ℕ). IsStaleAt c n s word) h.start f.stale),
       )
         where
@@ -500,13 +500,13 @@ module _ {good : List ℕ → Type 0} {c : Config} {n : ℕ} {l : Local} {v : Vi
   revalidates mid (Err cause) m w h = revalidates-stale mid cause m w h.0 h.1
 
   -- and the attempt is taken back
-  pub may-take-overrun : (cause : causes.the_data) (m : Local) (w : View) → IsOverrun good c n cause l v m w → CanTakeBack c m w
-  may-take-overrun cause m w h = subst (λ (d : Local). CanTakeBack c d w) (sym h.local) (subst (CanTakeBack c l) (sym h.is) (may-take here l h.check h.more refl refl))
+  pub may-take-overrun : (cause : causes.the_data) (m : Local) (w : View) → IsOverrun good c n cause l v m w → CanAbortEager c m w
+  may-take-overrun cause m w h = subst (λ (d : Local). CanAbortEager c d w) (sym h.local) (subst (CanAbortEager c l) (sym h.is) (may-take here l h.check h.more refl refl))
 
-  pub tells-stopped : (o : Own) → o.committing ≡ l.committing → (cause : causes.the_data) (m : Local) (u z : View) → IsOverrun good c n cause l v m u → TakesBack n u z → Commits good c n (commits.Conflict cause) (known_of v o) (known_of z (with_commit false o))
+  pub tells-stopped : (o : Own) → o.committing ≡ l.committing → (cause : causes.the_data) (m : Local) (u z : View) → IsOverrun good c n cause l v m u → AbortsEager n u z → Commits good c n (commits.Conflict cause) (known_of v o) (known_of z (with_commit false o))
   tells-stopped o mid cause m u z h g = let t = proving.ended-by n u z g in (
     proving.quits-back n v u z o eager kept.optimistic.ungranted kept.optimistic.rises (ap (λ (y : View). y.steps.rises) h.is) (λ e. ap (λ (y : View). y.owned.held) h.is ∙ clean here o e) g
-        (subst (IsUnmade v) (sym h.is) (record { carried = record { named = refl; base = refl; installs = refl; fence = refl; trail = (h.more, refl); unlocked = kept.optimistic.unlocked; unwritten = kept.optimistic.unwritten }; history = refl })),
+        (subst (IsUnmade v) (sym h.is) (record { carried = record { named = refl; base = refl; installs = refl; fence = refl; step_trace = (h.more, refl); unlocked = kept.optimistic.unlocked; unwritten = kept.optimistic.unwritten }; history = refl })),
     proving.conflicts-later c n ToCommit cause (known_of v o) (known_of u o) (known_of z (with_commit false o)) (ap has_records eager) t.0 t.1 (h.conflicts o o mid),
     h.others,
     wrote_is o,
@@ -559,8 +559,8 @@ module _ {good : List ℕ → Type 0} {c : Config} {n : ℕ} {l : Local} {v : Vi
   pub keeps-ready : (o : Own) → KeepsRule good c n (known_of v o) → KeepsRule good c n (known_of w o)
   keeps-ready o keeps wrote = let a = leads-ready o in subst (λ (g : Log). logs.Keeps good c.words g) (sym a.log) (keeps (ap (λ (g : Log). not (is_empty g.writes)) (sym a.log) ∙ wrote))
 
-  -- the ends behind it, as seen from the call
-  pub full-call : (o : Own) (clock : ℕ) (u z : View) → CLOCK_LIMIT ≤ m.start → Tells orec_limit (FindsClock c) w clock u → TakesBack n u z → Commits good c n (commits.ClockFull clock) (known_of v o) (known_of z (with_commit false o))
+  -- the ends after it, as seen from the call
+  pub full-call : (o : Own) (clock : ℕ) (u z : View) → CLOCK_LIMIT ≤ m.start → Tells orec_limit (FindsClock c) w clock u → AbortsEager n u z → Commits good c n (commits.ClockFull clock) (known_of v o) (known_of z (with_commit false o))
   full-call o clock u z high t g = let q = tells-full can-ready o clock u z high t g in (
     quits-leads (known_of v o) (known_of w o) (known_of z (with_commit false o)) (leads-ready o) q.0,
     ap asks_at_commit named,
@@ -577,7 +577,7 @@ module _ {good : List ℕ → Type 0} {c : Config} {n : ℕ} {l : Local} {v : Vi
 
   -- AGAIN: another commit was faster
   module _ (now : ℕ) (u : View) (apart : now ≢ m.start) (t : Tells (orec_commit n m.start placed []) (FindsCommit (of_words good c.words) c n m.start placed) w now u) where
-    still_path : u ≡ record w { steps = record w.steps { trail = tried m.start now ∷ w.steps.trail } }
+    still_path : u ≡ record w { steps = record w.steps { step_trace = tried m.start now ∷ w.steps.step_trace } }
     still_path = refused_path can-ready now u apart t
 
     pub stays-again : IsInside good c n (record m { committing = true }) u

@@ -13,7 +13,7 @@ use Rattle.rule_base.specs.declared.layout.At.TheVariants.{Clock, Base, Done}
 use Rattle.rule_base.specs.declared.views.Act.TheVariants.{Store}
 use Rattle.rule_base.specs.declared.views.Phase.TheVariants.{In}
 use Rattle.rule_base.specs.declared.views.SeenHistory.{SeenHistory}
-use Rattle.rule_base.specs.declared.views.TrailItem.{TrailItem}
+use Rattle.rule_base.specs.declared.views.TracedStep.{TracedStep}
 use Rattle.rule_base.specs.declared.views.View.{View}
 use Rattle.rule_base.specs.Bridge.{items, of_words}
 use Rattle.rule_base.specs.History.{Inside}
@@ -21,7 +21,7 @@ use Rattle.rule_base.specs.InstallSteps.{store_base, store_done, CanMark}
 use Rattle.rule_base.specs.Own.{Own}
 use Rattle.rule_base.specs.StepKinds.{Nothing, Tells, view_after}
 use Rattle.rule_base.specs.World.{World}
-use Rattle.rule_orec.specs.OrecOwning.{lifted}
+use Rattle.rule_orec.specs.OrecOwning.{clock_raised}
 use Rattle.rule_seq.specs.CglSteps.{Commits, cgl_entry}
 use Rattle.rule_promoted.specs.PromotedSteps.{direct_commit}
 use Rattle.stm_gate.specs.InnerLaws.{written-granted}
@@ -31,22 +31,22 @@ use Rattle.stm_gate.specs.Logging.{wrote-some}
 use Rattle.stm_gate.specs.Opacity.{opaque-inside}
 use Rattle.stm_gate.specs.Peeling.{no-items}
 use Rattle.steps_orec.specs.RecordFindings.{FindsStill}
-use Rattle.rule_promoted.specs.RaisingSteps.{direct_lift, CanDirectLift}
+use Rattle.rule_promoted.specs.RaisingSteps.{direct_raise_clock, CanDirectRaiseClock}
 use Rattle.stm_rule.specs.declared.local.Local.{Local}
 use Rattle.stm_rule.specs.Attempts.{Keeps, IsInside}
 use Rattle.stm_rule.specs.EagerKept.{IsEagerPromoted}
 use Rattle.tx_answers.specs.declared.answers.Commit.TheVariants.{ReadOnly}
 use Rattle.tx_answers.specs.Answers.{CommitsAt}
 use Rattle.tx_answers.specs.Answers as answers
-use Rattle.tx_answers.specs.Known.{known_of, granted_under, written_under, wrote, has_written}
+use Rattle.tx_answers.specs.CallerState.{known_of, granted_under, written_under, wrote, has_written}
 use Rattle.alg_orec.proofs.CommitOpening.{Promoted}
-use Rattle.alg_orec.proofs.EagerBackLaws.{length-none, lift_item, newest-low, newest-most, newest-one}
+use Rattle.alg_orec.proofs.EagerBackLaws.{length-none, raise_clock_item, newest-low, newest-most, newest-one}
 use Rattle.alg_orec.proofs.EagerProving.{none-saved, rose-by}
 use Rattle.alg_orec.specs.EagerCommitting.{CanGiveDirect, CanGiveAbove, GivesAbove}
 use Rattle.alg_orec.specs.EagerEnding.{AllBelow, IsNewest}
 use Rattle.alg_orec.specs.Locking.{holding_still, ReleasesAll}
 
-abbrev stored : At → ℕ → TrailItem
+abbrev stored : At → ℕ → TracedStep
 stored place t = record { place = place; act = Store t; found = None }
 
 module _ {good : List ℕ → Type 0} {c : Config} {n : ℕ} {l : Local} {v : View} (p : Promoted good c n l v) where
@@ -124,7 +124,7 @@ module _ {good : List ℕ → Type 0} {c : Config} {n : ℕ} {l : Local} {v : Vi
             base = ap (λ (u : View). u.steps.rises_at_begin) q.is;
             installs = ap (λ (u : View). u.steps.installs) q.is;
             fence = ap (λ (u : View). u.fence) q.is;
-            trail = (q.more, q.trail);
+            step_trace = (q.more, q.step_trace);
             unlocked = ap (λ (u : View). u.lock.taken) q.is ∙ k.unlocked;
             unwritten = ap (λ (u : View). u.tml.writer) q.is ∙ k.unwritten;
           };
@@ -135,7 +135,7 @@ module _ {good : List ℕ → Type 0} {c : Config} {n : ℕ} {l : Local} {v : Vi
   abbrev pub raised : ℕ → SeenHistory → View
   raised t h = record v {
     history = h;
-    steps = record v.steps { rises = v.steps.rises + entry_rise l.algorithm; trail = stored Clock t ∷ v.steps.trail };
+    steps = record v.steps { rises = v.steps.rises + entry_rise l.algorithm; step_trace = stored Clock t ∷ v.steps.step_trace };
     gate = record v.gate { time = t; rebased = false; completed = false };
     attempt = record { start = t; reads = []; stores = []; entered = true };
   }
@@ -163,14 +163,14 @@ module _ {good : List ℕ → Type 0} {c : Config} {n : ℕ} {l : Local} {v : Vi
       may-base = subst (CanMark t) (sym y_path)
           (record {
             closing = λ e. absurd (let f : true ≡ false = sym k.granted ∙ e in cc);
-            calm = k.calm;
+            quiescent = k.quiescent;
             time = refl;
           })
 
       module _ (u : View) (b : Tells (store_base t) Nothing y t u) where
         pub may-done : CanMark t u
         may-done = let m = may-base in subst (CanMark t) (sym b.2)
-            (record { closing = m.closing; calm = m.calm; time = m.time })
+            (record { closing = m.closing; quiescent = m.quiescent; time = m.time })
 
         module _ (x : View) (d : Tells (store_done t) Nothing u t x) where
           abbrev pub last : View
@@ -200,10 +200,10 @@ module _ {good : List ℕ → Type 0} {c : Config} {n : ℕ} {l : Local} {v : Vi
             base = refl;
             installs = refl;
             fence = refl;
-            trail = (
+            step_trace = (
               stored Done t ∷ stored Base t ∷ (q.more ++ stored Clock t ∷ []),
-              ap (λ (r : List TrailItem). stored Done t ∷ stored Base t ∷ r)
-                  (sym (append_assoc q.more (stored Clock t ∷ []) v.steps.trail)),
+              ap (λ (r : List TracedStep). stored Done t ∷ stored Base t ∷ r)
+                  (sym (append_assoc q.more (stored Clock t ∷ []) v.steps.step_trace)),
             );
             unlocked = k.unlocked;
             unwritten = k.unwritten;
@@ -233,7 +233,7 @@ module _ {good : List ℕ → Type 0} {c : Config} {n : ℕ} {l : Local} {v : Vi
       (let m = entry-some l.algorithm in let b = i.front in omega arith) (k.dirty dirty) (written-here o))
 
 -- the clock is above the versions that its records had, and no entry was made
-pub record IsLifted (c : Config) (l : Local) (v : View) : Type 0 where
+pub record IsClockRaised (c : Config) (l : Local) (v : View) : Type 0 where
   pub phase : v.gate.phase ≡ In
   pub granted : v.gate.granted ≡ true
   pub eager : v.gate.algorithm ≡ OrecEager
@@ -249,7 +249,7 @@ module _ (c : Config) (l : Local) (v : View) (k : CanGiveAbove c l v) where
   gives-none none = record {
     is = refl;
     more = [];
-    trail = refl;
+    step_trace = refl;
     handed = no-items v.owned.held (sym k.locks ∙ length-none l.locks.items none);
     unstored = k.unwritten;
     unentered = k.unentered;
@@ -259,8 +259,8 @@ module _ (c : Config) (l : Local) (v : View) (k : CanGiveAbove c l v) where
   }
 
   module _ (some : 0 < length l.locks.items) (x : ℕ) (top : IsNewest x l.locks.items) where
-    pub may-lift : (least : ℕ) → least ≡ x + 1 → CanDirectLift least v
-    may-lift least is = let one = newest-one l.locks.items v.owned.held k.locks x top some in record {
+    pub may-raise_clock : (least : ℕ) → least ≡ x + 1 → CanDirectRaiseClock least v
+    may-raise_clock least is = let one = newest-one l.locks.items v.owned.held k.locks x top some in record {
       phase = k.phase;
       granted = k.granted;
       named = k.eager;
@@ -271,7 +271,7 @@ module _ (c : Config) (l : Local) (v : View) (k : CanGiveAbove c l v) where
       greatest = (one.0, one.1, (let e = one.2 in omega arith));
     }
 
-    module _ (least found : ℕ) (w : View) (t : Tells (direct_lift least) (FindsStill c) v found w) where
+    module _ (least found : ℕ) (w : View) (t : Tells (direct_raise_clock least) (FindsStill c) v found w) where
       abbrev raised_to : Bool → ℕ
       raised_to b = if b then v.steps.rises + 1 else v.steps.rises
 
@@ -280,34 +280,34 @@ module _ (c : Config) (l : Local) (v : View) (k : CanGiveAbove c l v) where
         history = record v.history { front = max found least };
         gate = record v.gate { time = max found least; rebased = false; completed = false };
         attempt = record { start = max found least; reads = []; stores = []; entered = false };
-        owned = lifted v.owned;
-        steps = record v.steps { rises = raised_to b; trail = lift_item least found ∷ v.steps.trail };
+        owned = clock_raised v.owned;
+        steps = record v.steps { rises = raised_to b; step_trace = raise_clock_item least found ∷ v.steps.step_trace };
       }
 
-      lift_path : w ≡ risen (ltb found least)
-      lift_path = t.2 ∙ by (ltb found least)
+      raise_clock_path : w ≡ risen (ltb found least)
+      raise_clock_path = t.2 ∙ by (ltb found least)
         where
           by : (b : Bool) → record v {
             history = record v.history { front = max found least };
             gate = record v.gate { time = max found least; rebased = false; completed = false };
             attempt = record { start = max found least; reads = []; stores = []; entered = false };
-            owned = lifted v.owned;
-            steps = record (if b then record v.steps { rises = v.steps.rises + 1 } else v.steps) { trail = lift_item least found ∷ (if b then record v.steps { rises = v.steps.rises + 1 } else v.steps).trail };
+            owned = clock_raised v.owned;
+            steps = record (if b then record v.steps { rises = v.steps.rises + 1 } else v.steps) { step_trace = raise_clock_item least found ∷ (if b then record v.steps { rises = v.steps.rises + 1 } else v.steps).step_trace };
           } ≡ risen b
           by true = refl
           by false = refl
 
-      pub lift-trail : w.steps.trail ≡ lift_item least found ∷ v.steps.trail
-      lift-trail = ap (λ (y : View). y.steps.trail) lift_path
+      pub raise_clock-step_trace : w.steps.step_trace ≡ raise_clock_item least found ∷ v.steps.step_trace
+      raise_clock-step_trace = ap (λ (y : View). y.steps.step_trace) raise_clock_path
 
-      pub is-lifted : IsLifted c l w
-      is-lifted = subst (IsLifted c l) (sym lift_path) (record { phase = k.phase; granted = k.granted; eager = k.eager; unentered = refl; raised = refl; locks = k.locks; places = k.places; below = k.below })
+      pub is-clock_raised : IsClockRaised c l w
+      is-clock_raised = subst (IsClockRaised c l) (sym raise_clock_path) (record { phase = k.phase; granted = k.granted; eager = k.eager; unentered = refl; raised = refl; locks = k.locks; places = k.places; below = k.below })
 
       pub gives-above : (z : View) → ReleasesAll w z → GivesAbove v z
-      gives-above z q = subst (GivesAbove v) (sym (q.is ∙ ap (λ (y : View). holding_still y [] q.more) lift_path)) (record {
+      gives-above z q = subst (GivesAbove v) (sym (q.is ∙ ap (λ (y : View). holding_still y [] q.more) raise_clock_path)) (record {
         is = refl;
-        more = q.more ++ lift_item least found ∷ [];
-        trail = sym (append_assoc q.more (lift_item least found ∷ []) v.steps.trail);
+        more = q.more ++ raise_clock_item least found ∷ [];
+        step_trace = sym (append_assoc q.more (raise_clock_item least found ∷ []) v.steps.step_trace);
         handed = refl;
         unstored = refl;
         unentered = refl;

@@ -12,10 +12,10 @@ use Rattle.stm_rule.specs.declared.local.Local.{Local}
 use Rattle.stm_rule.specs.Attempts.{Stands, ended, own_of}
 use Rattle.stm_rule.specs.EagerKept.{IsEager}
 use Rattle.tx_answers.specs.declared.answers.Irrev.TheVariants as irrevs
-use Rattle.tx_answers.specs.Known.{known_of, has_written}
+use Rattle.tx_answers.specs.CallerState.{known_of, has_written}
 use Rattle.stm_gate.specs.Granting.{Grants}
 use Rattle.stm_gate.specs.Peeling.{no-items}
-use Rattle.alg_orec.specs.EagerEnding.{CanTakeBack, TakesBack}
+use Rattle.alg_orec.specs.EagerEnding.{CanAbortEager, AbortsEager}
 use Rattle.alg_orec.specs.Granting.{CanPromote, IsPromoted, IsNotPromoted}
 use Rattle.alg_orec.proofs.EagerProving.{eager-of, ended-by, held-within, length-none, never-held, no-writes, none-held, quits-back}
 use Rattle.alg_orec.proofs.GrantOpening.{CanGrant}
@@ -37,14 +37,14 @@ module _ {good : List ℕ → Type 0} {c : Config} {n : ℕ} {l : Local} {v : Vi
     };
     alone = can.alone;
     stores = record { unlocked = k.optimistic.unlocked; inside = k.words; small = k.small };
-    uncalm = k.optimistic.uncalm;
+    not_quiescent = k.optimistic.not_quiescent;
     olds = k.olds;
     below = k.below;
   }
 
   -- it can be taken back
-  pub may-take_back : {refusal : irrevs.the_data} {m : Local} {u : View} → IsNotPromoted c n refusal l v m u → CanTakeBack c m u
-  may-take_back {refusal} {m} {u} q = subst (λ (x : Local). CanTakeBack c x u) (sym q.local) (subst (CanTakeBack c l) (sym q.is) (record {
+  pub may-abort : {refusal : irrevs.the_data} {m : Local} {u : View} → IsNotPromoted c n refusal l v m u → CanAbortEager c m u
+  may-abort {refusal} {m} {u} q = subst (λ (x : Local). CanAbortEager c x u) (sym q.local) (subst (CanAbortEager c l) (sym q.is) (record {
     gives = record {
       opens = record { has = record { runs = record { phase = can.inside.phase; algorithm = ap has_records can.under; plain = k.optimistic.ungranted }; inside = k.inside }; open_yet = k.open_yet };
       repaid = k.repaid;
@@ -64,7 +64,7 @@ module _ {good : List ℕ → Type 0} {c : Config} {n : ℕ} {l : Local} {v : Vi
     unentered = can.inside.unentered;
   }))
 
-  pub tells-refused : {refusal : irrevs.the_data} {m : Local} {u : View} → IsNotPromoted c n refusal l v m u → (z : View) (p : Local) → p ≡ ended (record m { committing = false }) → TakesBack n u z → Grants good c n refusal (known_of v (own_of l)) (known_of z (own_of p))
+  pub tells-refused : {refusal : irrevs.the_data} {m : Local} {u : View} → IsNotPromoted c n refusal l v m u → (z : View) (p : Local) → p ≡ ended (record m { committing = false }) → AbortsEager n u z → Grants good c n refusal (known_of v (own_of l)) (known_of z (own_of p))
   tells-refused {refusal} {m} {u} q z p idle g = opening.tells-refused can refl q z p idle
       (quits-back n v u z (own_of l) can.under k.optimistic.ungranted k.optimistic.rises (ap (λ (y : View). y.steps.rises) q.is) unheld g (opening.unmade can refl q)) (ended-by n u z g)
     where
@@ -85,7 +85,7 @@ module _ {good : List ℕ → Type 0} {c : Config} {n : ℕ} {l : Local} {v : Vi
     pub stands-promoted : (p : Local) → p ≡ promoted → Stands good c n l v → Stands good c n p w
     stands-promoted p local s = opening.stands-promoted can refl r.seen m.start r.more v.owned.in_place l.writes r.moves s s.lengths p w local r.is (record {
       granted = refl;
-      calm = refl;
+      quiescent = refl;
       holds = s.holds ∙ can.alone.holds;
       unlocked = k.optimistic.unlocked;
       unfixed = k.optimistic.unfixed;

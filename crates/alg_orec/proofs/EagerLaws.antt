@@ -11,7 +11,7 @@ use Rattle.rule_base.specs.declared.entries.Cell.{Cell}
 use Rattle.rule_base.specs.declared.entries.Entry.{Entry}
 use Rattle.rule_base.specs.declared.views.Ownership.{Ownership}
 use Rattle.rule_base.specs.declared.views.Sample.{Sample}
-use Rattle.rule_base.specs.declared.views.TrailItem.{TrailItem}
+use Rattle.rule_base.specs.declared.views.TracedStep.{TracedStep}
 use Rattle.rule_base.specs.declared.views.Validation.{Validation}
 use Rattle.rule_base.specs.declared.views.View.{View}
 use Rattle.rule_base.specs.Bridge.{items, of_words}
@@ -29,7 +29,7 @@ use Rattle.stm_rule.specs.EagerKept.{IsEager}
 use Rattle.steps_orec.specs.RecordFindings.{FindsStart}
 use Rattle.tx_answers.specs.declared.answers.Read.TheVariants as answers
 use Rattle.tx_answers.specs.Answers.{HasRead, Quits}
-use Rattle.tx_answers.specs.Known.{known_of, is_irrevocable, has_written}
+use Rattle.tx_answers.specs.CallerState.{known_of, is_irrevocable, has_written}
 use Rattle.tx_logs.specs.LogStates.{LogState}
 use Rattle.stm_gate.specs.Logging.{put-new}
 use Rattle.stm_gate.specs.Starts.{CanBegin, StartsAt}
@@ -38,7 +38,7 @@ use Rattle.alg_orec.proofs.EagerProving as proving
 use Rattle.alg_orec.proofs.LockingLaws.{unheld-of}
 use Rattle.alg_orec.proofs.RecordReads as reads
 use Rattle.alg_orec.proofs.RecordReads.{IsReading}
-use Rattle.alg_orec.specs.EagerEnding.{CanTakeBack, TakesBack}
+use Rattle.alg_orec.specs.EagerEnding.{CanAbortEager, AbortsEager}
 use Rattle.alg_orec.specs.EagerTaking.{CanLoadWord}
 use Rattle.alg_orec.specs.Loading.{moved, MayMove, RefusesRead, HasLoaded}
 use Rattle.alg_orec.specs.Validating.{HasVersions}
@@ -86,7 +86,7 @@ module _ (good : List ℕ → Type 0) (c : Config) (n : ℕ) (l : Local) (v : Vi
     pub opens : HasOpen v
     opens = record { has = record { runs = record { phase = i.phase; algorithm = ap has_records eager; plain = ungranted }; inside = k.inside }; open_yet = k.open_yet }
 
-    pub may-take : (m : Local) (start : ℕ) (seen : List Entry) (rs : List Cell) (sample : Sample) (check : Validation) (more : List TrailItem) → m.locks ≡ l.locks → m.undo ≡ l.undo → CanTakeBack c m (moved v start seen rs sample check more)
+    pub may-take : (m : Local) (start : ℕ) (seen : List Entry) (rs : List Cell) (sample : Sample) (check : Validation) (more : List TracedStep) → m.locks ≡ l.locks → m.undo ≡ l.undo → CanAbortEager c m (moved v start seen rs sample check more)
     may-take m start seen rs sample check more locks undo = record {
       gives = record {
         opens = record { has = record { runs = record { phase = i.phase; algorithm = ap has_records eager; plain = ungranted }; inside = k.inside }; open_yet = k.open_yet };
@@ -97,7 +97,7 @@ module _ (good : List ℕ → Type 0) (c : Config) (n : ℕ) (l : Local) (v : Vi
         locks = ap (λ (q : LogState). q.items) locks ∙ k.locks;
         places = k.places;
         below = k.below;
-        earlier = λ calm. absurd (let f : true ≡ false = sym calm ∙ k.optimistic.uncalm in cc);
+        earlier = λ quiescent. absurd (let f : true ≡ false = sym quiescent ∙ k.optimistic.not_quiescent in cc);
       };
       unlocked = k.optimistic.unlocked;
       unfixed = k.optimistic.unfixed;
@@ -107,19 +107,19 @@ module _ (good : List ℕ → Type 0) (c : Config) (n : ℕ) (l : Local) (v : Vi
       unentered = i.unentered;
     }
 
-    pub may-take-here : CanTakeBack c l v
-    may-take-here = subst (CanTakeBack c l) (sym (reads.here reading)) (may-take l v.attempt.start v.history.seen v.attempt.reads v.sample v.check [] refl refl)
+    pub may-take-here : CanAbortEager c l v
+    may-take-here = subst (CanAbortEager c l) (sym (reads.here reading)) (may-take l v.attempt.start v.history.seen v.attempt.reads v.sample v.check [] refl refl)
 
     clean : (u : View) → u.gate ≡ v.gate → u.owned ≡ v.owned → has_written (known_of u o) ≡ false → u.owned.held ≡ []
     clean u gate owned e = ap (λ (h : Ownership). h.held) owned ∙ proving.never-held c l v k eager u o gate (ap (λ (h : Ownership). h.undo) owned) e
 
     -- the attempt ended from a view that the load came to
-    pub quits-moved : (start : ℕ) (seen : List Entry) (rs : List Cell) (sample : Sample) (check : Validation) (more : List TrailItem) (w : View) → MayMove rule c n start seen more v → TakesBack n (moved v start seen rs sample check more) w → Quits (known_of v o) (known_of w o)
+    pub quits-moved : (start : ℕ) (seen : List Entry) (rs : List Cell) (sample : Sample) (check : Validation) (more : List TracedStep) (w : View) → MayMove rule c n start seen more v → AbortsEager n (moved v start seen rs sample check more) w → Quits (known_of v o) (known_of w o)
     quits-moved start seen rs sample check more w moves g = subst (λ (y : View). Quits (known_of v o) (known_of y o)) (sym g.is) (reads.quits-moved reading start seen more moves rs sample check g.before g.unmade
         (proving.rose n v (moved v start seen rs sample check more) w o eager ungranted k.optimistic.rises refl (clean v refl refl) g))
 
-    pub quits-here : (w : View) → TakesBack n v w → Quits (known_of v o) (known_of w o)
-    quits-here w g = quits-moved v.attempt.start v.history.seen v.attempt.reads v.sample v.check [] w (inl (refl, refl)) (subst (λ (y : View). TakesBack n y w) (reads.here reading) g)
+    pub quits-here : (w : View) → AbortsEager n v w → Quits (known_of v o) (known_of w o)
+    quits-here w g = quits-moved v.attempt.start v.history.seen v.attempt.reads v.sample v.check [] w (inl (refl, refl)) (subst (λ (y : View). AbortsEager n y w) (reads.here reading) g)
 
     pub may-load : (a : ℕ) → a < c.words → item_at a l.writes.items ≡ None → CanLoadWord c a l v
     may-load a low unwritten = record {
@@ -138,16 +138,16 @@ module _ (good : List ℕ → Type 0) (c : Config) (n : ℕ) (l : Local) (v : Vi
       inside = low;
     }
 
-    pub may-take-refused : (a : ℕ) (cause : Cause) (m : Local) (u : View) → RefusesRead rule c n a cause l v m u → CanTakeBack c m u
-    may-take-refused a cause m u h = subst (CanTakeBack c m) (sym h.is) (may-take m m.start h.seen v.attempt.reads u.sample u.check h.more (ap (λ (q : Local). q.locks) h.local) (ap (λ (q : Local). q.undo) h.local))
+    pub may-take-refused : (a : ℕ) (cause : Cause) (m : Local) (u : View) → RefusesRead rule c n a cause l v m u → CanAbortEager c m u
+    may-take-refused a cause m u h = subst (CanAbortEager c m) (sym h.is) (may-take m m.start h.seen v.attempt.reads u.sample u.check h.more (ap (λ (q : Local). q.locks) h.local) (ap (λ (q : Local). q.undo) h.local))
 
-    pub reads-refused : (a : ℕ) (cause : Cause) (m : Local) (u w : View) → item_at a l.writes.items ≡ None → item_at a l.reads.items ≡ None → length l.reads.items ≢ l.reads.len → RefusesRead rule c n a cause l v m u → TakesBack n u w
+    pub reads-refused : (a : ℕ) (cause : Cause) (m : Local) (u w : View) → item_at a l.writes.items ≡ None → item_at a l.reads.items ≡ None → length l.reads.items ≢ l.reads.len → RefusesRead rule c n a cause l v m u → AbortsEager n u w
         → HasRead good c n a (answers.Conflict cause) (known_of v o) (known_of w o)
     reads-refused a cause m u w unwritten unread room h g = subst (λ (y : View). HasRead good c n a (answers.Conflict cause) (known_of v o) (known_of y o)) (sym g.is) (reads.reads-refused reading a cause m u g.before unwritten unread room h g.unmade
-        (subst (λ (y : View). Quits (known_of v o) (known_of y o)) g.is (quits-moved m.start h.seen v.attempt.reads u.sample u.check h.more w h.moves (subst (λ (y : View). TakesBack n y w) h.is g))))
+        (subst (λ (y : View). Quits (known_of v o) (known_of y o)) g.is (quits-moved m.start h.seen v.attempt.reads u.sample u.check h.more w h.moves (subst (λ (y : View). AbortsEager n y w) h.is g))))
 
     -- the attempt stands where the load came to, and its descriptor has what was read
-    pub stays-moved : (start : ℕ) (seen : List Entry) (rs : List Cell) (sample : Sample) (check : Validation) (more : List TrailItem) (log : LogState) → MayMove rule c n start seen more v → Legal rule c seen → Below seen (start + 1) → Explains (word_now seen) rs
+    pub stays-moved : (start : ℕ) (seen : List Entry) (rs : List Cell) (sample : Sample) (check : Validation) (more : List TracedStep) (log : LogState) → MayMove rule c n start seen more v → Legal rule c seen → Below seen (start + 1) → Explains (word_now seen) rs
         → Inside c.words rs → log.items ≡ items rs → IsInside good c n (record l { start = start; reads = log }) (moved v start seen rs sample check more)
     stays-moved start seen rs sample check more log moves legal below sees inside is = reads.stays-moved reading start seen more moves rs sample check log legal below sees inside
         (keeps-eager (record {

@@ -5,14 +5,14 @@ use Rattle.stm_model.specs.declared.config.Config.{Config}
 use Rattle.rule_base.specs.declared.views.View.{View}
 use Rattle.stm_rule.specs.declared.local.Local.{Local}
 use Rattle.stm_rule.specs.EagerKept.{IsEager}
-use Rattle.tx_answers.specs.Known.{Known}
+use Rattle.tx_answers.specs.CallerState.{CallerState}
 use Rattle.alg_orec.proofs.EagerProving.{eager-of}
 use Rattle.alg_orec.proofs.NestingOpening.{GoesOn}
 
 -- an attempt that was not promoted
-module _ {good : List ℕ → Type 0} {c : Config} {n : ℕ} {l : Local} {v : View} {q : Known} (a : GoesOn good c n l v q) (named : q.alg ≡ OrecEager) (plain : l.granted ≡ false) where
+module _ {good : List ℕ → Type 0} {c : Config} {n : ℕ} {l : Local} {v : View} {q : CallerState} (a : GoesOn good c n l v q) (named : q.alg ≡ OrecEager) (plain : l.granted ≡ false) where
   pub eager : v.gate.algorithm ≡ OrecEager
-  eager = ap (λ (p : Known). p.alg) (sym a.knows) ∙ named
+  eager = ap (λ (p : CallerState). p.alg) (sym a.knows) ∙ named
 
   pub kept : IsEager c l v
   kept = eager-of good c n l v a.inside (sym a.inside.named ∙ eager) plain

@@ -13,7 +13,7 @@ use Rattle.tx_answers.specs.declared.answers.Read.TheVariants as reads
 use Rattle.tx_answers.specs.declared.answers.Write.TheVariants as writes
 use Rattle.tx_answers.specs.Causes.{writes_full}
 use Rattle.tx_answers.specs.Answers.{HasRead, HasWritten}
-use Rattle.tx_answers.specs.Known.{Known, IsRunning, known_of}
+use Rattle.tx_answers.specs.CallerState.{CallerState, IsRunning, known_of}
 use Rattle.tx_logs.specs.LogStates.{LogState}
 use Rattle.stm_gate.specs.Knowing.{known, number}
 use Rattle.stm_gate.specs.Opening.{opened, shows, tells-of}
@@ -37,7 +37,7 @@ module _ {K : Type 0} (good : K → List ℕ → Type 0) (stm : Stm K) where
 
   -- what bounds its steps
   pub record EagerCount (e : Handle K) (me : SeatView K × List (ℕ × Unit {0})) (l : Local) : Type 0 where
-    pub steps : length me.0.view.steps.trail ≡ length (known e).trail
+    pub steps : length me.0.view.steps.step_trace ≡ length (known e).step_trace
     pub held : length l.locks.items ≤ (known e).writes_limit
     pub reads : l.reads.len ≡ (known e).reads_limit
     pub writes : l.undo.len ≡ (known e).writes_limit
@@ -61,10 +61,10 @@ module _ {K : Type 0} (good : K → List ℕ → Type 0) (stm : Stm K) where
     counts =
         let knows = a.call.opening.knows in
         record {
-          steps = ap (λ (k : Known). length k.trail) (sym knows);
-          held = subst (λ (k : Known). length l.locks.items ≤ k.writes_limit) (sym knows) (held-within stm.config l me.0.view a.runs.kept);
-          reads = ap (λ (k : Known). k.reads_limit) (sym knows);
-          writes = ap (λ (k : Known). k.writes_limit) (sym knows);
+          steps = ap (λ (k : CallerState). length k.step_trace) (sym knows);
+          held = subst (λ (k : CallerState). length l.locks.items ≤ k.writes_limit) (sym knows) (held-within stm.config l me.0.view a.runs.kept);
+          reads = ap (λ (k : CallerState). k.reads_limit) (sym knows);
+          writes = ap (λ (k : CallerState). k.writes_limit) (sym knows);
         }
 
     -- a word was loaded, and goes into the read log

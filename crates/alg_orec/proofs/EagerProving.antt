@@ -9,20 +9,20 @@ use Rattle.stm_model.specs.declared.stop.Cause.TheVariants as causes
 use Rattle.stm_model.specs.Memories.{is_empty}
 use Rattle.rule_base.specs.declared.entries.Cell.{Cell}
 use Rattle.rule_base.specs.declared.views.GateView.{GateView}
-use Rattle.rule_base.specs.declared.views.TrailItem.{TrailItem}
+use Rattle.rule_base.specs.declared.views.TracedStep.{TracedStep}
 use Rattle.rule_base.specs.declared.views.View.{View}
 use Rattle.rule_base.specs.Bridge.{addresses, items}
 use Rattle.rule_base.specs.Own.{Own}
-use Rattle.stm_gate.specs.LeavingLaws.{IsUnmade, quits-left, trail-left}
+use Rattle.stm_gate.specs.LeavingLaws.{IsUnmade, quits-left, step_trace-left}
 use Rattle.stm_gate.specs.Peeling.{no-items}
 use Rattle.stm_rule.specs.declared.local.Local.{Local}
 use Rattle.stm_rule.specs.Attempts.{Keeps, IsInside}
 use Rattle.stm_rule.specs.EagerKept.{IsEager}
 use Rattle.tx_answers.specs.Answers.{Quits}
 use Rattle.tx_answers.specs.Causes.{Asked, Conflicts}
-use Rattle.tx_answers.specs.Known.{Known, known_of, granted_under, kept_under, written_under, is_irrevocable, is_none, wrote, has_written}
+use Rattle.tx_answers.specs.CallerState.{CallerState, known_of, granted_under, kept_under, written_under, is_irrevocable, is_none, wrote, has_written}
 use Rattle.alg_orec.proofs.Proving.{conflicts-by-records, quits-own, unmade-trans, with_commit}
-use Rattle.alg_orec.specs.EagerEnding.{TakesBack}
+use Rattle.alg_orec.specs.EagerEnding.{AbortsEager}
 
 -- an attempt of OrecEager that was not promoted
 pub eager-of : (good : List ℕ → Type 0) (c : Config) (n : ℕ) (l : Local) (v : View) → IsInside good c n l v → l.algorithm ≡ OrecEager → l.granted ≡ false → IsEager c l v
@@ -112,12 +112,12 @@ module _ (good : List ℕ → Type 0) (c : Config) (n : ℕ) (l : Local) (v : Vi
       (λ j. irrevocable_under (eager j) (granted_under (eager j) v.gate v.lock) (wrote (known_of v o))) ∙ here
 
 -- more steps were taken
-pub conflicts-later : (c : Config) (n : ℕ) (asked : Asked) (cause : causes.the_data) (v u w : Known) → has_records v.alg ≡ true → (more : List TrailItem) → w.trail ≡ more ++ u.trail → Conflicts c n asked cause v u → Conflicts c n asked cause v w
+pub conflicts-later : (c : Config) (n : ℕ) (asked : Asked) (cause : causes.the_data) (v u w : CallerState) → has_records v.alg ≡ true → (more : List TracedStep) → w.step_trace ≡ more ++ u.step_trace → Conflicts c n asked cause v u → Conflicts c n asked cause v w
 conflicts-later = conflicts-by-records
 
 -- until it ended
-pub ended-by : (n : ℕ) (u z : View) → TakesBack n u z → (more : List TrailItem) × (z.steps.trail ≡ more ++ u.steps.trail)
-ended-by n u z g = let t = trail-left n u g.before g.unmade.carried in (t.0, ap (λ (y : View). y.steps.trail) g.is ∙ t.1)
+pub ended-by : (n : ℕ) (u z : View) → AbortsEager n u z → (more : List TracedStep) × (z.steps.step_trace ≡ more ++ u.steps.step_trace)
+ended-by n u z g = let t = step_trace-left n u g.before g.unmade.carried in (t.0, ap (λ (y : View). y.steps.step_trace) g.is ∙ t.1)
 
 -- by how much the clock was raised
 pub rose-by : (a : Alg) (b : Bool) (base rises : ℕ) → a ≡ OrecEager → rises ≤ base + 1 → (b ≡ false → rises ≡ base) → rises ≤ base + quit_rise a b
@@ -125,7 +125,7 @@ rose-by a true base rises e one none = let q : quit_rise a true ≡ 1 = ap (λ (
 rose-by a false base rises e one none = let z = none refl in omega arith
 
 -- an attempt of OrecEager that was taken back
-module _ (n : ℕ) (v u z : View) (o : Own) (eager : v.gate.algorithm ≡ OrecEager) (plain : v.gate.granted ≡ false) (level : v.steps.rises ≡ v.steps.rises_at_begin) (rises : u.steps.rises ≡ v.steps.rises) (clean : has_written (known_of v o) ≡ false → u.owned.held ≡ []) (g : TakesBack n u z) where
+module _ (n : ℕ) (v u z : View) (o : Own) (eager : v.gate.algorithm ≡ OrecEager) (plain : v.gate.granted ≡ false) (level : v.steps.rises ≡ v.steps.rises_at_begin) (rises : u.steps.rises ≡ v.steps.rises) (clean : has_written (known_of v o) ≡ false → u.owned.held ≡ []) (g : AbortsEager n u z) where
   pub rose : (v.steps.rises_at_begin ≤ g.before.steps.rises) × (g.before.steps.rises ≤ v.steps.rises_at_begin + quit_rise v.gate.algorithm (has_written (known_of v o)))
   rose = ((let a = g.rose.0 in omega arith), rose-by v.gate.algorithm (has_written (known_of v o)) v.steps.rises_at_begin g.before.steps.rises eager (let a = g.rose.1 in omega arith) (λ e. let q = g.level (clean e) in omega arith))
 

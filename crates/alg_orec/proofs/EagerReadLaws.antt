@@ -17,7 +17,7 @@ use Rattle.rule_base.specs.declared.layout.At.TheVariants.{Clock, Record, Heap}
 use Rattle.rule_base.specs.declared.seats.Who.{Who}
 use Rattle.rule_base.specs.declared.views.Act.TheVariants.{Load}
 use Rattle.rule_base.specs.declared.views.Sample.{Sample}
-use Rattle.rule_base.specs.declared.views.TrailItem.{TrailItem}
+use Rattle.rule_base.specs.declared.views.TracedStep.{TracedStep}
 use Rattle.rule_base.specs.declared.views.Validation.{Validation}
 use Rattle.rule_base.specs.declared.views.View.{View}
 use Rattle.rule_base.specs.Bridge.{items, of_words}
@@ -44,8 +44,8 @@ use Rattle.tx_answers.specs.Answers.{GoesOn, HasRead, Quits, StartMoves, write_r
 use Rattle.tx_answers.specs.Causes.{Asked, Conflicts, FindsNewer, has_item, reads_full}
 use Rattle.tx_answers.specs.Causes.Asked.{ForWord}
 use Rattle.tx_answers.specs.Evidence.{Found}
-use Rattle.tx_answers.specs.Known.{Known, caller_of, known_of, is_irrevocable, is_none, has_written}
-use Rattle.tx_answers.specs.KnownLaws.{grows-trans, lock-trans}
+use Rattle.tx_answers.specs.CallerState.{CallerState, caller_of, known_of, is_irrevocable, is_none, has_written}
+use Rattle.tx_answers.specs.CallerStateLaws.{grows-trans, lock-trans}
 use Rattle.alg_orec.proofs.EagerCalls.{RunsEager}
 use Rattle.alg_orec.proofs.EagerLaws as laws
 use Rattle.alg_orec.proofs.EagerProving.{ended-by, written}
@@ -55,30 +55,30 @@ use Rattle.alg_orec.proofs.LoadLaws.{free-word, untouched-loads}
 use Rattle.tx_logs.specs.Probing.{IsPlace}
 use Rattle.alg_orec.proofs.RecordReads as records
 use Rattle.alg_orec.proofs.LockingLaws.{unheld-of}
-use Rattle.alg_orec.specs.EagerEnding.{CanTakeBack, TakesBack}
+use Rattle.alg_orec.specs.EagerEnding.{CanAbortEager, AbortsEager}
 use Rattle.alg_orec.specs.EagerReading.{IsNew, HasSample, IsSampled, IsLoaded, LoadsSampled, GoesOnReading, FindsFree, FindsMoved, Samples, Confirms}
 use Rattle.alg_orec.specs.Loading.{CanLoadValid, HasPlace, moved, sampled_at, MayMove, MovesOwed, HasSampled, HasLoaded}
 use Rattle.alg_orec.specs.Validating.{load_of}
 
 -- THE PARTS TOGETHER: a start that moved, and moved on
-abbrev MovesBy : Config → ℕ → Known → Known → Type 0
+abbrev MovesBy : Config → ℕ → CallerState → CallerState → Type 0
 MovesBy c at v w = (w.start ≡ v.start) ⊎ (Found Clock w.start v w × FindsNewer c at v w)
 
-moves-on : (c : Config) (at : ℕ) (u v w : Known) → u.start ≤ v.start → (more : List TrailItem) → v.trail ≡ more ++ u.trail → (late : List TrailItem) → w.trail ≡ late ++ v.trail → MovesBy c at u v → MovesBy c at v w → MovesBy c at u w
+moves-on : (c : Config) (at : ℕ) (u v w : CallerState) → u.start ≤ v.start → (more : List TracedStep) → v.step_trace ≡ more ++ u.step_trace → (late : List TracedStep) → w.step_trace ≡ late ++ v.step_trace → MovesBy c at u v → MovesBy c at v w → MovesBy c at u w
 moves-on c at u v w low more t late s a (inr f) = let d = f.1 in inr (found-earlier Clock w.start u v w f.0 more t, (d.0, found-earlier (Record (at % c.records)) d.0 u v w d.1 more t, d.2, (let e = d.3 in omega arith)))
 moves-on c at u v w low more t late s (inl e) (inl f) = inl (f ∙ e)
 moves-on c at u v w low more t late s (inr e) (inl f) = let d = e.1 in inr (subst (λ (x : ℕ). Found Clock x u w) (sym f) (found-later Clock v.start u v w e.0 late s), (d.0, found-later (Record (at % c.records)) d.0 u v w d.1 late s, d.2, d.3))
 
 -- who reads under OrecEager doesn't raise the clock
-level-reads : {c : Config} {asked : Asked} → (v u : Known) → v.alg ≡ OrecEager → GoesOn c asked v u → u.rises ≡ v.rises
+level-reads : {c : Config} {asked : Asked} → (v u : CallerState) → v.alg ≡ OrecEager → GoesOn c asked v u → u.rises ≡ v.rises
 level-reads v u eager a = let low = a.continues.rises.0 in let high = a.continues.rises.1 in let e : write_rise v.alg (is_irrevocable v) ≡ 0 = ap (λ (r : Alg). write_rise r (is_irrevocable v)) eager in omega arith
 
 -- a place in the read log stays while the log does
-pub same-place : {c : Config} {asked : Asked} (a place : ℕ) (v u : Known) → GoesOn c asked v u → u.log ≡ v.log → HasPlace a place v → HasPlace a place u
+pub same-place : {c : Config} {asked : Asked} (a place : ℕ) (v u : CallerState) → GoesOn c asked v u → u.log ≡ v.log → HasPlace a place v → HasPlace a place u
 same-place a place v u goes log is = subst (λ (m : ℕ). IsPlace (2 * m) u.log.reads a place) (sym goes.continues.grows.reads_limit) (subst (λ (g : Log). IsPlace (2 * v.reads_limit) g.reads a place) (sym log) is)
 
 -- an attempt of OrecEager that went on, with its log as it was
-module _ {c : Config} {at : ℕ} (v u : Known) (eager : v.alg ≡ OrecEager) (a : GoesOn c (ForWord at) v u) (log : u.log ≡ v.log) (kept : u.kept ≡ v.kept) where
+module _ {c : Config} {at : ℕ} (v u : CallerState) (eager : v.alg ≡ OrecEager) (a : GoesOn c (ForWord at) v u) (log : u.log ≡ v.log) (kept : u.kept ≡ v.kept) where
   same-irrevocable : is_irrevocable u ≡ is_irrevocable v
   same-irrevocable = λ j. irrevocable_under (a.continues.alg j) (a.granted j) (not (is_empty (log j).writes))
 
@@ -88,7 +88,7 @@ module _ {c : Config} {at : ℕ} (v u : Known) (eager : v.alg ≡ OrecEager) (a 
   pub still-new : (b : ℕ) → item_at b v.log.writes ≡ None → item_at b v.log.reads ≡ None → reads_full b v ≡ false → IsNew b u
   still-new b unwritten unread room = record { unwritten = ap (λ (g : Log). item_at b g.writes) log ∙ unwritten; unread = ap (λ (g : Log). item_at b g.reads) log ∙ unread; room = same-room b ∙ room }
 
-  module _ (w : Known) where
+  module _ (w : CallerState) where
     pub goes-then : GoesOn c (ForWord at) u w → GoesOn c (ForWord at) v w
     goes-then b = let k = a.continues in let q = b.continues in record {
       continues = record {
@@ -108,14 +108,14 @@ module _ {c : Config} {at : ℕ} (v u : Known) (eager : v.alg ≡ OrecEager) (a 
         depth = q.depth ∙ k.depth;
         locked = lock-trans v u w k.alg k.locked q.locked;
       };
-      start = subst (λ (r : Alg). StartMoves c (ForWord at) r v w) (sym eager) (moves-on c at v u w k.later k.grows.more k.grows.trail q.grows.more q.grows.trail (subst (λ (r : Alg). StartMoves c (ForWord at) r v u) eager a.start) (subst (λ (r : Alg). StartMoves c (ForWord at) r u w) (k.alg ∙ eager) b.start));
+      start = subst (λ (r : Alg). StartMoves c (ForWord at) r v w) (sym eager) (moves-on c at v u w k.later k.grows.more k.grows.step_trace q.grows.more q.grows.step_trace (subst (λ (r : Alg). StartMoves c (ForWord at) r v u) eager a.start) (subst (λ (r : Alg). StartMoves c (ForWord at) r u w) (k.alg ∙ eager) b.start));
       granted = b.granted ∙ a.granted;
       holds = b.holds ∙ a.holds;
       checked = b.checked ∙ a.checked;
       marks = b.marks ∙ a.marks;
     }
       where
-        still : (x : Known) → x.alg ≡ OrecEager → write_rise x.alg (is_irrevocable x) ≡ 0
+        still : (x : CallerState) → x.alg ≡ OrecEager → write_rise x.alg (is_irrevocable x) ≡ 0
         still x e = ap (λ (r : Alg). write_rise r (is_irrevocable x)) e
 
     pub quits-then : Quits u w → Quits v w
@@ -134,7 +134,7 @@ module _ (good : List ℕ → Type 0) (c : Config) (n a word x : ℕ) where
   at = a % c.records
 
   -- the record was sampled, the word loaded, the record confirmed
-  pub reads-apart : (v s u w : Known) (r : Read) → v.alg ≡ OrecEager → FindsFree good c n a word v s → GoesOnReading good c n a (load_of (Heap a) x ∷ []) s u → Confirms good c n a word x r u w → HasRead good c n a r v w
+  pub reads-apart : (v s u w : CallerState) (r : Read) → v.alg ≡ OrecEager → FindsFree good c n a word v s → GoesOnReading good c n a (load_of (Heap a) x ∷ []) s u → Confirms good c n a word x r u w → HasRead good c n a r v w
   reads-apart v s u w r eager f l k = by r k
     where
       found : GoesOnReading good c n a (f.0 ++ load_of (Record at) word ∷ []) v s
@@ -152,8 +152,8 @@ module _ (good : List ℕ → Type 0) (c : Config) (n a word x : ℕ) where
       room : reads_full a v ≡ false
       room = sym (same-room v s eager found.goes found.log found.kept a) ∙ found.fresh.room
 
-      trail : u.trail ≡ load_of (Heap a) x ∷ (f.0 ++ load_of (Record at) word ∷ v.trail)
-      trail = l.trail ∙ ap (λ (t : List TrailItem). load_of (Heap a) x ∷ t) (found.trail ∙ append_assoc f.0 (load_of (Record at) word ∷ []) v.trail)
+      step_trace : u.step_trace ≡ load_of (Heap a) x ∷ (f.0 ++ load_of (Record at) word ∷ v.step_trace)
+      step_trace = l.step_trace ∙ ap (λ (t : List TracedStep). load_of (Heap a) x ∷ t) (found.step_trace ∙ append_assoc f.0 (load_of (Record at) word ∷ []) v.step_trace)
 
       by : (r : reads.the_data) → Confirms good c n a word x r u w → HasRead good c n a r v w
       by (reads.Value y) q = subst (λ (z : ℕ). HasRead good c n a (reads.Value z) v w) (sym q.0) (let h = q.1 in (goes-then v u eager goes log kept w h.0, h.1, subst (λ (g : Log). Reads g a x w.log) log h.2, h.3, h.4, room, h.6 ∙ level-reads v u eager goes, h.7 ∙ kept))
@@ -168,7 +168,7 @@ module _ (good : List ℕ → Type 0) (c : Config) (n a word x : ℕ) where
             middle = load_of (Heap a) x ∷ f.0;
             act = Load;
             late = q.late;
-            trail = q.trail ∙ ap (λ (t : List TrailItem). q.late ++ load_of (Record at) q.after ∷ t) trail;
+            step_trace = q.step_trace ∙ ap (λ (t : List TracedStep). q.late ++ load_of (Record at) q.after ∷ t) step_trace;
             untouched = ((λ e. refl), untouched-loads (Record at) f.0 f.1);
             refused = refl;
           },
@@ -229,11 +229,11 @@ module _ (good : List ℕ → Type 0) (c : Config) (n : ℕ) (l : Local) (v : Vi
   pub unread-new : (a : ℕ) → IsNew a (known_of v o) → IsUnread l a
   unread-new a new = record { unwritten = unwritten-of a new.unwritten; unread = unread-of a new.unread; room = room-of a new }
 
-  stays : (start : ℕ) (seen : List Entry) (sample : Sample) (check : Validation) (more : List TrailItem) → MayMove rule c n start seen more v → IsInside good c n (record l { start = start; reads = l.reads }) (moved v start seen v.attempt.reads sample check more)
+  stays : (start : ℕ) (seen : List Entry) (sample : Sample) (check : Validation) (more : List TracedStep) → MayMove rule c n start seen more v → IsInside good c n (record l { start = start; reads = l.reads }) (moved v start seen v.attempt.reads sample check more)
   stays start seen sample check more moves = laws.stays-moved good c n l v runs start seen v.attempt.reads sample check more l.reads moves (records.legal-at (laws.reading good c n l v runs) start seen more moves) (records.below-at (laws.reading good c n l v runs) start seen more moves) (records.sees-at (laws.reading good c n l v runs) start seen more moves) i.reads_inside k.reads
 
   -- it goes on where it came to, and has yet to read a
-  reads-on : (a start : ℕ) (seen : List Entry) (sample : Sample) (check : Validation) (more : List TrailItem) → MayMove rule c n start seen more v → MovesOwed c a start more v → IsNew a (known_of v o) → GoesOnReading good c n a more (known_of v o) (known_of (moved v start seen v.attempt.reads sample check more) o)
+  reads-on : (a start : ℕ) (seen : List Entry) (sample : Sample) (check : Validation) (more : List TracedStep) → MayMove rule c n start seen more v → MovesOwed c a start more v → IsNew a (known_of v o) → GoesOnReading good c n a more (known_of v o) (known_of (moved v start seen v.attempt.reads sample check more) o)
   reads-on a start seen sample check more moves owed new = record {
     goes = goes;
     uncommitted = runs.quiet;
@@ -241,7 +241,7 @@ module _ (good : List ℕ → Type 0) (c : Config) (n : ℕ) (l : Local) (v : Vi
     kept = kept-same v.gate.algorithm v w o o refl refl refl;
     fresh = still-new (known_of v o) (known_of w o) runs.eager goes log (kept-same v.gate.algorithm v w o o refl refl refl) a new.unwritten new.unread new.room;
     opaque = opaque-inside good c n (record l { start = start; reads = l.reads }) w o (stays start seen sample check more moves);
-    trail = refl;
+    step_trace = refl;
   }
     where
       w : View
@@ -254,15 +254,15 @@ module _ (good : List ℕ → Type 0) (c : Config) (n : ℕ) (l : Local) (v : Vi
       log = λ j. record { reads = items v.attempt.reads; writes = (written c l v k runs.eager w o refl refl ∙ sym (written c l v k runs.eager v o refl refl)) j }
 
   -- where the start stayed
-  stays-here : (rs : List Cell) (sample : Sample) (check : Validation) (more : List TrailItem) → record v { attempt = record v.attempt { reads = rs }; sample = sample; check = check; steps = record v.steps { trail = more ++ v.steps.trail } } ≡ moved v l.start v.history.seen rs sample check more
-  stays-here rs sample check more = λ j. record v { history = record v.history { front = i.front j }; attempt = record v.attempt { start = i.start j; reads = rs }; sample = sample; check = check; steps = record v.steps { trail = more ++ v.steps.trail } }
+  stays-here : (rs : List Cell) (sample : Sample) (check : Validation) (more : List TracedStep) → record v { attempt = record v.attempt { reads = rs }; sample = sample; check = check; steps = record v.steps { step_trace = more ++ v.steps.step_trace } } ≡ moved v l.start v.history.seen rs sample check more
+  stays-here rs sample check more = λ j. record v { history = record v.history { front = i.front j }; attempt = record v.attempt { start = i.start j; reads = rs }; sample = sample; check = check; steps = record v.steps { step_trace = more ++ v.steps.step_trace } }
 
   -- SAMPLE
   pub may-sample : (a : ℕ) → a < c.words → item_at a l.writes.items ≡ None → item_at (a % c.records) l.locks.items ≡ None → CanLoadValid c a l v
   may-sample a low unwritten none = taking.may-load_valid rule c n a l v (laws.may-load good c n l v runs a low unwritten) (unheld-of v.owned.held l.locks.items (a % c.records) k.locks none)
 
   module _ (a word : ℕ) (m : Local) (w : View) (h : HasSampled rule c n a word l v m w) where
-    abbrev all : List TrailItem
+    abbrev all : List TracedStep
     all = h.late ++ load_of (Record (a % c.records)) word ∷ []
 
     moves : MayMove rule c n m.start h.seen all v
@@ -285,8 +285,8 @@ module _ (good : List ℕ → Type 0) (c : Config) (n : ℕ) (l : Local) (v : Vi
       left = left h.next;
     })
       where
-        left : (h.late ≡ []) ⊎ (1 < c.callers) → (left_at (a % c.records) (all ++ v.steps.trail) ≡ Some word) ⊎ (1 < c.callers)
-        left (inl none) = inl (ap (λ (q : List TrailItem). left_at (a % c.records) ((q ++ load_of (Record (a % c.records)) word ∷ []) ++ v.steps.trail)) none ∙ left-found (a % c.records) word v.steps.trail)
+        left : (h.late ≡ []) ⊎ (1 < c.callers) → (left_at (a % c.records) (all ++ v.steps.step_trace) ≡ Some word) ⊎ (1 < c.callers)
+        left (inl none) = inl (ap (λ (q : List TracedStep). left_at (a % c.records) ((q ++ load_of (Record (a % c.records)) word ∷ []) ++ v.steps.step_trace)) none ∙ left-found (a % c.records) word v.steps.step_trace)
         left (inr many) = inr many
 
   -- LOAD
@@ -297,7 +297,7 @@ module _ (good : List ℕ → Type 0) (c : Config) (n : ℕ) (l : Local) (v : Vi
     abbrev sample_loaded : Sample
     sample_loaded = record v.sample { loaded = true; value = x }
 
-    abbrev loading : List TrailItem
+    abbrev loading : List TracedStep
     loading = load_of (Heap a) x ∷ []
 
     load_path : w ≡ moved v l.start v.history.seen v.attempt.reads sample_loaded v.check loading
@@ -321,7 +321,7 @@ module _ (good : List ℕ → Type 0) (c : Config) (n : ℕ) (l : Local) (v : Vi
     may-confirm = record { opens = laws.opens good c n l v runs; loaded = h.loaded; its = ap (home_of c) h.from; inside = subst (λ (b : ℕ). b < c.words) (sym h.from) low }
 
     module _ (after : ℕ) (w : View) (t : Tells (orec_confirm r) (FindsAgain rule c n r) v after w) where
-      abbrev again : List TrailItem
+      abbrev again : List TracedStep
       again = load_of (Record r) after ∷ []
 
       abbrev reading : ℕ → ℕ → List Cell
@@ -331,7 +331,7 @@ module _ (good : List ℕ → Type 0) (c : Config) (n : ℕ) (l : Local) (v : Vi
       read_if b = if b then reading v.sample.from v.sample.value else v.attempt.reads
 
       path : (b : Bool) → (after == free_record v.sample.version) ≡ b → w ≡ moved v l.start v.history.seen (read_if b) no_sample no_check again
-      path b e = t.2 ∙ (ap (λ (d : Bool). record v { attempt = record v.attempt { reads = read_if d }; sample = no_sample; check = no_check; steps = record v.steps { trail = again ++ v.steps.trail } }) e ∙ stays-here (read_if b) no_sample no_check again)
+      path b e = t.2 ∙ (ap (λ (d : Bool). record v { attempt = record v.attempt { reads = read_if d }; sample = no_sample; check = no_check; steps = record v.steps { step_trace = again ++ v.steps.step_trace } }) e ∙ stays-here (read_if b) no_sample no_check again)
 
       -- where nothing moved
       pub loads-same : after ≡ word → HasLoaded rule c n a x l v l w
@@ -355,20 +355,20 @@ module _ (good : List ℕ → Type 0) (c : Config) (n : ℕ) (l : Local) (v : Vi
         moved_path : w ≡ moved v l.start v.history.seen v.attempt.reads no_sample no_check again
         moved_path = path false (let e : after ≢ free_record v.sample.version = (λ q. apart (q ∙ sym h.before)) in grind (arith, nat_tests))
 
-        pub may-take-moved : CanTakeBack c l w
-        may-take-moved = subst (CanTakeBack c l) (sym moved_path) (laws.may-take good c n l v runs l l.start v.history.seen v.attempt.reads no_sample no_check again refl refl)
+        pub may-take-moved : CanAbortEager c l w
+        may-take-moved = subst (CanAbortEager c l) (sym moved_path) (laws.may-take good c n l v runs l l.start v.history.seen v.attempt.reads no_sample no_check again refl refl)
 
-        pub finds-moved : n < c.callers → (z : View) → TakesBack n w z → FindsMoved good c n a word (causes.Moved r word after) (known_of v o) (known_of z o)
+        pub finds-moved : n < c.callers → (z : View) → AbortsEager n w z → FindsMoved good c n a word (causes.Moved r word after) (known_of v o) (known_of z o)
         finds-moved mine z g = record {
-          quits = laws.quits-moved good c n l v runs l.start v.history.seen v.attempt.reads no_sample no_check again z (inl (sym i.start, refl)) (subst (λ (y : View). TakesBack n y z) moved_path g);
+          quits = laws.quits-moved good c n l v runs l.start v.history.seen v.attempt.reads no_sample no_check again z (inl (sym i.start, refl)) (subst (λ (y : View). AbortsEager n y z) moved_path g);
           others = others h.left;
           after = after;
           apart = λ e. apart (sym e);
           is = refl;
           late = (ended-by n w z g).0;
-          trail = (let m = ended-by n w z g in m.1 ∙ ap (λ (y : View). m.0 ++ y.steps.trail) moved_path);
+          step_trace = (let m = ended-by n w z g in m.1 ∙ ap (λ (y : View). m.0 ++ y.steps.step_trace) moved_path);
         }
           where
-            others : (left_at r v.steps.trail ≡ Some word) ⊎ (1 < c.callers) → 1 < c.callers
+            others : (left_at r v.steps.step_trace ≡ Some word) ⊎ (1 < c.callers) → 1 < c.callers
             others (inl left) = moved-others c n mine t.0 v after r word t.1.found left apart
             others (inr many) = many

@@ -9,7 +9,7 @@ use Rattle.stm_model.specs.declared.config.Config.{Config}
 use Rattle.stm_model.specs.Memories.{is_empty}
 use Rattle.rule_base.specs.declared.entries.Cell.{Cell}
 use Rattle.rule_base.specs.declared.seats.SeatView.{SeatView}
-use Rattle.rule_base.specs.declared.views.TrailItem.{TrailItem}
+use Rattle.rule_base.specs.declared.views.TracedStep.{TracedStep}
 use Rattle.rule_base.specs.declared.views.View.{View}
 use Rattle.rule_base.specs.Bridge.{addresses, items}
 use Rattle.rule_base.specs.History.{over, touches, without, Inside, Small}
@@ -23,7 +23,7 @@ use Rattle.stm_rule.specs.EagerKept.{IsEager}
 use Rattle.tx_answers.specs.declared.answers.Roll.TheVariants.{Rolled}
 use Rattle.tx_answers.specs.Answers.{Rolls, kept_rolled}
 use Rattle.tx_answers.specs.Causes.{has_item}
-use Rattle.tx_answers.specs.Known.{Known, known_of, kept_under, written_under}
+use Rattle.tx_answers.specs.CallerState.{CallerState, known_of, kept_under, written_under}
 use Rattle.tx_logs.specs.LogStates.{LogState, rolled, firsts}
 use Rattle.stm_gate.specs.Peeling.{has-touched}
 use Rattle.stm_gate.specs.RollItems.{has-by, has-take, first-addresses, first-fewer}
@@ -33,10 +33,10 @@ use Rattle.alg_orec.proofs.EagerProving.{plain-of}
 use Rattle.alg_orec.proofs.EagerReleasing.{restore_item}
 use Rattle.alg_orec.proofs.NestingOpening.{GoesOn, inside-at, rolls-log}
 use Rattle.alg_orec.specs.EagerEnding.{restoring}
-use Rattle.alg_orec.specs.EagerNesting.{CanRestoreBehind, RestoresBehind, CanPlaceAgain, PlacesAgain}
+use Rattle.alg_orec.specs.EagerNesting.{CanRestoreAfter, RestoresAfter, CanPlaceAgain, PlacesAgain}
 
 -- a word is stored again
-pub again-step : {K : Type 0} → (first s t : SeatView K) (more : List TrailItem) (a x y : ℕ) (m : World) → s ≡ record first { view = restoring first.view s.view.owned.in_place more } → t ≡ record s { view = view_after (orec_place a x) m s.view y }
+pub again-step : {K : Type 0} → (first s t : SeatView K) (more : List TracedStep) (a x y : ℕ) (m : World) → s ≡ record first { view = restoring first.view s.view.owned.in_place more } → t ≡ record s { view = view_after (orec_place a x) m s.view y }
     → t ≡ record first { view = restoring first.view t.view.owned.in_place (restore_item a x ∷ more) }
 again-step {K} first s t more a x y m e p = p ∙ (ap (λ (z : SeatView K). record z { view = view_after (orec_place a x) m z.view y }) e
     ∙ (λ j. record first { view = restoring first.view (sym in_place j) (restore_item a x ∷ more) }))
@@ -51,12 +51,12 @@ small-without a cs h b d low = subst (λ (x : ℕ). x < 2 ^ 64) (sym (over-witho
     by true = low
     by false = h b d low
 
-module _ {good : List ℕ → Type 0} {c : Config} {n : ℕ} {l : Local} {v : View} {q : Known} (a : GoesOn good c n l v q) (named : q.alg ≡ OrecEager) (revocable : q.granted ≡ false) where
+module _ {good : List ℕ → Type 0} {c : Config} {n : ℕ} {l : Local} {v : View} {q : CallerState} (a : GoesOn good c n l v q) (named : q.alg ≡ OrecEager) (revocable : q.granted ≡ false) where
   eager : v.gate.algorithm ≡ OrecEager
-  eager = ap (λ (p : Known). p.alg) (sym a.knows) ∙ named
+  eager = ap (λ (p : CallerState). p.alg) (sym a.knows) ∙ named
 
   plain : l.granted ≡ false
-  plain = plain-of good c n l v a.inside eager (own_of l) (ap (λ (p : Known). p.granted) (sym a.knows) ∙ revocable)
+  plain = plain-of good c n l v a.inside eager (own_of l) (ap (λ (p : CallerState). p.granted) (sym a.knows) ∙ revocable)
 
   k : IsEager c l v
   k = kept a named plain
@@ -68,7 +68,7 @@ module _ {good : List ℕ → Type 0} {c : Config} {n : ℕ} {l : Local} {v : Vi
   pub within : length l.writes.items ≤ l.undo.len
   within = let a = k.shorter in let b = k.most in omega arith
 
-  pub may-restore : CanRestoreBehind c.words l.undo.items l.writes.items v
+  pub may-restore : CanRestoreAfter c.words l.undo.items l.writes.items v
   may-restore = record {
     has = record { runs = record { phase = a.inside.phase; algorithm = ap has_records eager; plain = k.optimistic.ungranted }; inside = k.inside };
     undo = k.undo;
@@ -92,7 +92,7 @@ module _ {good : List ℕ → Type 0} {c : Config} {n : ℕ} {l : Local} {v : Vi
     was-placed a h = has-touched a v.owned.in_place ∙ (ap (has_item a) (sym k.writes) ∙ has-take a left l.writes.items (sym (has-by a log.items (take left l.writes.items) of-place) ∙ h))
 
     -- the first words are stored still
-    module _ (u : View) (back : RestoresBehind left l.writes.items v u) where
+    module _ (u : View) (back : RestoresAfter left l.writes.items v u) where
       undo-same : u.owned.undo ≡ v.owned.undo
       undo-same = ap (λ (y : View). y.owned.undo) back.is
 
@@ -114,7 +114,7 @@ module _ {good : List ℕ → Type 0} {c : Config} {n : ℕ} {l : Local} {v : Vi
         abbrev m : Local
         m = record l { writes = log; wrote = wrote; depth = d }
 
-        abbrev more : List TrailItem
+        abbrev more : List TracedStep
         more = again.more ++ back.more
 
         abbrev after : List Cell → View
@@ -122,7 +122,7 @@ module _ {good : List ℕ → Type 0} {c : Config} {n : ℕ} {l : Local} {v : Vi
 
         path : w ≡ after w.owned.in_place
         path = again.is ∙ ((λ j. restoring (back.is j) w.owned.in_place again.more)
-            ∙ (λ j. record v { owned = record v.owned { in_place = w.owned.in_place }; steps = record v.steps { trail = sym (append_assoc again.more back.more v.steps.trail) j } }))
+            ∙ (λ j. record v { owned = record v.owned { in_place = w.owned.in_place }; steps = record v.steps { step_trace = sym (append_assoc again.more back.more v.steps.step_trace) j } }))
 
         keeps-at : (in_place : List Cell) → items in_place ≡ log.items → Small in_place → Keeps c l.algorithm l.granted m (after in_place)
         keeps-at in_place placed small =
@@ -133,7 +133,7 @@ module _ {good : List ℕ → Type 0} {c : Config} {n : ℕ} {l : Local} {v : Vi
 
             keeps : IsEager c m (after in_place)
             keeps = record {
-              optimistic = record { unlocked = k.optimistic.unlocked; unfixed = k.optimistic.unfixed; unwritten = k.optimistic.unwritten; uncommitted = k.optimistic.uncommitted; ungranted = k.optimistic.ungranted; uncalm = k.optimistic.uncalm; unstored = k.optimistic.unstored; rises = k.optimistic.rises };
+              optimistic = record { unlocked = k.optimistic.unlocked; unfixed = k.optimistic.unfixed; unwritten = k.optimistic.unwritten; uncommitted = k.optimistic.uncommitted; ungranted = k.optimistic.ungranted; not_quiescent = k.optimistic.not_quiescent; unstored = k.optimistic.unstored; rises = k.optimistic.rises };
               inside = k.inside;
               eager = k.eager;
               open_yet = k.open_yet;

@@ -19,7 +19,7 @@ use Rattle.rule_base.specs.declared.layout.At.{At}
 use Rattle.rule_base.specs.declared.layout.At.TheVariants.{Clock, Record, Heap}
 use Rattle.rule_base.specs.declared.views.Act.TheVariants.{Load, Store, Exchange}
 use Rattle.rule_base.specs.declared.views.Sample.{Sample}
-use Rattle.rule_base.specs.declared.views.TrailItem.{TrailItem}
+use Rattle.rule_base.specs.declared.views.TracedStep.{TracedStep}
 use Rattle.rule_base.specs.declared.views.Validation.{Validation}
 use Rattle.rule_base.specs.declared.views.View.{View}
 use Rattle.rule_base.specs.Bridge.{items}
@@ -42,7 +42,7 @@ use Rattle.steps_orec.specs.RecordFindings.{FindsClock, FindsRecord}
 use Rattle.tx_answers.specs.Causes.{Conflicts, IsInTheWay}
 use Rattle.tx_answers.specs.Causes.Asked.{ForWord}
 use Rattle.tx_answers.specs.Evidence.{Untouched}
-use Rattle.tx_answers.specs.Known.{known_of}
+use Rattle.tx_answers.specs.CallerState.{known_of}
 use Rattle.tx_logs.specs.declared.push.Push.{Push}
 use Rattle.tx_logs.specs.declared.push.Push.TheVariants as pushes
 use Rattle.tx_logs.specs.LogStates.{LogState, Pushes, keep}
@@ -53,7 +53,7 @@ use Rattle.alg_orec.specs.Loading.{CanLoadValid, moved, sampled_at, MayMove, Has
 use Rattle.alg_orec.specs.Locking.{lock_item}
 use Rattle.alg_orec.specs.Validating.{load_of}
 
-untouched-append : (p : At) (is js : List TrailItem) → Untouched p is → Untouched p js → Untouched p (is ++ js)
+untouched-append : (p : At) (is js : List TracedStep) → Untouched p is → Untouched p js → Untouched p (is ++ js)
 untouched-append p [] js a b = b
 untouched-append p (i ∷ is) js a b = (a.0, untouched-append p is js a.1 b)
 
@@ -75,7 +75,7 @@ module _ (good : (ℕ → ℕ) → Type 0) (c : Config) (n a : ℕ) (l : Local) 
     local = refl;
     seen = v.history.seen;
     more = load_of (Heap a) x ∷ [];
-    is = t.2 ∙ (λ i. record v { history = record v.history { front = can.front i }; attempt = record v.attempt { start = can.can.start i; reads = record { at = a; value = x } ∷ v.attempt.reads }; sample = no_sample; check = no_check; steps = record v.steps { trail = load_of (Heap a) x ∷ v.steps.trail } });
+    is = t.2 ∙ (λ i. record v { history = record v.history { front = can.front i }; attempt = record v.attempt { start = can.can.start i; reads = record { at = a; value = x } ∷ v.attempt.reads }; sample = no_sample; check = no_check; steps = record v.steps { step_trace = load_of (Heap a) x ∷ v.steps.step_trace } });
     moves = inl (sym can.can.start, refl);
     owed = inl (sym can.can.start);
     sees = t.1.sees.sees;
@@ -89,8 +89,8 @@ module _ (good : (ℕ → ℕ) → Type 0) (c : Config) (n a : ℕ) (l : Local) 
 -- THE RECORD
 module _ {c : Config} {a : ℕ} {l : Local} {v : View} (can : CanTake c a l v) where
   -- where nothing moved
-  stays : (sample : Sample) (check : Validation) (more : List TrailItem) → record v { sample = sample; check = check; steps = record v.steps { trail = more ++ v.steps.trail } } ≡ moved v l.start v.history.seen v.attempt.reads sample check more
-  stays sample check more = λ i. record v { history = record v.history { front = can.front i }; attempt = record v.attempt { start = can.can.start i }; sample = sample; check = check; steps = record v.steps { trail = more ++ v.steps.trail } }
+  stays : (sample : Sample) (check : Validation) (more : List TracedStep) → record v { sample = sample; check = check; steps = record v.steps { step_trace = more ++ v.steps.step_trace } } ≡ moved v l.start v.history.seen v.attempt.reads sample check more
+  stays sample check more = λ i. record v { history = record v.history { front = can.front i }; attempt = record v.attempt { start = can.can.start i }; sample = sample; check = check; steps = record v.steps { step_trace = more ++ v.steps.step_trace } }
 
   -- it is held already
   pub taken-before : {good : (ℕ → ℕ) → Type 0} {n : ℕ} → touches v.owned.held (home_of c a) ≡ true → HasTaken good c n a l v l v
@@ -133,7 +133,7 @@ module _ {good : (ℕ → ℕ) → Type 0} {c : Config} {n a : ℕ} {l : Local} 
   r = a % c.records
 
   abbrev timed : View
-  timed = record v { steps = record v.steps { trail = load_of Clock clock ∷ v.steps.trail } }
+  timed = record v { steps = record v.steps { step_trace = load_of Clock clock ∷ v.steps.step_trace } }
 
   -- the clock is at its limit
   pub full-before : CLOCK_LIMIT ≤ clock → FindsLimit good c n clock l v l s
@@ -163,13 +163,13 @@ module _ {good : (ℕ → ℕ) → Type 0} {c : Config} {n a : ℕ} {l : Local} 
     inside = can.inside;
   })
 
-  -- what comes behind the load of the clock, as seen from before it
-  move-earlier : (start : ℕ) (seen : List Entry) (more : List TrailItem) → MayMove good c n start seen more timed → MayMove good c n start seen (more ++ load_of Clock clock ∷ []) v
+  -- what comes after the load of the clock, as seen from before it
+  move-earlier : (start : ℕ) (seen : List Entry) (more : List TracedStep) → MayMove good c n start seen more timed → MayMove good c n start seen (more ++ load_of Clock clock ∷ []) v
   move-earlier start seen more (inl q) = inl q
   move-earlier start seen more (inr q) = inr (Contains-append_left more (load_of Clock clock ∷ []) (load_of Clock start) q.0, (let m = q.1 in record { legal = m.legal; below = m.below; seen = m.seen; front = m.front; limit = m.limit; sees = m.sees }), q.2)
 
-  join : (more : List TrailItem) → more ++ (load_of Clock clock ∷ v.steps.trail) ≡ (more ++ load_of Clock clock ∷ []) ++ v.steps.trail
-  join more = sym (append_assoc more (load_of Clock clock ∷ []) v.steps.trail)
+  join : (more : List TracedStep) → more ++ (load_of Clock clock ∷ v.steps.step_trace) ≡ (more ++ load_of Clock clock ∷ []) ++ v.steps.step_trace
+  join more = sym (append_assoc more (load_of Clock clock ∷ []) v.steps.step_trace)
 
   no-alg : (b : Alg) → v.gate.algorithm ≡ b → has_records b ≡ false → ⊥
   no-alg b e none = let f : true ≡ false = sym can.can.opens.has.runs.algorithm ∙ (ap has_records e ∙ none) in absurd cc
@@ -183,7 +183,7 @@ module _ {good : (ℕ → ℕ) → Type 0} {c : Config} {n a : ℕ} {l : Local} 
       early = k.2.early ++ load_of Clock clock ∷ [];
       act = k.2.act;
       late = k.2.late;
-      trail = k.2.trail ∙ ap (λ (q : List TrailItem). k.2.late ++ record { place = Record index; act = k.2.act; found = Some word } ∷ q) (join k.2.early);
+      step_trace = k.2.step_trace ∙ ap (λ (q : List TracedStep). k.2.late ++ record { place = Record index; act = k.2.act; found = Some word } ∷ q) (join k.2.early);
       untouched = untouched-append (Record index) k.2.early (load_of Clock clock ∷ []) k.2.untouched ((λ e. refl), tt);
     },
     way k.3,
@@ -201,7 +201,7 @@ module _ {good : (ℕ → ℕ) → Type 0} {c : Config} {n a : ℕ} {l : Local} 
       middle = k.2.middle;
       act = k.2.act;
       late = k.2.late;
-      trail = k.2.trail ∙ ap (λ (q : List TrailItem). k.2.late ++ record { place = Record index; act = k.2.act; found = Some after } ∷ (k.2.middle ++ record { place = Record index; act = Load; found = Some before } ∷ q)) (join k.2.early);
+      step_trace = k.2.step_trace ∙ ap (λ (q : List TracedStep). k.2.late ++ record { place = Record index; act = k.2.act; found = Some after } ∷ (k.2.middle ++ record { place = Record index; act = Load; found = Some before } ∷ q)) (join k.2.early);
       untouched = k.2.untouched;
       refused = k.2.refused;
     },
@@ -217,7 +217,7 @@ module _ {good : (ℕ → ℕ) → Type 0} {c : Config} {n a : ℕ} {l : Local} 
         local = k.local;
         seen = k.seen;
         more = k.more ++ load_of Clock clock ∷ [];
-        is = k.is ∙ ap (λ (q : List TrailItem). record v { history = record v.history { seen = k.seen; front = m.start }; attempt = record v.attempt { start = m.start }; sample = w.sample; check = w.check; steps = record v.steps { trail = q } }) (join k.more);
+        is = k.is ∙ ap (λ (q : List TracedStep). record v { history = record v.history { seen = k.seen; front = m.start }; attempt = record v.attempt { start = m.start }; sample = w.sample; check = w.check; steps = record v.steps { step_trace = q } }) (join k.more);
         moves = move-earlier m.start k.seen k.more k.moves;
         why = λ o p. conflicts-earlier cause o p w (k.why o p);
         others = k.others;
@@ -229,10 +229,10 @@ module _ {good : (ℕ → ℕ) → Type 0} {c : Config} {n a : ℕ} {l : Local} 
     h : HasSampled good c n a word l timed m u
     h = subst (λ (y : View). HasSampled good c n a word l y m u) t.2 sampled
 
-    abbrev late : List TrailItem
+    abbrev late : List TracedStep
     late = h.late ++ load_of (Record r) word ∷ []
 
-    abbrev all : List TrailItem
+    abbrev all : List TracedStep
     all = late ++ load_of Clock clock ∷ []
 
     moves : MayMove good c n m.start h.seen late timed
@@ -242,11 +242,11 @@ module _ {good : (ℕ → ℕ) → Type 0} {c : Config} {n a : ℕ} {l : Local} 
         by (inl q) = inl q
         by (inr q) = inr (Contains-append_left h.late (load_of (Record r) word ∷ []) (load_of Clock m.start) q.0, q.1, q.2)
 
-    abbrev at_sample : Validation → List TrailItem → View
+    abbrev at_sample : Validation → List TracedStep → View
     at_sample check more = moved v m.start h.seen v.attempt.reads (sampled_at a (version_of word)) check more
 
     u_path : u ≡ at_sample u.check all
-    u_path = h.is ∙ ap (λ (q : List TrailItem). record v { history = record v.history { seen = h.seen; front = m.start }; attempt = record v.attempt { start = m.start }; sample = sampled_at a (version_of word); check = u.check; steps = record v.steps { trail = q } }) (join late)
+    u_path = h.is ∙ ap (λ (q : List TracedStep). record v { history = record v.history { seen = h.seen; front = m.start }; attempt = record v.attempt { start = m.start }; sample = sampled_at a (version_of word); check = u.check; steps = record v.steps { step_trace = q } }) (join late)
 
     -- the start moved to the limit
     pub full-later : CLOCK_LIMIT ≤ m.start → FindsLimit good c n m.start l v m u
@@ -274,7 +274,7 @@ module _ {good : (ℕ → ℕ) → Type 0} {c : Config} {n a : ℕ} {l : Local} 
     may-lock = subst (CanOrecLock (version_of word)) (sym u_path) (record { opens = open_at u.check; unraised = can.unraised; new = λ e. h.old })
 
     module _ (found : ℕ) (w : View) (k : Tells (orec_lock n r (version_of word)) (FindsRecord c n r) u found w) where
-      abbrev step : TrailItem
+      abbrev step : TracedStep
       step = lock_item n r (version_of word) found
 
       abbrev locked : Bool → View
@@ -287,7 +287,7 @@ module _ {good : (ℕ → ℕ) → Type 0} {c : Config} {n a : ℕ} {l : Local} 
       is_free = free-word word h.free
 
       others : found ≢ word → (h.late ≡ []) ⊎ (1 < c.callers) → 1 < c.callers
-      others apart (inl none) = moved-others c n low k.0 u found r word k.1 (ap (λ (y : View). left_at r y.steps.trail) h.is ∙ (ap (λ (q : List TrailItem). left_at r ((q ++ load_of (Record r) word ∷ []) ++ timed.steps.trail)) none ∙ left-found r word timed.steps.trail)) apart
+      others apart (inl none) = moved-others c n low k.0 u found r word k.1 (ap (λ (y : View). left_at r y.steps.step_trace) h.is ∙ (ap (λ (q : List TracedStep). left_at r ((q ++ load_of (Record r) word ∷ []) ++ timed.steps.step_trace)) none ∙ left-found r word timed.steps.step_trace)) apart
       others apart (inr many) = many
 
       moves_all : MayMove good c n m.start h.seen (step ∷ all) v
@@ -314,7 +314,7 @@ module _ {good : (ℕ → ℕ) → Type 0} {c : Config} {n a : ℕ} {l : Local} 
             middle = h.late;
             act = Exchange (free_record (version_of word)) (owned_record n);
             late = [];
-            trail = ap (λ (q : List TrailItem). step ∷ q) (sym (join late) ∙ append_assoc h.late (load_of (Record r) word ∷ []) (load_of Clock clock ∷ v.steps.trail));
+            step_trace = ap (λ (q : List TracedStep). step ∷ q) (sym (join late) ∙ append_assoc h.late (load_of (Record r) word ∷ []) (load_of Clock clock ∷ v.steps.step_trace));
             untouched = untouched-loads (Record r) h.late h.loads;
             refused = there;
           },

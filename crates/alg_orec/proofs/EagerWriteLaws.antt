@@ -17,7 +17,7 @@ use Rattle.rule_base.specs.declared.layout.At.TheVariants.{Clock, Heap}
 use Rattle.rule_base.specs.declared.seats.SeatView.{SeatView}
 use Rattle.rule_base.specs.declared.views.Act.TheVariants.{Load, Store}
 use Rattle.rule_base.specs.declared.views.Sample.{Sample}
-use Rattle.rule_base.specs.declared.views.TrailItem.{TrailItem}
+use Rattle.rule_base.specs.declared.views.TracedStep.{TracedStep}
 use Rattle.rule_base.specs.declared.views.Validation.{Validation}
 use Rattle.rule_base.specs.declared.views.View.{View}
 use Rattle.rule_base.specs.Bridge.{addresses, items, of_words}
@@ -29,7 +29,7 @@ use Rattle.rule_base.specs.StepKinds.{Nothing, Tells}
 use Rattle.rule_orec.specs.OrecSteps.{orec_place, CanOrecPlace}
 use Rattle.stm_gate.specs.KeptLaws.{cells-longer, cells-shorter, kept-put, kept-there, length-addresses, member-item}
 use Rattle.stm_gate.specs.Leaving.{left}
-use Rattle.stm_gate.specs.LeavingLaws.{trail-left, finds-full, found-later}
+use Rattle.stm_gate.specs.LeavingLaws.{step_trace-left, finds-full, found-later}
 use Rattle.stm_gate.specs.Logging.{put-new}
 use Rattle.stm_gate.specs.Opacity.{opaque-at}
 use Rattle.stm_gate.specs.Peeling.{has-touched}
@@ -43,7 +43,7 @@ use Rattle.tx_answers.specs.Answers.{HasWritten, StartMoves, kept_with}
 use Rattle.tx_answers.specs.Causes.{Conflicts, FindsNewer, has_item, is_some, writes_full}
 use Rattle.tx_answers.specs.Causes.Asked.{ForWord}
 use Rattle.tx_answers.specs.Evidence.{Found}
-use Rattle.tx_answers.specs.Known.{Grows, known_of, kept_under, written_under, is_in, is_closing, is_irrevocable}
+use Rattle.tx_answers.specs.CallerState.{Grows, known_of, kept_under, written_under, is_in, is_closing, is_irrevocable}
 use Rattle.tx_logs.specs.declared.push.Push.{Push}
 use Rattle.tx_logs.specs.declared.push.Push.TheVariants as pushes
 use Rattle.tx_logs.specs.LogStates.{LogState, Pushes}
@@ -53,7 +53,7 @@ use Rattle.alg_orec.proofs.EagerProving as proving
 use Rattle.alg_orec.proofs.LoadLaws.{owed-later}
 use Rattle.alg_orec.proofs.RecordReads as records
 use Rattle.alg_orec.proofs.LockingLaws.{held-of, unheld-of}
-use Rattle.alg_orec.specs.EagerEnding.{AllBelow, CanTakeBack, TakesBack}
+use Rattle.alg_orec.specs.EagerEnding.{AllBelow, CanAbortEager, AbortsEager}
 use Rattle.alg_orec.specs.EagerTaking.{AllSeen, CanTake, HasTaken, FindsLimit, RefusesTake, CanStoreFirst, StoresFirst}
 use Rattle.alg_orec.specs.Loading.{MayMove, MovesOwed, RefusesRead}
 use Rattle.alg_orec.specs.Validating.{load_of}
@@ -78,14 +78,14 @@ pub seat-then : {K : Type 0} → (s u w : SeatView K) → u ≡ record s { view 
 seat-then {K} s u w e f = λ j. record { who = (ap (λ (y : SeatView K). y.who) f ∙ ap (λ (y : SeatView K). y.who) e) j; view = w.view; gathered = (ap (λ (y : SeatView K). y.gathered) f ∙ ap (λ (y : SeatView K). y.gathered) e) j }
 
 -- the view after a store of x at a
-abbrev pub stored : View → ℕ → List Entry → List Cell → Sample → Validation → ℕ → ℕ → List Cell → List TrailItem → View
+abbrev pub stored : View → ℕ → List Entry → List Cell → Sample → Validation → ℕ → ℕ → List Cell → List TracedStep → View
 stored v start seen held sample check a x undo more = record v {
   history = record v.history { seen = seen; front = start };
   attempt = record v.attempt { start = start };
   owned = record v.owned { held = held; in_place = record { at = a; value = x } ∷ v.owned.in_place; undo = undo };
   sample = sample;
   check = check;
-  steps = record v.steps { trail = more ++ v.steps.trail };
+  steps = record v.steps { step_trace = more ++ v.steps.step_trace };
 }
 
 module _ (good : List ℕ → Type 0) (c : Config) (n : ℕ) (l : Local) (v : View) where
@@ -100,7 +100,7 @@ module _ (good : List ℕ → Type 0) (c : Config) (n : ℕ) (l : Local) (v : Vi
     pub sample : Sample
     pub check : Validation
     pub undo : List Cell
-    pub more : List TrailItem
+    pub more : List TracedStep
     pub is : w ≡ stored v q.start seen held sample check a x undo more
     pub moves : MayMove rule c n q.start seen more v
     pub owed : MovesOwed c a q.start more v
@@ -177,7 +177,7 @@ module _ (good : List ℕ → Type 0) (c : Config) (n : ℕ) (l : Local) (v : Vi
     room-again a there = filled a true (length l.undo.items == l.undo.len) there refl
 
     -- THE REFUSALS
-    pub writes-full : (a x : ℕ) (w : View) → item_at a l.undo.items ≡ None → length l.undo.items ≡ l.undo.len → TakesBack n v w → HasWritten good c n a x (writes.Full l.undo.len) (known_of v o) (known_of w o)
+    pub writes-full : (a x : ℕ) (w : View) → item_at a l.undo.items ≡ None → length l.undo.items ≡ l.undo.len → AbortsEager n v w → HasWritten good c n a x (writes.Full l.undo.len) (known_of v o) (known_of w o)
     writes-full a x w none full g = (laws.quits-here good c n l v runs w g, filled a false true (ap is_some none) (grind (arith, nat_tests)), refl)
 
     pub may-take : (a : ℕ) → a < c.words → 0 < c.records → HasRoom l → item_at a l.writes.items ≡ None → length l.undo.items ≢ l.undo.len → CanTake c a l v
@@ -193,26 +193,26 @@ module _ (good : List ℕ → Type 0) (c : Config) (n : ℕ) (l : Local) (v : Vi
       inside = low;
     }
 
-    pub writes-refused : (a x : ℕ) (cause : Cause) (m : Local) (u w : View) → item_at a l.undo.items ≡ None → length l.undo.items ≢ l.undo.len → RefusesRead rule c n a cause l v m u → TakesBack n u w → HasWritten good c n a x (writes.Conflict cause) (known_of v o) (known_of w o)
+    pub writes-refused : (a x : ℕ) (cause : Cause) (m : Local) (u w : View) → item_at a l.undo.items ≡ None → length l.undo.items ≢ l.undo.len → RefusesRead rule c n a cause l v m u → AbortsEager n u w → HasWritten good c n a x (writes.Conflict cause) (known_of v o) (known_of w o)
     writes-refused a x cause m u w none room h g = (
-      laws.quits-moved good c n l v runs m.start h.seen v.attempt.reads u.sample u.check h.more w h.moves (subst (λ (y : View). TakesBack n y w) h.is g),
+      laws.quits-moved good c n l v runs m.start h.seen v.attempt.reads u.sample u.check h.more w h.moves (subst (λ (y : View). AbortsEager n y w) h.is g),
       subst (λ (y : View). Conflicts c n (ForWord a) cause (known_of v o) (known_of y o)) (sym g.is)
           (proving.conflicts-later c n (ForWord a) cause (known_of v o) (known_of u o) (known_of (left n g.before) o) (ap has_records eager) more.0 more.1 (h.why o o)),
       h.others,
       room-free a none room,
     )
       where
-        more : (more : List TrailItem) × ((left n g.before).steps.trail ≡ more ++ u.steps.trail)
-        more = trail-left n u g.before g.unmade.carried
+        more : (more : List TracedStep) × ((left n g.before).steps.step_trace ≡ more ++ u.steps.step_trace)
+        more = step_trace-left n u g.before g.unmade.carried
 
-    pub may-take-full : (clock : ℕ) (m : Local) (u : View) → FindsLimit rule c n clock l v m u → CanTakeBack c m u
-    may-take-full clock m u h = subst (CanTakeBack c m) (sym h.is) (laws.may-take good c n l v runs m m.start h.seen v.attempt.reads u.sample u.check h.more (ap (λ (q : Local). q.locks) h.local) (ap (λ (q : Local). q.undo) h.local))
+    pub may-take-full : (clock : ℕ) (m : Local) (u : View) → FindsLimit rule c n clock l v m u → CanAbortEager c m u
+    may-take-full clock m u h = subst (CanAbortEager c m) (sym h.is) (laws.may-take good c n l v runs m m.start h.seen v.attempt.reads u.sample u.check h.more (ap (λ (q : Local). q.locks) h.local) (ap (λ (q : Local). q.undo) h.local))
 
-    pub writes-limit : (a x clock : ℕ) (m : Local) (u w : View) → item_at a l.undo.items ≡ None → length l.undo.items ≢ l.undo.len → FindsLimit rule c n clock l v m u → TakesBack n u w → HasWritten good c n a x (writes.ClockFull clock) (known_of v o) (known_of w o)
+    pub writes-limit : (a x clock : ℕ) (m : Local) (u w : View) → item_at a l.undo.items ≡ None → length l.undo.items ≢ l.undo.len → FindsLimit rule c n clock l v m u → AbortsEager n u w → HasWritten good c n a x (writes.ClockFull clock) (known_of v o) (known_of w o)
     writes-limit a x clock m u w none room h g = let more = proving.ended-by n u w g in (
-      laws.quits-moved good c n l v runs m.start h.seen v.attempt.reads u.sample u.check h.more w h.moves (subst (λ (y : View). TakesBack n y w) h.is g),
+      laws.quits-moved good c n l v runs m.start h.seen v.attempt.reads u.sample u.check h.more w h.moves (subst (λ (y : View). AbortsEager n y w) h.is g),
       ap asks_at_write eager,
-      finds-full clock v w o o h.limit (found-later Clock clock (known_of v o) (known_of u o) (known_of w o) (h.more, ap (λ (y : View). y.steps.trail) h.is, Load, h.found) more.0 more.1),
+      finds-full clock v w o o h.limit (found-later Clock clock (known_of v o) (known_of u o) (known_of w o) (h.more, ap (λ (y : View). y.steps.step_trace) h.is, Load, h.found) more.0 more.1),
       room-free a none room,
     )
 
@@ -223,13 +223,13 @@ module _ (good : List ℕ → Type 0) (c : Config) (n : ℕ) (l : Local) (v : Vi
     refused-local a (writes.Full limit) m u h = absurd h
     refused-local a (writes.ClockFull clock) m u h = (h.local, ap (λ (y : View). y.gate) h.is)
 
-    pub may-take-refusal : (a : ℕ) (refusal : Write) (m : Local) (u : View) → RefusesTake rule c n a refusal l v m u → CanTakeBack c m u
+    pub may-take-refusal : (a : ℕ) (refusal : Write) (m : Local) (u : View) → RefusesTake rule c n a refusal l v m u → CanAbortEager c m u
     may-take-refusal a writes.Done m u h = absurd h
     may-take-refusal a (writes.Conflict cause) m u h = laws.may-take-refused good c n l v runs a cause m u h
     may-take-refusal a (writes.Full limit) m u h = absurd h
     may-take-refusal a (writes.ClockFull clock) m u h = may-take-full clock m u h
 
-    pub writes-refusal : (a x : ℕ) (refusal : Write) (m : Local) (u w : View) → item_at a l.undo.items ≡ None → length l.undo.items ≢ l.undo.len → RefusesTake rule c n a refusal l v m u → TakesBack n u w → HasWritten good c n a x refusal (known_of v o) (known_of w o)
+    pub writes-refusal : (a x : ℕ) (refusal : Write) (m : Local) (u w : View) → item_at a l.undo.items ≡ None → length l.undo.items ≢ l.undo.len → RefusesTake rule c n a refusal l v m u → AbortsEager n u w → HasWritten good c n a x refusal (known_of v o) (known_of w o)
     writes-refusal a x writes.Done m u w none room h g = absurd h
     writes-refusal a x (writes.Conflict cause) m u w none room h g = writes-refused a x cause m u w none room h g
     writes-refusal a x (writes.Full limit) m u w none room h g = absurd h
@@ -253,7 +253,7 @@ module _ (good : List ℕ → Type 0) (c : Config) (n : ℕ) (l : Local) (v : Vi
         low = let most = k.most in grind (arith, room, most)
 
         laws_taken : View
-        laws_taken = record v { history = record v.history { seen = h.seen; front = m.start }; attempt = record v.attempt { start = m.start }; owned = record v.owned { held = h.held }; sample = h.sample; check = h.check; steps = record v.steps { trail = h.more ++ v.steps.trail } }
+        laws_taken = record v { history = record v.history { seen = h.seen; front = m.start }; attempt = record v.attempt { start = m.start }; owned = record v.owned { held = h.held }; sample = h.sample; check = h.check; steps = record v.steps { step_trace = h.more ++ v.steps.step_trace } }
 
     pub stores-first : (a x : ℕ) (m q : Local) (u w : View) → a < c.words → item_at a l.writes.items ≡ None → item_at a l.undo.items ≡ None → length l.undo.items < l.undo.len → HasTaken rule c n a l v m u → StoresFirst a x m u q w → Stores a x q w
     stores-first a x m q u w low none new space h s = record {
@@ -264,8 +264,8 @@ module _ (good : List ℕ → Type 0) (c : Config) (n : ℕ) (l : Local) (v : Vi
       check = h.check;
       undo = record { at = a; value = s.old } ∷ v.owned.undo;
       more = s.more ++ h.more;
-      is = s.is ∙ (ap (λ (y : View). record y { owned = record y.owned { in_place = record { at = a; value = x } ∷ y.owned.in_place; undo = record { at = a; value = s.old } ∷ y.owned.undo }; steps = record y.steps { trail = s.more ++ y.steps.trail } }) h.is
-          ∙ ((λ j. stored_at (sym start_is j) (sym (append_assoc s.more h.more v.steps.trail) j))));
+      is = s.is ∙ (ap (λ (y : View). record y { owned = record y.owned { in_place = record { at = a; value = x } ∷ y.owned.in_place; undo = record { at = a; value = s.old } ∷ y.owned.undo }; steps = record y.steps { step_trace = s.more ++ y.steps.step_trace } }) h.is
+          ∙ ((λ j. stored_at (sym start_is j) (sym (append_assoc s.more h.more v.steps.step_trace) j))));
       moves = moves_all;
       owed = owed-later c a q.start h.more s.more v (subst (λ (t : ℕ). MovesOwed c a t h.more v) (sym start_is) h.owed);
       locks = ap (λ (k : Local). k.locks.items) s.local ∙ h.locks;
@@ -312,14 +312,14 @@ module _ (good : List ℕ → Type 0) (c : Config) (n : ℕ) (l : Local) (v : Vi
             by true e f = let same : a ≡ b = grind (arith, nat_tests) in subst (λ (z : ℕ). touches h.held (home_of c z) ≡ true) same h.its
             by false e f = h.keeps (home_of c b) (k.covered b f)
 
-        stored_at : ℕ → List TrailItem → View
-        stored_at start trail = record v {
+        stored_at : ℕ → List TracedStep → View
+        stored_at start step_trace = record v {
           history = record v.history { seen = h.seen; front = start };
           attempt = record v.attempt { start = start };
           owned = record v.owned { held = h.held; in_place = record { at = a; value = x } ∷ v.owned.in_place; undo = record { at = a; value = s.old } ∷ v.owned.undo };
           sample = h.sample;
           check = h.check;
-          steps = record v.steps { trail = trail };
+          steps = record v.steps { step_trace = step_trace };
         }
 
         moves_all : MayMove rule c n q.start h.seen (s.more ++ h.more) v
@@ -351,7 +351,7 @@ module _ (good : List ℕ → Type 0) (c : Config) (n : ℕ) (l : Local) (v : Vi
       check = v.check;
       undo = v.owned.undo;
       more = record { place = Heap a; act = Store x; found = None } ∷ [];
-      is = t.2 ∙ (λ j. record v { history = record v.history { front = i.front j }; attempt = record v.attempt { start = i.start j }; owned = record v.owned { in_place = record { at = a; value = x } ∷ v.owned.in_place }; steps = record v.steps { trail = record { place = Heap a; act = Store x; found = None } ∷ v.steps.trail } });
+      is = t.2 ∙ (λ j. record v { history = record v.history { front = i.front j }; attempt = record v.attempt { start = i.start j }; owned = record v.owned { in_place = record { at = a; value = x } ∷ v.owned.in_place }; steps = record v.steps { step_trace = record { place = Heap a; act = Store x; found = None } ∷ v.steps.step_trace } });
       moves = inl (sym i.start, refl);
       owed = inl (sym i.start);
       locks = k.locks;
@@ -391,7 +391,7 @@ module _ (good : List ℕ → Type 0) (c : Config) (n : ℕ) (l : Local) (v : Vi
 
       grown : Grows (known_of v o) (known_of y p)
       grown = let g = records.grown (laws.reading good c n l v runs) q.start s.seen s.more s.moves v.attempt.reads s.sample s.check p (ap (λ (d : Local). d.reads.len) s.local) s.undo_len in
-          record { later = g.later; is = g.is; ascending = g.ascending; up_to = g.up_to; front_rose = g.front_rose; more = g.more; trail = g.trail; reads_limit = g.reads_limit; writes_limit = g.writes_limit; fenced = g.fenced }
+          record { later = g.later; is = g.is; ascending = g.ascending; up_to = g.up_to; front_rose = g.front_rose; more = g.more; step_trace = g.step_trace; reads_limit = g.reads_limit; writes_limit = g.writes_limit; fenced = g.fenced }
 
       start-moves : MayMove rule c n q.start s.seen s.more v → MovesOwed c a q.start s.more v → (q.start ≡ v.attempt.start) ⊎ (Found Clock q.start (known_of v o) (known_of y p) × FindsNewer c a (known_of v o) (known_of y p))
       start-moves (inl e) d = inl e.0
@@ -439,7 +439,7 @@ module _ (good : List ℕ → Type 0) (c : Config) (n : ℕ) (l : Local) (v : Vi
         steady = i.steady;
         spared = record { is = i.spared.is; fits = i.spared.fits };
         keeps = keeps-eager (record {
-          optimistic = record { unlocked = k.optimistic.unlocked; unfixed = k.optimistic.unfixed; unwritten = k.optimistic.unwritten; uncommitted = k.optimistic.uncommitted; ungranted = ungranted; uncalm = k.optimistic.uncalm; unstored = k.optimistic.unstored; rises = k.optimistic.rises };
+          optimistic = record { unlocked = k.optimistic.unlocked; unfixed = k.optimistic.unfixed; unwritten = k.optimistic.unwritten; uncommitted = k.optimistic.uncommitted; ungranted = ungranted; not_quiescent = k.optimistic.not_quiescent; unstored = k.optimistic.unstored; rises = k.optimistic.rises };
           inside = k.inside;
           eager = k.eager;
           open_yet = k.open_yet;

@@ -12,7 +12,7 @@ use Rattle.rule_base.specs.declared.seats.Who.{Who}
 use Rattle.rule_base.specs.declared.views.Act.TheVariants.{Load}
 use Rattle.rule_base.specs.declared.views.GateView.{GateView}
 use Rattle.rule_base.specs.declared.views.LockView.{LockView}
-use Rattle.rule_base.specs.declared.views.TrailItem.{TrailItem}
+use Rattle.rule_base.specs.declared.views.TracedStep.{TracedStep}
 use Rattle.rule_base.specs.declared.views.View.{View}
 use Rattle.rule_base.specs.Bridge.{items, of_words, public_history}
 use Rattle.rule_base.specs.Own.{Own}
@@ -24,9 +24,9 @@ use Rattle.stm_rule.specs.StandLemmas.{inside-of}
 use Rattle.steps_orec.specs.RecordFindings.{Moves}
 use Rattle.tx_logs.specs.LogStates.{LogState}
 use Rattle.tx_answers.specs.declared.answers.Irrev.TheVariants as irrevs
-use Rattle.tx_answers.specs.Answers.{BecomesIrrevocable, Irrevs, Quits, Waits}
+use Rattle.tx_answers.specs.Answers.{TriesIrrevocable, Irrevs, Quits, Waits}
 use Rattle.tx_answers.specs.Causes.Asked.{ToPromote}
-use Rattle.tx_answers.specs.Known.{Known, IsRunning, known_of, caller_of, granted_under, kept_under, written_under, is_irrevocable, is_in, is_closing, wrote}
+use Rattle.tx_answers.specs.CallerState.{CallerState, IsRunning, known_of, caller_of, granted_under, kept_under, written_under, is_irrevocable, is_in, is_closing, wrote}
 use Rattle.stm_gate.specs.Granting.{IsAlone, Grants, irrevs-after, irrevocable-already}
 use Rattle.stm_gate.specs.Knowing.{known, number}
 use Rattle.stm_gate.specs.LeavingLaws.{IsUnmade, found-later, finds-full}
@@ -75,10 +75,10 @@ pub record CanGrant (alg : Alg) (good : List ℕ → Type 0) (c : Config) (n : �
 
 module _ {K : Type 0} (good : K → List ℕ → Type 0) (stm : Stm K) {e : Handle K} {who : Who K} {v : View} {n : ℕ} {l : Local} (a : Opened good stm e who v n l) (runs : IsRunning (known e)) (alg : Alg) (has : has_records alg ≡ true) (named : (known e).alg ≡ alg) where
   inside : IsInside (good stm.rule) stm.config n l v
-  inside = inside-of (good stm.rule) stm.config n l v (in-of v.gate.phase (ap (λ (k : Known). k.running) (sym a.knows) ∙ runs.0)) a.stands
+  inside = inside-of (good stm.rule) stm.config n l v (in-of v.gate.phase (ap (λ (k : CallerState). k.running) (sym a.knows) ∙ runs.0)) a.stands
 
   under : v.gate.algorithm ≡ alg
-  under = ap (λ (k : Known). k.alg) (sym a.knows) ∙ named
+  under = ap (λ (k : CallerState). k.alg) (sym a.knows) ∙ named
 
   granted-of : is_irrevocable (known_of v (own_of l)) ≡ l.granted
   granted-of = granted-known (good stm.rule) stm.config n l v inside (ap has_records under ∙ has)
@@ -89,14 +89,14 @@ module _ {K : Type 0} (good : K → List ℕ → Type 0) (stm : Stm K) {e : Hand
     under = under;
     named = sym inside.named ∙ under;
     plain = sym granted-of ∙ (ap is_irrevocable (sym a.knows) ∙ revocable);
-    free = ap (λ (k : Known). k.committing) (sym a.knows) ∙ runs.1;
+    free = ap (λ (k : CallerState). k.committing) (sym a.knows) ∙ runs.1;
     alone = of-seen good stm a (IsAlone stm.config.callers) alone;
   }
 
   -- one that was promoted before stays as it was
-  pub already : l.granted ≡ true → BecomesIrrevocable (good stm.rule) stm.config (number e) (known e) (known e)
-  already granted = is-known good stm a (λ (k : ℕ) (w : Known). BecomesIrrevocable (good stm.rule) stm.config k w w)
-      (irrevocable-already (good stm.rule) stm.config n l v (own_of l) (ap (λ (k : Known). k.committing) (sym a.knows) ∙ runs.1) inside (granted-of ∙ granted))
+  pub already : l.granted ≡ true → TriesIrrevocable (good stm.rule) stm.config (number e) (known e) (known e)
+  already granted = is-known good stm a (λ (k : ℕ) (w : CallerState). TriesIrrevocable (good stm.rule) stm.config k w w)
+      (irrevocable-already (good stm.rule) stm.config n l v (own_of l) (ap (λ (k : CallerState). k.committing) (sym a.knows) ∙ runs.1) inside (granted-of ∙ granted))
 
 -- of e came y by a promotion, and of that z
 pub granted-alone : {K : Type 0} (good : List ℕ → Type 0) (c : Config) (r : irrevs.the_data) (e y z : Handle K) → y.who ≡ e.who → Waits good c (number e) (known e) (known y) → SparesRecords (known e) (known y) → Grants good c (number y) r (known y) (known z) → Irrevs good c (number e) r (known e) (known z)
@@ -133,10 +133,10 @@ module _ {alg : Alg} {good : List ℕ → Type 0} {c : Config} {n : ℕ} {l : Lo
     fence-kept = subst (λ (x : Local). IsFenceOf x u) (sym q.local) (record { is = ap (λ (y : View). y.gate.fence) q.is ∙ i.spared.is; fits = i.spared.fits })
 
     pub unmade : IsUnmade v u
-    unmade = subst (IsUnmade v) (sym q.is) (record { carried = record { named = refl; base = refl; installs = refl; fence = refl; trail = (q.more, refl); unlocked = optimistic.unlocked; unwritten = optimistic.unwritten }; history = refl })
+    unmade = subst (IsUnmade v) (sym q.is) (record { carried = record { named = refl; base = refl; installs = refl; fence = refl; step_trace = (q.more, refl); unlocked = optimistic.unlocked; unwritten = optimistic.unwritten }; history = refl })
 
     -- and what is told after it
-    pub tells-refused : (z : View) (p : Local) → p ≡ ended (record m { committing = false }) → Quits (known_of v (own_of l)) (known_of z (with_commit false (own_of l))) → (more : List TrailItem) × (z.steps.trail ≡ more ++ u.steps.trail)
+    pub tells-refused : (z : View) (p : Local) → p ≡ ended (record m { committing = false }) → Quits (known_of v (own_of l)) (known_of z (with_commit false (own_of l))) → (more : List TracedStep) × (z.steps.step_trace ≡ more ++ u.steps.step_trace)
         → Grants good c n refusal (known_of v (own_of l)) (known_of z (own_of p))
     tells-refused z p idle quits t = subst (λ (x : Local). Grants good c n refusal (known_of v o) (known_of z (own_of x))) (sym (idle ∙ ap (λ (x : Local). ended (record x { committing = false })) q.local)) (by refusal q.why)
       where
@@ -155,7 +155,7 @@ module _ {alg : Alg} {good : List ℕ → Type 0} {c : Config} {n : ℕ} {l : Lo
         )
 
   -- IT IS PROMOTED, to the clock t: this is stored, and these are the words that it still keeps with its descriptor
-  module _ (seen : List Entry) (t : ℕ) (more : List TrailItem) (stores : List Cell) (words : LogState) (moves : Moves (of_words good c.words) c seen v t) where
+  module _ (seen : List Entry) (t : ℕ) (more : List TracedStep) (stores : List Cell) (words : LogState) (moves : Moves (of_words good c.words) c seen v t) where
     abbrev promoted : Local
     promoted = record l { start = t; writes = words; granted = true }
 
@@ -183,7 +183,7 @@ module _ {alg : Alg} {good : List ℕ → Type 0} {c : Config} {n : ℕ} {l : Lo
 
     pub tells-promoted : Contains more (load_of Clock t) → written_under alg true y (own_of promoted) ≡ written_under alg false v (own_of l) → (kept_under alg v (own_of l) ≡ [] → kept_under alg y (own_of promoted) ≡ []) → v.gate.granted ≡ false → (m : Local) (w : View) → m ≡ promoted → w ≡ y
         → Grants good c n irrevs.Granted (known_of v (own_of l)) (known_of w (own_of m))
-    tells-promoted found written kept ungranted m w local is = subst (λ (q : Local). BecomesIrrevocable good c n (known_of v o) (known_of w (own_of q))) (sym local) (subst (λ (q : View). BecomesIrrevocable good c n (known_of v o) (known_of q p)) (sym is) (record {
+    tells-promoted found written kept ungranted m w local is = subst (λ (q : Local). TriesIrrevocable good c n (known_of v o) (known_of w (own_of q))) (sym local) (subst (λ (q : View). TriesIrrevocable good c n (known_of v o) (known_of q p)) (sym is) (record {
       continues = record {
         running = ap is_in i.phase;
         closing = ap is_closing i.phase;
@@ -195,7 +195,7 @@ module _ {alg : Alg} {good : List ℕ → Type 0} {c : Config} {n : ℕ} {l : Lo
           up_to = q.3;
           front_rose = moves.front;
           more = more;
-          trail = refl;
+          step_trace = refl;
           reads_limit = refl;
           writes_limit = refl;
           fenced = refl;

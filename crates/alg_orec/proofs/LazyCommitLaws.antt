@@ -15,7 +15,7 @@ use Rattle.rule_base.specs.declared.entries.Entry.{Entry}
 use Rattle.rule_base.specs.declared.layout.At.{At}
 use Rattle.rule_base.specs.declared.layout.At.TheVariants.{Clock, Record}
 use Rattle.rule_base.specs.declared.views.Act.TheVariants.{Load, Exchange}
-use Rattle.rule_base.specs.declared.views.TrailItem.{TrailItem}
+use Rattle.rule_base.specs.declared.views.TracedStep.{TracedStep}
 use Rattle.rule_base.specs.declared.views.Validation.{Validation}
 use Rattle.rule_base.specs.declared.views.View.{View}
 use Rattle.rule_base.specs.Bridge.{items, of_words, public_history}
@@ -34,25 +34,25 @@ use Rattle.stm_rule.specs.RecordsKept.{cells_of, IsLazy}
 use Rattle.tx_answers.specs.Causes.{Conflicts, IsStaleAt, OwesValidation, has_item}
 use Rattle.tx_answers.specs.Causes.Asked.{ToCommit}
 use Rattle.tx_answers.specs.Evidence.{Found, Untouched}
-use Rattle.tx_answers.specs.Known.{Grows, known_of, granted_under, written_under, is_irrevocable, wrote}
-use Rattle.tx_answers.specs.KnownLaws.{grows-same}
+use Rattle.tx_answers.specs.CallerState.{Grows, known_of, granted_under, written_under, is_irrevocable, wrote}
+use Rattle.tx_answers.specs.CallerStateLaws.{grows-same}
 use Rattle.stm_gate.specs.LeavingLaws.{IsUnmade}
 use Rattle.stm_gate.specs.Opacity.{later-seen}
 use Rattle.stm_gate.specs.Peeling.{has-touched}
 use Rattle.alg_orec.specs.Committing.{CanCommit, readied, Owed, IsReady, IsStopped, Prepares}
-use Rattle.alg_orec.specs.Ending.{CanRollBack}
+use Rattle.alg_orec.specs.Ending.{CanAbortLazy}
 use Rattle.alg_orec.specs.Locking.{holding_still, lock_item, CanLockAll, WasFree, IsRefused, Holds, LocksEach, StopsLocking}
 use Rattle.alg_orec.specs.Validating.{load_of, OnlyLoads, CanValidate, Refuses, IsFoundStale, IsHeldNewer, IsStale, IsValid, Validates}
 use Rattle.stm_gate.specs.Cells.{items-cells}
 use Rattle.alg_orec.proofs.Proving.{lazy-of}
 
 -- loads change no word
-pub untouched-loads : (p : At) (is rest : List TrailItem) → OnlyLoads is → Untouched p rest → Untouched p (is ++ rest)
+pub untouched-loads : (p : At) (is rest : List TracedStep) → OnlyLoads is → Untouched p rest → Untouched p (is ++ rest)
 untouched-loads p [] rest o u = u
 untouched-loads p (i ∷ is) rest o u = (λ e. rw o.0 refl, untouched-loads p is rest o.1 u)
 
-apart_lists : (a b d t : List TrailItem) (x : TrailItem) → (a ++ (b ++ x ∷ d)) ++ t ≡ (a ++ b) ++ x ∷ (d ++ t)
-apart_lists a b d t x = append_assoc a (b ++ x ∷ d) t ∙ (ap (λ (s : List TrailItem). a ++ s) (append_assoc b (x ∷ d) t) ∙ sym (append_assoc a b (x ∷ (d ++ t))))
+apart_lists : (a b d t : List TracedStep) (x : TracedStep) → (a ++ (b ++ x ∷ d)) ++ t ≡ (a ++ b) ++ x ∷ (d ++ t)
+apart_lists a b d t x = append_assoc a (b ++ x ∷ d) t ∙ (ap (λ (s : List TracedStep). a ++ s) (append_assoc b (x ∷ d) t) ∙ sym (append_assoc a b (x ∷ (d ++ t))))
 
 others-by : (n callers : ℕ) → n < callers → (callers ≡ 1 → ⊥) → 1 < callers
 others-by n callers low apart = omega arith
@@ -93,7 +93,7 @@ module _ (good : List ℕ → Type 0) (c : Config) (n : ℕ) (low : n < c.caller
   pub holds-still : Holds c n l v l v []
   holds-still = record { local = refl; len = refl; is = refl; locks = k.locks; places = k.places; few = k.few; versions = k.versions }
 
-  pub may-validate : (m : Local) (u : View) (more : List TrailItem) → Holds c n l v m u more → CanValidate c m u
+  pub may-validate : (m : Local) (u : View) (more : List TracedStep) → Holds c n l v m u more → CanValidate c m u
   may-validate m u more h = record {
     opens = subst HasOpen (sym h.is) (record { has = record { runs = record { phase = i.phase; algorithm = ap has_records lazy; plain = k.optimistic.ungranted }; inside = k.inside }; open_yet = k.open_yet });
     start = ap (λ (y : View). y.attempt.start) h.is ∙ (i.start ∙ sym (ap (λ (q : Local). q.start) h.local));
@@ -104,8 +104,8 @@ module _ (good : List ℕ → Type 0) (c : Config) (n : ℕ) (low : n < c.caller
   }
 
   -- an attempt that holds records can be taken back
-  pub can-roll : (m : Local) (y : View) (held : List Cell) (check : Validation) (more : List TrailItem) → y ≡ record (holding_still v held more) { check = check } → m.locks.items ≡ items held → Inside c.records held → ((r : ℕ) → touches held r ≡ true → over held r 0 ≤ CLOCK_LIMIT) → CanRollBack c m y
-  can-roll m y held check more is locks places versions = subst (CanRollBack c m) (sym is) (record {
+  pub can-roll : (m : Local) (y : View) (held : List Cell) (check : Validation) (more : List TracedStep) → y ≡ record (holding_still v held more) { check = check } → m.locks.items ≡ items held → Inside c.records held → ((r : ℕ) → touches held r ≡ true → over held r 0 ≤ CLOCK_LIMIT) → CanAbortLazy c m y
+  can-roll m y held check more is locks places versions = subst (CanAbortLazy c m) (sym is) (record {
     opens = record { has = record { runs = record { phase = i.phase; algorithm = ap has_records lazy; plain = k.optimistic.ungranted }; inside = k.inside }; open_yet = k.open_yet };
     lazy = k.lazy;
     unplaced = k.unplaced;
@@ -123,7 +123,7 @@ module _ (good : List ℕ → Type 0) (c : Config) (n : ℕ) (low : n < c.caller
   })
 
   -- READY: the attempt stands as in the middle of its commit
-  module _ (start : ℕ) (locks : LogState) (seen : List Entry) (held : List Cell) (loaded : Bool) (check : Validation) (more : List TrailItem) where
+  module _ (start : ℕ) (locks : LogState) (seen : List Entry) (held : List Cell) (loaded : Bool) (check : Validation) (more : List TracedStep) where
     abbrev in_commit : Local
     in_commit = record l { start = start; locks = locks; committing = true }
 
@@ -159,7 +159,7 @@ module _ (good : List ℕ → Type 0) (c : Config) (n : ℕ) (low : n < c.caller
             unwritten = k.optimistic.unwritten;
             uncommitted = k.optimistic.uncommitted;
             ungranted = k.optimistic.ungranted;
-            uncalm = k.optimistic.uncalm;
+            not_quiescent = k.optimistic.not_quiescent;
             unstored = k.optimistic.unstored;
             rises = k.optimistic.rises;
           };
@@ -218,7 +218,7 @@ module _ (good : List ℕ → Type 0) (c : Config) (n : ℕ) (low : n < c.caller
       path = h.is ∙ (λ j. record (holding_still v u.owned.held e.more) { history = record v.history { front = (i.front ∙ sym start) j }; attempt = record v.attempt { start = (i.start ∙ sym start) j } })
 
   -- where all reads were validated
-  pub ready-valid : (m q : Local) (u w : View) (more : List TrailItem) → Holds c n l v m u more → ((a : ℕ) → touches (cells_of l.writes.items) a ≡ true → touches u.owned.held (home_of c a) ≡ true) → Owed good c n l v w → IsValid c n (of_words good c.words) m u q w → IsReady good c n l v q w
+  pub ready-valid : (m q : Local) (u w : View) (more : List TracedStep) → Holds c n l v m u more → ((a : ℕ) → touches (cells_of l.writes.items) a ≡ true → touches u.owned.held (home_of c a) ≡ true) → Owed good c n l v w → IsValid c n (of_words good c.words) m u q w → IsReady good c n l v q w
   ready-valid m q u w more h covered due valid = record {
     local = whole;
     len = ap (λ (p : Local). p.locks.len) valid.local ∙ h.len;
@@ -241,8 +241,8 @@ module _ (good : List ℕ → Type 0) (c : Config) (n : ℕ) (low : n < c.caller
       whole = valid.local ∙ (ap (λ (p : Local). record p { start = q.start }) h.local ∙ (λ j. record l { start = q.start; locks = sym (ap (λ (p : Local). p.locks) valid.local) j }))
 
       path : w ≡ readied v valid.history q.start u.owned.held false no_check (valid.more ++ more)
-      path = valid.is ∙ (ap (λ (y : View). record y { history = record y.history { seen = valid.history; front = q.start }; attempt = record y.attempt { start = q.start }; sample = record y.sample { loaded = false }; check = no_check; steps = record y.steps { trail = valid.more ++ y.steps.trail } }) h.is
-          ∙ ap (λ (t : List TrailItem). record (readied v valid.history q.start u.owned.held false no_check []) { steps = record v.steps { trail = t } }) (sym (append_assoc valid.more more v.steps.trail)))
+      path = valid.is ∙ (ap (λ (y : View). record y { history = record y.history { seen = valid.history; front = q.start }; attempt = record y.attempt { start = q.start }; sample = record y.sample { loaded = false }; check = no_check; steps = record y.steps { step_trace = valid.more ++ y.steps.step_trace } }) h.is
+          ∙ ap (λ (t : List TracedStep). record (readied v valid.history q.start u.owned.held false no_check []) { steps = record v.steps { step_trace = t } }) (sym (append_assoc valid.more more v.steps.step_trace)))
 
       front_is : u.history.front ≡ v.history.front
       front_is = ap (λ (y : View). y.history.front) h.is
@@ -261,14 +261,14 @@ module _ (good : List ℕ → Type 0) (c : Config) (n : ℕ) (low : n < c.caller
         up_to = r.3;
         front_rose = front;
         more = valid.more ++ more;
-        trail = refl;
+        step_trace = refl;
         reads_limit = refl;
         writes_limit = refl;
         fenced = refl;
       }
 
       found : (o : Own) → Found Clock q.start (known_of v o) (known_of w o)
-      found o = (valid.more ++ more, ap (λ (y : View). y.steps.trail) path, Load, Contains-append_left valid.more more (load_of Clock q.start) valid.found)
+      found o = (valid.more ++ more, ap (λ (y : View). y.steps.step_trace) path, Load, Contains-append_left valid.more more (load_of Clock q.start) valid.found)
 
   -- STOPPED: a record that can't be taken
   pub stopped-locking : (cause : causes.the_data) (m : Local) (u : View) → StopsLocking c n cause l v m u → IsStopped good c n cause l v m u
@@ -278,22 +278,22 @@ module _ (good : List ℕ → Type 0) (c : Config) (n : ℕ) (low : n < c.caller
     few = h.few;
     can = can-roll m u u.owned.held v.check (s.last ++ s.before) h.is h.locks h.places h.versions;
     gate = ap (λ (y : View). y.gate) h.is;
-    unmade = subst (IsUnmade v) (sym h.is) (record { carried = record { named = refl; base = refl; installs = refl; fence = refl; trail = (s.last ++ s.before, refl); unlocked = k.optimistic.unlocked; unwritten = k.optimistic.unwritten }; history = refl });
+    unmade = subst (IsUnmade v) (sym h.is) (record { carried = record { named = refl; base = refl; installs = refl; fence = refl; step_trace = (s.last ++ s.before, refl); unlocked = k.optimistic.unlocked; unwritten = k.optimistic.unwritten }; history = refl });
     rises = ap (λ (y : View). y.steps.rises) h.is;
-    conflicts = λ o e mid. why cause o e s.last trail s.why;
+    conflicts = λ o e mid. why cause o e s.last step_trace s.why;
     others = others_of cause s.last s.why;
   }
     where
       h : Holds c n l v m u (s.last ++ s.before)
       h = s.locks.holds
 
-      trail : u.steps.trail ≡ (s.last ++ s.before) ++ v.steps.trail
-      trail = ap (λ (y : View). y.steps.trail) h.is
+      step_trace : u.steps.step_trace ≡ (s.last ++ s.before) ++ v.steps.step_trace
+      step_trace = ap (λ (y : View). y.steps.step_trace) h.is
 
       records : has_records v.gate.algorithm ≡ true
       records = ap has_records lazy
 
-      why : (cause : causes.the_data) (o : Own) → o.buffered ≡ cells_of l.writes.items → (last : List TrailItem) → u.steps.trail ≡ (last ++ s.before) ++ v.steps.trail → IsRefused c n (home_of c s.a) cause l.start last → Conflicts c n ToCommit cause (known_of v o) (known_of u o)
+      why : (cause : causes.the_data) (o : Own) → o.buffered ≡ cells_of l.writes.items → (last : List TracedStep) → u.steps.step_trace ≡ (last ++ s.before) ++ v.steps.step_trace → IsRefused c n (home_of c s.a) cause l.start last → Conflicts c n ToCommit cause (known_of v o) (known_of u o)
       why (causes.Clock had now) o e last t f = absurd f
       why (causes.Record index word start) o e last t f = (
         records,
@@ -302,7 +302,7 @@ module _ (good : List ℕ → Type 0) (c : Config) (n : ℕ) (low : n < c.caller
           early = s.before;
           act = Load;
           late = [];
-          trail = t ∙ ap (λ (is : List TrailItem). (is ++ s.before) ++ v.steps.trail) f.2.last ∙ ap (λ (r : ℕ). record { place = Record r; act = Load; found = Some word } ∷ (s.before ++ v.steps.trail)) (sym f.0);
+          step_trace = t ∙ ap (λ (is : List TracedStep). (is ++ s.before) ++ v.steps.step_trace) f.2.last ∙ ap (λ (r : ℕ). record { place = Record r; act = Load; found = Some word } ∷ (s.before ++ v.steps.step_trace)) (sym f.0);
           untouched = subst (λ (r : ℕ). Untouched (Record r) s.before) (sym f.0) s.untouched;
         },
         inl ((s.a, f.0, has_written o s.a e s.written), (f.2.owned, f.2.other)),
@@ -316,7 +316,7 @@ module _ (good : List ℕ → Type 0) (c : Config) (n : ℕ) (low : n < c.caller
           middle = [];
           act = Exchange (free_record g.version) (owned_record n);
           late = [];
-          trail = t ∙ ap (λ (is : List TrailItem). (is ++ s.before) ++ v.steps.trail) g.last ∙ ap (λ (r : ℕ). lock_item n r g.version after ∷ load_of (Record r) before ∷ (s.before ++ v.steps.trail)) (sym f.0);
+          step_trace = t ∙ ap (λ (is : List TracedStep). (is ++ s.before) ++ v.steps.step_trace) g.last ∙ ap (λ (r : ℕ). lock_item n r g.version after ∷ load_of (Record r) before ∷ (s.before ++ v.steps.step_trace)) (sym f.0);
           untouched = tt;
           refused = let p = g.apart in let q = g.free in grind (arith, nat_tests);
         },
@@ -324,7 +324,7 @@ module _ (good : List ℕ → Type 0) (c : Config) (n : ℕ) (low : n < c.caller
       why (causes.Filter time bits) o e last t f = absurd f
       why (causes.Overrun start clock) o e last t f = absurd f
 
-      others_of : (cause : causes.the_data) (last : List TrailItem) → IsRefused c n (home_of c s.a) cause l.start last → 1 < c.callers
+      others_of : (cause : causes.the_data) (last : List TracedStep) → IsRefused c n (home_of c s.a) cause l.start last → 1 < c.callers
       others_of (causes.Clock had now) last f = absurd f
       others_of (causes.Record index word start) last f = f.2.others
       others_of (causes.Moved index before after) last f = f.1.others
@@ -332,19 +332,19 @@ module _ (good : List ℕ → Type 0) (c : Config) (n : ℕ) (low : n < c.caller
       others_of (causes.Overrun start clock) last f = absurd f
 
   -- or a read that isn't valid
-  module _ (m : Local) (u w : View) (more : List TrailItem) (h : Holds c n l v m u more) (free : (r : ℕ) → touches u.owned.held r ≡ true → l.start < over u.owned.held r 0 → WasFree r (over u.owned.held r 0) more)
+  module _ (m : Local) (u w : View) (more : List TracedStep) (h : Holds c n l v m u more) (free : (r : ℕ) → touches u.owned.held r ≡ true → l.start < over u.owned.held r 0 → WasFree r (over u.owned.held r 0) more)
       (apart : (r : ℕ) → touches u.owned.held r ≡ false → Untouched (Record r) more) (sole : (r : ℕ) → touches u.owned.held r ≡ true → l.start < over u.owned.held r 0 → c.callers ≡ 1 → over u.owned.held r 0 ≤ c.clock + v.steps.rises) where
     start_is : u.attempt.start ≡ l.start
     start_is = ap (λ (y : View). y.attempt.start) h.is ∙ i.start
 
     stale_path : (index word start : ℕ) (s : IsStale c n index word start u w) → w ≡ record (holding_still v u.owned.held (s.more ++ more)) { check = w.check }
-    stale_path index word start s = s.is ∙ (ap (λ (y : View). record y { check = w.check; steps = record y.steps { trail = s.more ++ y.steps.trail } }) h.is ∙ ap (λ (t : List TrailItem). record (holding_still v u.owned.held []) { check = w.check; steps = record v.steps { trail = t } }) (sym (append_assoc s.more more v.steps.trail)))
+    stale_path index word start s = s.is ∙ (ap (λ (y : View). record y { check = w.check; steps = record y.steps { step_trace = s.more ++ y.steps.step_trace } }) h.is ∙ ap (λ (t : List TracedStep). record (holding_still v u.owned.held []) { check = w.check; steps = record v.steps { step_trace = t } }) (sym (append_assoc s.more more v.steps.step_trace)))
 
     stale-conflicts : (index word start : ℕ) → IsStale c n index word start u w → (o : Own) → OwesValidation c ToCommit (known_of v o) (known_of w o) → Conflicts c n ToCommit (causes.Record index word start) (known_of v o) (known_of w o) × (1 < c.callers)
     stale-conflicts index word start s o due = by s.why
       where
-        trail : w.steps.trail ≡ (s.more ++ more) ++ v.steps.trail
-        trail = ap (λ (y : View). y.steps.trail) (stale_path index word start s)
+        step_trace : w.steps.step_trace ≡ (s.more ++ more) ++ v.steps.step_trace
+        step_trace = ap (λ (y : View). y.steps.step_trace) (stale_path index word start s)
 
         from : start ≡ v.attempt.start
         from = s.start ∙ (start_is ∙ sym i.start)
@@ -361,7 +361,7 @@ module _ (good : List ℕ → Type 0) (c : Config) (n : ℕ) (low : n < c.caller
               early = f.early ++ more;
               act = Load;
               late = [];
-              trail = trail ∙ ap (λ (is : List TrailItem). (is ++ more) ++ v.steps.trail) f.last;
+              step_trace = step_trace ∙ ap (λ (is : List TracedStep). (is ++ more) ++ v.steps.step_trace) f.last;
               untouched = untouched-loads (Record index) f.early more (subst OnlyLoads f.last s.loads).1 (apart index f.unheld);
             },
             inr (due, (s.a, s.home, read), subst (λ (t : ℕ). IsStaleAt c n t word) from f.stale),
@@ -376,7 +376,7 @@ module _ (good : List ℕ → Type 0) (c : Config) (n : ℕ) (low : n < c.caller
               early = g.early;
               act = Load;
               late = s.more ++ g.late;
-              trail = trail ∙ (ap (λ (is : List TrailItem). (s.more ++ is) ++ v.steps.trail) g.is ∙ (ap (λ (x : ℕ). (s.more ++ (g.late ++ load_of (Record index) x ∷ g.early)) ++ v.steps.trail) (sym f.word) ∙ apart_lists s.more g.late g.early v.steps.trail (load_of (Record index) word)));
+              step_trace = step_trace ∙ (ap (λ (is : List TracedStep). (s.more ++ is) ++ v.steps.step_trace) g.is ∙ (ap (λ (x : ℕ). (s.more ++ (g.late ++ load_of (Record index) x ∷ g.early)) ++ v.steps.step_trace) (sym f.word) ∙ apart_lists s.more g.late g.early v.steps.step_trace (load_of (Record index) word)));
               untouched = g.untouched;
             },
             inr (due, (s.a, s.home, read), inr (ap is_owned f.word ∙ is_owned-free (over u.owned.held index 0), (let a = f.newer in let e = from in let b : version_of word ≡ over u.owned.held index 0 = ap version_of f.word ∙ version_of-free (over u.owned.held index 0) in omega arith))),
@@ -392,7 +392,7 @@ module _ (good : List ℕ → Type 0) (c : Config) (n : ℕ) (low : n < c.caller
       few = h.few;
       can = can-roll m w u.owned.held w.check (s.more ++ more) path h.locks h.places h.versions;
       gate = ap (λ (y : View). y.gate) path;
-      unmade = subst (IsUnmade v) (sym path) (record { carried = record { named = refl; base = refl; installs = refl; fence = refl; trail = (s.more ++ more, refl); unlocked = k.optimistic.unlocked; unwritten = k.optimistic.unwritten }; history = refl });
+      unmade = subst (IsUnmade v) (sym path) (record { carried = record { named = refl; base = refl; installs = refl; fence = refl; step_trace = (s.more ++ more, refl); unlocked = k.optimistic.unlocked; unwritten = k.optimistic.unwritten }; history = refl });
       rises = ap (λ (y : View). y.steps.rises) path;
       conflicts = λ o e mid. (stale-conflicts index word start s o (due o e mid)).0;
       others = (stale-conflicts index word start s (own_of l) (due (own_of l) refl refl)).1;
@@ -402,26 +402,26 @@ module _ (good : List ℕ → Type 0) (c : Config) (n : ℕ) (low : n < c.caller
     stopped-validating (causes.Overrun start clock) due s = absurd s
 
   -- THE VALIDATION behind the locks, or in a later call
-  pub after-validate : (res : Result (Unit {0}) causes.the_data) (m q : Local) (u w : View) (more : List TrailItem) → Holds c n l v m u more → ((a : ℕ) → touches (cells_of l.writes.items) a ≡ true → touches u.owned.held (home_of c a) ≡ true)
+  pub after-validate : (res : Result (Unit {0}) causes.the_data) (m q : Local) (u w : View) (more : List TracedStep) → Holds c n l v m u more → ((a : ℕ) → touches (cells_of l.writes.items) a ≡ true → touches u.owned.held (home_of c a) ≡ true)
       → ((r : ℕ) → touches u.owned.held r ≡ true → l.start < over u.owned.held r 0 → WasFree r (over u.owned.held r 0) more) → ((r : ℕ) → touches u.owned.held r ≡ false → Untouched (Record r) more)
       → ((r : ℕ) → touches u.owned.held r ≡ true → l.start < over u.owned.held r 0 → c.callers ≡ 1 → over u.owned.held r 0 ≤ c.clock + v.steps.rises) → Owed good c n l v w → Validates c n (of_words good c.words) res m u q w → Prepares good c n res l v q w
   after-validate (Ok x) m q u w more h covered free apart sole due valid = ready-valid m q u w more h covered due valid
   after-validate (Err cause) m q u w more h covered free apart sole due stops = subst (λ (p : Local). IsStopped good c n cause l v p w) (sym stops.0) (stopped-validating m u w more h free apart sole cause due stops.1)
 
   -- a validation only adds steps
-  validates-more : (res : Result (Unit {0}) causes.the_data) (m q : Local) (u w : View) → Validates c n (of_words good c.words) res m u q w → (late : List TrailItem) × (w.steps.trail ≡ late ++ u.steps.trail)
-  validates-more (Ok x) m q u w valid = (valid.more, ap (λ (y : View). y.steps.trail) valid.is)
+  validates-more : (res : Result (Unit {0}) causes.the_data) (m q : Local) (u w : View) → Validates c n (of_words good c.words) res m u q w → (late : List TracedStep) × (w.steps.step_trace ≡ late ++ u.steps.step_trace)
+  validates-more (Ok x) m q u w valid = (valid.more, ap (λ (y : View). y.steps.step_trace) valid.is)
   validates-more (Err cause) m q u w stops = by cause stops.1
     where
-      by : (cause : causes.the_data) → Refuses c n cause u w → (late : List TrailItem) × (w.steps.trail ≡ late ++ u.steps.trail)
+      by : (cause : causes.the_data) → Refuses c n cause u w → (late : List TracedStep) × (w.steps.step_trace ≡ late ++ u.steps.step_trace)
       by (causes.Clock had now) s = absurd s
-      by (causes.Record index word start) s = (s.more, ap (λ (y : View). y.steps.trail) s.is)
+      by (causes.Record index word start) s = (s.more, ap (λ (y : View). y.steps.step_trace) s.is)
       by (causes.Moved index before after) s = absurd s
       by (causes.Filter time bits) s = absurd s
       by (causes.Overrun start clock) s = absurd s
 
   -- it is owed where the newest of the versions that were taken is above the start
-  locked-owes : (newest : ℕ) (m : Local) (u w : View) (late : List TrailItem) → w.steps.trail ≡ late ++ u.steps.trail → l.start < newest → LocksEach c n newest l v m u → Owed good c n l v w
+  locked-owes : (newest : ℕ) (m : Local) (u w : View) (late : List TracedStep) → w.steps.step_trace ≡ late ++ u.steps.step_trace → l.start < newest → LocksEach c n newest l v m u → Owed good c n l v w
   locked-owes newest m u w late steps above e o buffered mid = ⊎_elim
       (λ z. absurd (omega arith))
       (λ f. inr (
@@ -436,8 +436,8 @@ module _ (good : List ℕ → Type 0) (c : Config) (n : ℕ) (low : n < c.caller
       ))
       e.found
     where
-      path : w.steps.trail ≡ (late ++ e.more) ++ v.steps.trail
-      path = steps ∙ (ap (λ (y : View). late ++ y.steps.trail) e.locks.holds.is ∙ sym (append_assoc late e.more v.steps.trail))
+      path : w.steps.step_trace ≡ (late ++ e.more) ++ v.steps.step_trace
+      path = steps ∙ (ap (λ (y : View). late ++ y.steps.step_trace) e.locks.holds.is ∙ sym (append_assoc late e.more v.steps.step_trace))
 
   pub locked-validate : (res : Result (Unit {0}) causes.the_data) (newest : ℕ) (m q : Local) (u w : View) → l.start < newest → LocksEach c n newest l v m u → Validates c n (of_words good c.words) res m u q w → Prepares good c n res l v q w
   locked-validate res newest m q u w above e valid =

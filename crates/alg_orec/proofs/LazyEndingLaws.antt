@@ -15,11 +15,11 @@ use Rattle.stm_rule.specs.RecordsKept.{cells_of, IsLazy}
 use Rattle.tx_answers.specs.declared.answers.Cancel.TheVariants.{Cancelled}
 use Rattle.tx_answers.specs.declared.answers.Commit.TheVariants.{ReadOnly}
 use Rattle.tx_answers.specs.Answers.{Commits, Cancels, EndsAt}
-use Rattle.tx_answers.specs.Known.{known_of, granted_under, written_under, is_irrevocable, wrote}
+use Rattle.tx_answers.specs.CallerState.{known_of, granted_under, written_under, is_irrevocable, wrote}
 use Rattle.stm_gate.specs.Leaving.{CanLeave, left}
 use Rattle.stm_gate.specs.LeavingLaws.{unmade-refl, ended-left}
 use Rattle.stm_gate.specs.Opacity.{opaque-inside}
-use Rattle.alg_orec.specs.Ending.{CanRollBack, GivesUp}
+use Rattle.alg_orec.specs.Ending.{CanAbortLazy, GivesUp}
 use Rattle.stm_gate.specs.Cells.{items-cells}
 use Rattle.alg_orec.proofs.Proving.{lazy-of, with_commit, ends-own}
 
@@ -33,8 +33,8 @@ module _ (good : List ℕ → Type 0) (c : Config) (n : ℕ) (l : Local) (v : Vi
     k : IsLazy c l v
     k = lazy-of good c n l v i (sym i.named ∙ lazy) plain
 
-    pub may-roll_back : CanRollBack c l v
-    may-roll_back = record {
+    pub may-abort : CanAbortLazy c l v
+    may-abort = record {
       opens = record { has = record { runs = record { phase = i.phase; algorithm = ap has_records lazy; plain = k.optimistic.ungranted }; inside = k.inside }; open_yet = k.open_yet };
       lazy = k.lazy;
       unplaced = k.unplaced;

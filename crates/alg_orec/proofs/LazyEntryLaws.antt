@@ -1,4 +1,4 @@
--- What the exchange of the clock in a commit of OrecLazy comes to, and the end behind it.
+-- What the exchange of the clock in a commit of OrecLazy comes to, and the end after it.
 use Rattle.std.proofs.Common.{ℕ, ◌≡◌, ◌≢◌, ◌<◌, ◌≤◌, ◌+◌, List, [], ◌∷◌, ◌++◌, length, Bool, true, false, refl, sym, ap, ◌∙◌, arith, subst, append_assoc, ⊎_elim, inl, inr}
 use Rattle.std.specs.Prelude.{◌==◌, if◌then◌else◌, not, reverse}
 use Rattle.std.proofs.lemmas.Bool.Decides.{nat_tests}
@@ -39,11 +39,11 @@ use Rattle.steps_orec.specs.RecordFindings.{FindsClock, FindsCommit, Enters}
 use Rattle.tx_answers.specs.Answers.{Quits, Commits, CommitsAt, KeepsRule, entry}
 use Rattle.tx_answers.specs.declared.answers.Commit.TheVariants as commits
 use Rattle.tx_answers.specs.Causes.Asked.{ToCommit}
-use Rattle.tx_answers.specs.Known.{Grows, known_of, fenced_of, granted_under, kept_under, written_under, is_in, is_closing, wrote, zeros, locked_under}
+use Rattle.tx_answers.specs.CallerState.{Grows, known_of, fenced_of, granted_under, kept_under, written_under, is_in, is_closing, wrote, zeros, locked_under}
 use Rattle.stm_gate.specs.LeavingLaws.{IsUnmade, found-later, finds-full}
 use Rattle.stm_gate.specs.Opacity.{opaque-inside}
 use Rattle.alg_orec.specs.Committing.{CanCommit, CanFinish, readied, IsReady, IsStopped}
-use Rattle.alg_orec.specs.Ending.{CanRollBack, GivesUp}
+use Rattle.alg_orec.specs.Ending.{CanAbortLazy, GivesUp}
 use Rattle.alg_orec.specs.Validating.{load_of}
 use Rattle.alg_orec.proofs.AgainLaws as again
 use Rattle.alg_orec.proofs.AgainLaws.{tried}
@@ -105,16 +105,16 @@ module _ (good : List ℕ → Type 0) (c : Config) (n : ℕ) (low : n < c.caller
     pub has-orec : HasOrec v
     has-orec = record { runs = record { phase = i.phase; algorithm = ap has_records lazy; plain = k.optimistic.ungranted }; inside = k.inside }
 
-    pub may-roll : (b : Bool) (clock : ℕ) (u : View) → Tells orec_limit (FindsClock c) v clock u → CanRollBack c (record l { committing = b }) u
+    pub may-roll : (b : Bool) (clock : ℕ) (u : View) → Tells orec_limit (FindsClock c) v clock u → CanAbortLazy c (record l { committing = b }) u
     may-roll b clock u t = laws.can-roll good c n low l v can (record l { committing = b }) u v.owned.held v.check (load_of Clock clock ∷ []) t.2 k.locks k.places k.versions
 
     pub tells-full : (clock : ℕ) (u z : View) → CLOCK_LIMIT ≤ l.start → Tells orec_limit (FindsClock c) v clock u → GivesUp n u z → Commits good c n (commits.ClockFull clock) (known_of v o) (known_of z (with_commit false o))
     tells-full clock u z high t g = let f = ended-by n u z g in (
-      quits-here u z (subst (IsUnmade v) (sym t.2) (record { carried = record { named = refl; base = refl; installs = refl; fence = refl; trail = (load_of Clock clock ∷ [], refl); unlocked = k.optimistic.unlocked; unwritten = k.optimistic.unwritten }; history = refl })) (ap (λ (y : View). y.steps.rises) t.2) g,
+      quits-here u z (subst (IsUnmade v) (sym t.2) (record { carried = record { named = refl; base = refl; installs = refl; fence = refl; step_trace = (load_of Clock clock ∷ [], refl); unlocked = k.optimistic.unlocked; unwritten = k.optimistic.unwritten }; history = refl })) (ap (λ (y : View). y.steps.rises) t.2) g,
       ap asks_at_commit lazy,
       laws.wrote_is good c n low l v can o e,
       finds-full clock v z o (with_commit false o) (let a = t.1.started in let b = i.start in omega arith)
-          (found-later Clock clock (known_of v o) (known_of u o) (known_of z (with_commit false o)) (load_of Clock clock ∷ [], ap (λ (y : View). y.steps.trail) t.2, Load, (0, omega arith, refl)) f.0 f.1),
+          (found-later Clock clock (known_of v o) (known_of u o) (known_of z (with_commit false o)) (load_of Clock clock ∷ [], ap (λ (y : View). y.steps.step_trace) t.2, Load, (0, omega arith, refl)) f.0 f.1),
     )
 
     -- what is buffered lies outside the fence that the attempt knows
@@ -125,7 +125,7 @@ module _ (good : List ℕ → Type 0) (c : Config) (n : ℕ) (low : n < c.caller
     pub may-enter : l.committing ≡ true → l.start < CLOCK_LIMIT → KeepsRule good c n (known_of v o) → CanOrecCommit (home_of c) rule c.words l.start (cells_of l.writes.items) (cells_of l.writes.items) v
     may-enter mid under keeps = record {
       has = has-orec;
-      uncalm = k.optimistic.uncalm;
+      not_quiescent = k.optimistic.not_quiescent;
       from = sym i.start;
       limit = omega arith;
       ready = record {
@@ -150,7 +150,7 @@ module _ (good : List ℕ → Type 0) (c : Config) (n : ℕ) (low : n < c.caller
     abbrev exchanged : World → ℕ → Bool → View
     exchanged w now b = record v {
       history = if b then record v.history { made = orec_entry n (l.start + 1) ws v ∷ v.history.made; seen = orec_entry n (l.start + 1) ws v ∷ w.history; front = l.start + 1 } else v.history;
-      steps = record v.steps { rises = if b then v.steps.rises + 1 else v.steps.rises; trail = tried l.start now ∷ v.steps.trail };
+      steps = record v.steps { rises = if b then v.steps.rises + 1 else v.steps.rises; step_trace = tried l.start now ∷ v.steps.step_trace };
       owned = if b then entered_at (l.start + 1) ws v.owned else v.owned;
     }
 
@@ -159,14 +159,14 @@ module _ (good : List ℕ → Type 0) (c : Config) (n : ℕ) (low : n < c.caller
       where
         by : (d : Bool) → record v {
           history = if d then record v.history { made = orec_entry n (l.start + 1) ws v ∷ v.history.made; seen = orec_entry n (l.start + 1) ws v ∷ t.0.history; front = l.start + 1 } else v.history;
-          steps = record (if d then record v.steps { rises = v.steps.rises + 1 } else v.steps) { trail = tried l.start now ∷ (if d then record v.steps { rises = v.steps.rises + 1 } else v.steps).trail };
+          steps = record (if d then record v.steps { rises = v.steps.rises + 1 } else v.steps) { step_trace = tried l.start now ∷ (if d then record v.steps { rises = v.steps.rises + 1 } else v.steps).step_trace };
           owned = if d then entered_at (l.start + 1) ws v.owned else v.owned;
         } ≡ exchanged t.0 now d
         by true = refl
         by false = refl
 
     -- it didn't: the attempt stands as before
-    pub refused_path : (now : ℕ) (u : View) → now ≢ l.start → Tells (orec_commit n l.start ws ws) (FindsCommit rule c n l.start ws) v now u → u ≡ record v { steps = record v.steps { trail = tried l.start now ∷ v.steps.trail } }
+    pub refused_path : (now : ℕ) (u : View) → now ≢ l.start → Tells (orec_commit n l.start ws ws) (FindsCommit rule c n l.start ws) v now u → u ≡ record v { steps = record v.steps { step_trace = tried l.start now ∷ v.steps.step_trace } }
     refused_path now u apart t = exchange_path now u false (grind (arith, nat_tests)) t
 
     pub refused-others : (now : ℕ) (u : View) → now ≢ l.start → Tells (orec_commit n l.start ws ws) (FindsCommit rule c n l.start ws) v now u → 1 < c.callers
@@ -245,7 +245,7 @@ module _ (good : List ℕ → Type 0) (c : Config) (n : ℕ) (low : n < c.caller
           up_to = (omega arith, tt);
           front_rose = (let a = i.front in omega arith);
           more = f.0 ++ tried l.start now ∷ [];
-          trail = f.1 ∙ (ap (λ (y : View). f.0 ++ y.steps.trail) path ∙ sym (append_assoc f.0 (tried l.start now ∷ []) v.steps.trail));
+          step_trace = f.1 ∙ (ap (λ (y : View). f.0 ++ y.steps.step_trace) path ∙ sym (append_assoc f.0 (tried l.start now ∷ []) v.steps.step_trace));
           reads_limit = refl;
           writes_limit = refl;
           fenced = ap (λ (y : View). fenced_of y.fence) g.is ∙ ap fenced_of (g.unmade.carried.fence ∙ ap (λ (y : View). y.fence) path);
@@ -302,7 +302,7 @@ module _ (good : List ℕ → Type 0) (c : Config) (n : ℕ) (low : n < c.caller
     pub keeps-ready : KeepsRule good c n (known_of v o) → KeepsRule good c n (known_of w o)
     keeps-ready keeps wrote = let a = leads-ready in subst (λ (g : Log). logs.Keeps good c.words g) (sym a.log) (keeps (ap (λ (g : Log). not (is_empty g.writes)) (sym a.log) ∙ wrote))
 
-    -- the ends behind it, as seen from the call
+    -- the ends after it, as seen from the call
     pub full-call : (clock : ℕ) (u z : View) → CLOCK_LIMIT ≤ m.start → Tells orec_limit (FindsClock c) w clock u → GivesUp n u z → Commits good c n (commits.ClockFull clock) (known_of v o) (known_of z (with_commit false o))
     full-call clock u z high t g = let q = tells-full in_commit w can-ready o buffered clock u z high t g in (
       quits-leads (known_of v o) (known_of w o) (known_of z (with_commit false o)) leads-ready q.0,
@@ -317,12 +317,12 @@ module _ (good : List ℕ → Type 0) (c : Config) (n : ℕ) (low : n < c.caller
 
     -- AGAIN: another commit was faster, and the attempt stands in the middle of its own
     module _ (now : ℕ) (u : View) (apart : now ≢ m.start) (t : Tells (orec_commit n m.start (cells_of m.writes.items) (cells_of m.writes.items)) (FindsCommit rule c n m.start (cells_of m.writes.items)) w now u) where
-      still_path : u ≡ record w { steps = record w.steps { trail = tried m.start now ∷ w.steps.trail } }
+      still_path : u ≡ record w { steps = record w.steps { step_trace = tried m.start now ∷ w.steps.step_trace } }
       still_path = refused_path in_commit w can-ready o buffered now u apart t
 
       pub stays-again : IsInside good c n in_commit u
       stays-again = let i = r.stays in let k = lazy-of good c n in_commit w r.stays can-ready.lazy can-ready.plain in
-          subst (IsInside good c n in_commit) (sym (still_path ∙ (λ j. record (record w { steps = record w.steps { trail = tried m.start now ∷ w.steps.trail } }) { history = record w.history { front = i.front j }; attempt = record w.attempt { start = i.start j } })))
+          subst (IsInside good c n in_commit) (sym (still_path ∙ (λ j. record (record w { steps = record w.steps { step_trace = tried m.start now ∷ w.steps.step_trace } }) { history = record w.history { front = i.front j }; attempt = record w.attempt { start = i.start j } })))
           (laws.stays-ready good c n low in_commit w can-ready m.start m.locks w.history.seen w.owned.held w.sample.loaded w.check (tried m.start now ∷ []) k.locks k.places k.few k.versions (k.locked refl) (k.olds refl) k.unchecked i.legal i.below i.sees k.sole)
 
       pub stands-again : Stands good c n in_commit u

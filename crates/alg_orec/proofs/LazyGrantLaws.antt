@@ -9,7 +9,7 @@ use Rattle.stm_model.specs.declared.config.TheConstants.{CLOCK_LIMIT}
 use Rattle.stm_model.specs.Memories.{item_at, is_empty}
 use Rattle.rule_base.specs.declared.entries.Cell.{Cell}
 use Rattle.rule_base.specs.declared.layout.At.TheVariants.{Clock}
-use Rattle.rule_base.specs.declared.views.TrailItem.{TrailItem}
+use Rattle.rule_base.specs.declared.views.TracedStep.{TracedStep}
 use Rattle.rule_base.specs.declared.views.View.{View}
 use Rattle.rule_base.specs.Bridge.{items}
 use Rattle.rule_base.specs.Encodings.{fenced}
@@ -18,9 +18,9 @@ use Rattle.stm_rule.specs.declared.local.Local.{Local}
 use Rattle.stm_rule.specs.Attempts.{Stands, emptied, ended, own_of}
 use Rattle.stm_rule.specs.RecordsKept.{cells_of, IsLazy}
 use Rattle.tx_answers.specs.declared.answers.Irrev.TheVariants as irrevs
-use Rattle.tx_answers.specs.Known.{known_of}
+use Rattle.tx_answers.specs.CallerState.{known_of}
 use Rattle.stm_gate.specs.Granting.{Grants}
-use Rattle.alg_orec.specs.Ending.{CanRollBack, GivesUp}
+use Rattle.alg_orec.specs.Ending.{CanAbortLazy, GivesUp}
 use Rattle.alg_orec.specs.Granting.{CanPromote, promoted_at, IsPromoted, IsNotPromoted, CanStoreAll, StoresAll}
 use Rattle.alg_orec.specs.Validating.{load_of}
 use Rattle.stm_gate.specs.Cells.{items-cells, cells-some}
@@ -58,14 +58,14 @@ module _ {good : List ℕ → Type 0} {c : Config} {n : ℕ} {l : Local} {v : Vi
       inside = subst (Inside c.words) (sym k.unplaced) (λ a t. absurd cc);
       small = subst Small (sym k.unplaced) (λ a d lt. lt);
     };
-    uncalm = k.optimistic.uncalm;
+    not_quiescent = k.optimistic.not_quiescent;
     olds = unheld (λ (r : ℕ). over v.owned.held r 0 ≤ l.start);
     below = unheld (λ (r : ℕ). over v.owned.held r 0 < CLOCK_LIMIT);
   }
 
   -- it can be taken back
-  pub may-roll_back : {refusal : irrevs.the_data} {m : Local} {u : View} → IsNotPromoted c n refusal l v m u → CanRollBack c m u
-  may-roll_back {refusal} {m} {u} q = subst (λ (x : Local). CanRollBack c x u) (sym q.local) (subst (CanRollBack c l) (sym q.is) (record {
+  pub may-abort : {refusal : irrevs.the_data} {m : Local} {u : View} → IsNotPromoted c n refusal l v m u → CanAbortLazy c m u
+  may-abort {refusal} {m} {u} q = subst (λ (x : Local). CanAbortLazy c x u) (sym q.local) (subst (CanAbortLazy c l) (sym q.is) (record {
     opens = record { has = record { runs = record { phase = can.inside.phase; algorithm = ap has_records can.under; plain = k.optimistic.ungranted }; inside = k.inside }; open_yet = k.open_yet };
     lazy = k.lazy;
     unplaced = k.unplaced;
@@ -103,13 +103,13 @@ module _ {good : List ℕ → Type 0} {c : Config} {n : ℕ} {l : Local} {v : Vi
     y = record (promoted_at v r.seen m.start (st.more ++ r.more)) { attempt = record { start = m.start; reads = v.attempt.reads; stores = cells_of l.writes.items; entered = false } }
 
     path : w ≡ y
-    path = st.is ∙ ((λ j. record (r.is j) { attempt = record (r.is j).attempt { stores = cells_of (ap (λ (q : Local). q.writes.items) r.local j) }; steps = record (r.is j).steps { trail = st.more ++ (r.is j).steps.trail } })
-        ∙ ap (λ (t : List TrailItem). record y { steps = record v.steps { trail = t } }) (sym (append_assoc st.more r.more v.steps.trail)))
+    path = st.is ∙ ((λ j. record (r.is j) { attempt = record (r.is j).attempt { stores = cells_of (ap (λ (q : Local). q.writes.items) r.local j) }; steps = record (r.is j).steps { step_trace = st.more ++ (r.is j).steps.step_trace } })
+        ∙ ap (λ (t : List TracedStep). record y { steps = record v.steps { step_trace = t } }) (sym (append_assoc st.more r.more v.steps.step_trace)))
 
     pub stands-promoted : (p : Local) → p ≡ promoted → Stands good c n l v → Stands good c n p w
     stands-promoted p local s = opening.stands-promoted can refl r.seen m.start (st.more ++ r.more) (cells_of l.writes.items) (emptied l.writes) r.moves s s.lengths p w local path (record {
       granted = refl;
-      calm = refl;
+      quiescent = refl;
       holds = s.holds ∙ can.alone.holds;
       clear = record { unlocked = k.optimistic.unlocked; unfixed = k.optimistic.unfixed; disowned = none-held; unwritten = k.optimistic.unwritten; uncommitted = k.optimistic.uncommitted; unentered = refl };
       clean = λ e. none_written l.writes.items (no-not (is_empty l.writes.items) (sym k.buffers.wrote ∙ e));

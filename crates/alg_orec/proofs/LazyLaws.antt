@@ -11,7 +11,7 @@ use Rattle.stm_model.specs.Memories.{item_at, put, is_empty, Once}
 use Rattle.rule_base.specs.declared.entries.Cell.{Cell}
 use Rattle.rule_base.specs.declared.entries.Entry.{Entry}
 use Rattle.rule_base.specs.declared.views.Sample.{Sample}
-use Rattle.rule_base.specs.declared.views.TrailItem.{TrailItem}
+use Rattle.rule_base.specs.declared.views.TracedStep.{TracedStep}
 use Rattle.rule_base.specs.declared.views.Validation.{Validation}
 use Rattle.rule_base.specs.declared.views.View.{View}
 use Rattle.rule_base.specs.Encodings.{fenced}
@@ -32,8 +32,8 @@ use Rattle.tx_answers.specs.declared.answers.Write.TheVariants as writes
 use Rattle.tx_answers.specs.Answers.{HasRead, HasWritten, Quits, StartMoves, kept_with}
 use Rattle.tx_answers.specs.Causes.{is_some, writes_full}
 use Rattle.tx_answers.specs.Causes.Asked.{ForWord}
-use Rattle.tx_answers.specs.Known.{known_of, granted_under, kept_under, written_under, is_irrevocable, is_in, is_closing}
-use Rattle.tx_answers.specs.KnownLaws.{grows-same}
+use Rattle.tx_answers.specs.CallerState.{known_of, granted_under, kept_under, written_under, is_irrevocable, is_in, is_closing}
+use Rattle.tx_answers.specs.CallerStateLaws.{grows-same}
 use Rattle.tx_logs.specs.declared.push.Push.TheVariants as pushes
 use Rattle.tx_logs.specs.LogStates.{LogState, Pushes}
 use Rattle.stm_gate.specs.KeptLaws.{kept-put, length-addresses, member-item}
@@ -85,7 +85,7 @@ module _ (good : List ℕ → Type 0) (c : Config) (n : ℕ) (l : Local) (v : Vi
     revocable = (λ j. irrevocable_under (lazy j) (granted_under (lazy j) v.gate v.lock) (not (is_empty (written_under v.gate.algorithm v.gate.granted v o)))) ∙ ungranted
 
     -- the attempt ended from a view that the load came to
-    quits-moved : (start : ℕ) (seen : List Entry) (sample : Sample) (check : Validation) (more : List TrailItem) (w : View) → MayMove rule c n start seen more v → GivesUp n (moved v start seen v.attempt.reads sample check more) w → Quits (known_of v o) (known_of w o)
+    quits-moved : (start : ℕ) (seen : List Entry) (sample : Sample) (check : Validation) (more : List TracedStep) (w : View) → MayMove rule c n start seen more v → GivesUp n (moved v start seen v.attempt.reads sample check more) w → Quits (known_of v o) (known_of w o)
     quits-moved start seen sample check more w moves g = subst (λ (y : View). Quits (known_of v o) (known_of y o)) (sym g.is)
         (reads.quits-moved reading start seen more moves v.attempt.reads sample check g.before g.unmade (let a = g.rises in let b = k.optimistic.rises in (omega arith, omega arith)))
 

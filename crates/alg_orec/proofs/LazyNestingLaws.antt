@@ -14,7 +14,7 @@ use Rattle.stm_rule.specs.Attempts.{Keeps, Stands, own_of}
 use Rattle.stm_rule.specs.RecordsKept.{IsLazy, IsWriteSet, HasMarks}
 use Rattle.tx_answers.specs.declared.answers.Roll.TheVariants.{Rolled}
 use Rattle.tx_answers.specs.Answers.{Rolls, kept_rolled}
-use Rattle.tx_answers.specs.Known.{Known, known_of, kept_under, written_under}
+use Rattle.tx_answers.specs.CallerState.{CallerState, known_of, kept_under, written_under}
 use Rattle.tx_logs.specs.LogStates.{LogState, rolled}
 use Rattle.stm_gate.specs.MarkLaws.{marks-take}
 use Rattle.stm_gate.specs.Cells.{items-cells}
@@ -22,9 +22,9 @@ use Rattle.alg_orec.proofs.NestingOpening.{GoesOn, inside-with, stands-with, rol
 use Rattle.alg_orec.proofs.Proving.{lazy-of}
 
 -- an attempt that was not promoted
-module _ {good : List ℕ → Type 0} {c : Config} {n : ℕ} {l : Local} {v : View} {q : Known} (a : GoesOn good c n l v q) (named : q.alg ≡ OrecLazy) (plain : l.granted ≡ false) where
+module _ {good : List ℕ → Type 0} {c : Config} {n : ℕ} {l : Local} {v : View} {q : CallerState} (a : GoesOn good c n l v q) (named : q.alg ≡ OrecLazy) (plain : l.granted ≡ false) where
   lazy : v.gate.algorithm ≡ OrecLazy
-  lazy = ap (λ (p : Known). p.alg) (sym a.knows) ∙ named
+  lazy = ap (λ (p : CallerState). p.alg) (sym a.knows) ∙ named
 
   pub kept : IsLazy c l v
   kept = lazy-of good c n l v a.inside (sym a.inside.named ∙ lazy) plain

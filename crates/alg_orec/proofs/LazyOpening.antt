@@ -8,7 +8,7 @@ use Rattle.stm_rule.specs.Attempts.{IsInside, Stands, good_by, own_of}
 use Rattle.stm_rule.specs.Callers.{Handle, IsOf, IsTied}
 use Rattle.stm_rule.specs.RecordsKept.{IsLazy}
 use Rattle.stm_rule.specs.StandLemmas.{inside-of}
-use Rattle.tx_answers.specs.Known.{Known, IsRunning}
+use Rattle.tx_answers.specs.CallerState.{CallerState, IsRunning}
 use Rattle.stm_gate.specs.Knowing.{known}
 use Rattle.stm_gate.specs.Opening.{opened}
 use Rattle.stm_gate.specs.Standing.{in-of}
@@ -29,8 +29,8 @@ module _ {K : Type 0} (good : K → List ℕ → Type 0) (stm : Stm K) where
       → IsRunning (known e) → (known e).alg ≡ OrecLazy → l.granted ≡ false → LazyOpening e me n l
   opens-lazy n l me d same tied stands belongs running algorithm plain =
       let a = opened good stm n l same refl tied.named tied.low stands belongs in
-      let inside = inside-of (good stm.rule) stm.config n l me.0.view (in-of me.0.view.gate.phase (ap (λ (k : Known). k.running) (sym a.knows) ∙ running.0)) a.stands in
-      let lazy : me.0.view.gate.algorithm ≡ OrecLazy = ap (λ (k : Known). k.alg) (sym a.knows) ∙ algorithm in
-      let quiet : l.committing ≡ false = ap (λ (k : Known). k.committing) (sym a.knows) ∙ running.1 in
+      let inside = inside-of (good stm.rule) stm.config n l me.0.view (in-of me.0.view.gate.phase (ap (λ (k : CallerState). k.running) (sym a.knows) ∙ running.0)) a.stands in
+      let lazy : me.0.view.gate.algorithm ≡ OrecLazy = ap (λ (k : CallerState). k.alg) (sym a.knows) ∙ algorithm in
+      let quiet : l.committing ≡ false = ap (λ (k : CallerState). k.committing) (sym a.knows) ∙ running.1 in
       let kept = lazy-of (good stm.rule) stm.config n l me.0.view inside lazy plain in
       record { call = record { opening = a; tied = tied; reading = reading (good stm.rule) stm.config n l me.0.view inside lazy plain quiet kept }; inside = inside; lazy = lazy; plain = plain; quiet = quiet; kept = kept }

@@ -12,7 +12,7 @@ use Rattle.rule_base.specs.declared.layout.At.TheVariants.{Clock, Record, Heap}
 use Rattle.rule_base.specs.declared.views.Act.{Act}
 use Rattle.rule_base.specs.declared.views.Act.TheVariants.{Load}
 use Rattle.rule_base.specs.declared.views.Sample.{Sample}
-use Rattle.rule_base.specs.declared.views.TrailItem.{TrailItem}
+use Rattle.rule_base.specs.declared.views.TracedStep.{TracedStep}
 use Rattle.rule_base.specs.declared.views.Validation.{Validation}
 use Rattle.rule_base.specs.declared.views.View.{View}
 use Rattle.rule_base.specs.Bridge.{items}
@@ -31,23 +31,23 @@ use Rattle.steps_orec.specs.RecordFindings.{FindsRecord, FindsAgain}
 use Rattle.tx_answers.specs.Causes.{Conflicts, IsStaleAt, has_item, is_some}
 use Rattle.tx_answers.specs.Causes.Asked.{ForWord}
 use Rattle.tx_answers.specs.Evidence.{Untouched, changes}
-use Rattle.tx_answers.specs.Known.{known_of}
+use Rattle.tx_answers.specs.CallerState.{known_of}
 use Rattle.alg_orec.proofs.Passing.{loads-append}
 use Rattle.alg_orec.proofs.RecordReads.{newer-shown}
 use Rattle.alg_orec.specs.Loading.{CanLoadValid, moved, sampled_at, MayMove, MovesOwed, ShowsNewer, HasSampled, RefusesRead, HasLoaded}
 use Rattle.alg_orec.specs.Validating.{load_of, OnlyLoads, CanValidate, IsFoundStale, IsHeldNewer, IsStale, Refuses, IsValid}
 
 -- loads change no word
-pub untouched-loads : (p : At) (is : List TrailItem) → OnlyLoads is → Untouched p is
+pub untouched-loads : (p : At) (is : List TracedStep) → OnlyLoads is → Untouched p is
 untouched-loads p [] l = tt
 untouched-loads p (i ∷ is) l = ((λ e. ap (λ (a : Act). changes a i.found) l.0), untouched-loads p is l.1)
 
--- what owed a validation, with steps behind it or before it
-pub owed-later : (c : Config) (a start : ℕ) (more late : List TrailItem) (v : View) → MovesOwed c a start more v → MovesOwed c a start (late ++ more) v
+-- what owed a validation, with steps after it or before it
+pub owed-later : (c : Config) (a start : ℕ) (more late : List TracedStep) (v : View) → MovesOwed c a start more v → MovesOwed c a start (late ++ more) v
 owed-later c a start more late v (inl e) = inl e
 owed-later c a start more late v (inr s) = inr (s.0, Contains-append_right late more (load_of (Record (a % c.records)) s.0) s.1, s.2, s.3)
 
-pub owed-earlier : (c : Config) (a start : ℕ) (more early : List TrailItem) (v : View) → MovesOwed c a start more v → MovesOwed c a start (more ++ early) v
+pub owed-earlier : (c : Config) (a start : ℕ) (more early : List TracedStep) (v : View) → MovesOwed c a start more v → MovesOwed c a start (more ++ early) v
 owed-earlier c a start more early v (inl e) = inl e
 owed-earlier c a start more early v (inr s) = inr (s.0, Contains-append_left more early (load_of (Record (a % c.records)) s.0) s.1, s.2, s.3)
 
@@ -64,15 +64,15 @@ module _ (good : (ℕ → ℕ) → Type 0) (c : Config) (n : ℕ) (low : n < c.c
   r = a % c.records
 
   -- where the start stays
-  stays : (sample : Sample) (check : Validation) (more : List TrailItem) → record v { sample = sample; check = check; steps = record v.steps { trail = more ++ v.steps.trail } } ≡ moved v l.start v.history.seen v.attempt.reads sample check more
-  stays sample check more = λ i. record v { history = record v.history { front = can.front i }; attempt = record v.attempt { start = can.can.start i }; sample = sample; check = check; steps = record v.steps { trail = more ++ v.steps.trail } }
+  stays : (sample : Sample) (check : Validation) (more : List TracedStep) → record v { sample = sample; check = check; steps = record v.steps { step_trace = more ++ v.steps.step_trace } } ≡ moved v l.start v.history.seen v.attempt.reads sample check more
+  stays sample check more = λ i. record v { history = record v.history { front = can.front i }; attempt = record v.attempt { start = can.can.start i }; sample = sample; check = check; steps = record v.steps { step_trace = more ++ v.steps.step_trace } }
 
   pub may-sample : CanOrecSample (home_of c) r a v
   may-sample = record { has = can.can.opens.has; its = refl }
 
   module _ (x : ℕ) (u : View) (t : Tells (orec_sample r a) (FindsRecord c n r) v x u) where
     abbrev sampled : Bool → View
-    sampled b = record v { sample = if b then no_sample else sampled_at a (version_of x); steps = record v.steps { trail = load_of (Record r) x ∷ v.steps.trail } }
+    sampled b = record v { sample = if b then no_sample else sampled_at a (version_of x); steps = record v.steps { step_trace = load_of (Record r) x ∷ v.steps.step_trace } }
 
     path : (b : Bool) → is_owned x ≡ b → u ≡ sampled b
     path b e = t.2 ∙ ap sampled e
@@ -88,7 +88,7 @@ module _ (good : (ℕ → ℕ) → Type 0) (c : Config) (n : ℕ) (low : n < c.c
       why = λ o p. (
         can.can.opens.has.runs.algorithm,
         sym can.can.start,
-        record { early = []; act = Load; late = []; trail = refl; untouched = tt },
+        record { early = []; act = Load; late = []; step_trace = refl; untouched = tt },
         inl (refl, (owned, t.1.others owned can.unheld)),
       );
       others = owned-others c n low t.0 v x r t.1 owned can.unheld;
@@ -124,7 +124,7 @@ module _ (good : (ℕ → ℕ) → Type 0) (c : Config) (n : ℕ) (low : n < c.c
     newer free late = newer-others c n low t.0 v x r t.1 free can.can.level (let s = can.can.start in omega arith)
 
     -- a validation is owed
-    is-newer : (more : List TrailItem) → is_owned x ≡ false → l.start < version_of x → ShowsNewer c a (more ++ load_of (Record r) x ∷ []) v
+    is-newer : (more : List TracedStep) → is_owned x ≡ false → l.start < version_of x → ShowsNewer c a (more ++ load_of (Record r) x ∷ []) v
     is-newer more free late = (x, Contains-append_right more (load_of (Record r) x ∷ []) (load_of (Record r) x) (0, omega arith, refl), free, (let s = can.can.start in omega arith))
 
     pub sampled-new : (m : Local) (w : View) → is_owned x ≡ false → l.start < version_of x → IsValid c n good l u m w → HasSampled good c n a x l v m w
@@ -144,10 +144,10 @@ module _ (good : (ℕ → ℕ) → Type 0) (c : Config) (n : ℕ) (low : n < c.c
           next = inr (newer free late);
         })
           where
-            flat : record (sampled false) { history = record v.history { seen = k.history; front = m.start }; attempt = record v.attempt { start = m.start }; sample = sampled_at a (version_of x); check = no_check; steps = record v.steps { trail = k.more ++ load_of (Record r) x ∷ v.steps.trail } }
+            flat : record (sampled false) { history = record v.history { seen = k.history; front = m.start }; attempt = record v.attempt { start = m.start }; sample = sampled_at a (version_of x); check = no_check; steps = record v.steps { step_trace = k.more ++ load_of (Record r) x ∷ v.steps.step_trace } }
                 ≡ moved v m.start k.history v.attempt.reads (sampled_at a (version_of x)) no_check (k.more ++ load_of (Record r) x ∷ [])
-            flat = ap (λ (s : List TrailItem). record (sampled false) { history = record v.history { seen = k.history; front = m.start }; attempt = record v.attempt { start = m.start }; sample = sampled_at a (version_of x); check = no_check; steps = record v.steps { trail = s } })
-                (sym (append_assoc k.more (load_of (Record r) x ∷ []) v.steps.trail))
+            flat = ap (λ (s : List TracedStep). record (sampled false) { history = record v.history { seen = k.history; front = m.start }; attempt = record v.attempt { start = m.start }; sample = sampled_at a (version_of x); check = no_check; steps = record v.steps { step_trace = s } })
+                (sym (append_assoc k.more (load_of (Record r) x ∷ []) v.steps.step_trace))
 
     -- and a read before isn't valid
     pub refused-stale : (cause : Cause) (w : View) → is_owned x ≡ false → l.start < version_of x → Refuses c n cause u w → RefusesRead good c n a cause l v l w
@@ -165,14 +165,14 @@ module _ (good : (ℕ → ℕ) → Type 0) (c : Config) (n : ℕ) (low : n < c.c
           others = newer free late;
         })
           where
-            more : List TrailItem
+            more : List TracedStep
             more = k.more ++ load_of (Record r) x ∷ []
 
             last : View
             last = moved v l.start v.history.seen v.attempt.reads (sampled_at a (version_of x)) w.check more
 
-            flat : record (sampled false) { check = w.check; steps = record v.steps { trail = k.more ++ load_of (Record r) x ∷ v.steps.trail } } ≡ last
-            flat = ap (λ (s : List TrailItem). record (sampled false) { check = w.check; steps = record v.steps { trail = s } }) (sym (append_assoc k.more (load_of (Record r) x ∷ []) v.steps.trail)) ∙ stays (sampled_at a (version_of x)) w.check more
+            flat : record (sampled false) { check = w.check; steps = record v.steps { step_trace = k.more ++ load_of (Record r) x ∷ v.steps.step_trace } } ≡ last
+            flat = ap (λ (s : List TracedStep). record (sampled false) { check = w.check; steps = record v.steps { step_trace = s } }) (sym (append_assoc k.more (load_of (Record r) x ∷ []) v.steps.step_trace)) ∙ stays (sampled_at a (version_of x)) w.check more
 
             why : (o p : Own) → IsFoundStale c n index word start k.more (sampled false) ⊎ IsHeldNewer c n index word start (sampled false) → Conflicts c n (ForWord a) (causes.Record index word start) (known_of v o) (known_of last p)
             why o p (inl f) = (
@@ -182,7 +182,7 @@ module _ (good : (ℕ → ℕ) → Type 0) (c : Config) (n : ℕ) (low : n < c.c
                 early = f.early ++ load_of (Record r) x ∷ [];
                 act = Load;
                 late = [];
-                trail = ap (λ (s : List TrailItem). (s ++ load_of (Record r) x ∷ []) ++ v.steps.trail) f.last;
+                step_trace = ap (λ (s : List TracedStep). (s ++ load_of (Record r) x ∷ []) ++ v.steps.step_trace) f.last;
                 untouched = untouched-loads (Record index) (f.early ++ load_of (Record r) x ∷ []) (loads-append f.early (load_of (Record r) x ∷ []) (early f.last) (refl, tt));
               },
               inr (newer-shown c a more v last o p refl (is-newer k.more free late), (k.a, k.home, has-read v.attempt.reads k.a k.read), stale f.stale),
@@ -198,12 +198,12 @@ module _ (good : (ℕ → ℕ) → Type 0) (c : Config) (n : ℕ) (low : n < c.c
     refused-stale (causes.Filter time bits) w free late q = absurd q
     refused-stale (causes.Overrun start clock) w free late q = absurd q
 
-  -- the word, and the record behind it
+  -- the word, and the record after it
   module _ (word : ℕ) (m : Local) (s : View) (h : HasSampled good c n a word l v m s) where
-    abbrev before : List TrailItem
+    abbrev before : List TracedStep
     before = h.late ++ load_of (Record r) word ∷ []
 
-    open_in : (sample : Sample) (more : List TrailItem) → HasOpen (moved v m.start h.seen v.attempt.reads sample s.check more)
+    open_in : (sample : Sample) (more : List TracedStep) → HasOpen (moved v m.start h.seen v.attempt.reads sample s.check more)
     open_in sample more = let o = can.can.opens in record { has = record { runs = record { phase = o.has.runs.phase; algorithm = o.has.runs.algorithm; plain = o.has.runs.plain }; inside = o.has.inside }; open_yet = o.open_yet }
 
     pub may-load : CanOrecLoad a s
@@ -220,7 +220,7 @@ module _ (good : (ℕ → ℕ) → Type 0) (c : Config) (n : ℕ) (low : n < c.c
       may-confirm = subst (CanOrecConfirm (home_of c) c.words r) (sym load_path) (record { opens = open_in (record (sampled_at a (version_of word)) { loaded = true; value = x }) (load_of (Heap a) x ∷ before); loaded = refl; its = refl; inside = can.inside })
 
       module _ (y : ℕ) (w : View) (k : Tells (orec_confirm r) (FindsAgain good c n r) u y w) where
-        abbrev after : List TrailItem
+        abbrev after : List TracedStep
         after = load_of (Record r) y ∷ load_of (Heap a) x ∷ before
 
         abbrev confirmed : Bool → View
@@ -272,7 +272,7 @@ module _ (good : (ℕ → ℕ) → Type 0) (c : Config) (n : ℕ) (low : n < c.c
               middle = load_of (Heap a) x ∷ h.late;
               act = Load;
               late = [];
-              trail = ap (λ (q : List TrailItem). load_of (Record r) y ∷ load_of (Heap a) x ∷ q) (append_assoc h.late (load_of (Record r) word ∷ []) v.steps.trail);
+              step_trace = ap (λ (q : List TracedStep). load_of (Record r) y ∷ load_of (Heap a) x ∷ q) (append_assoc h.late (load_of (Record r) word ∷ []) v.steps.step_trace);
               untouched = ((λ e. refl), untouched-loads (Record r) h.late h.loads);
               refused = refl;
             },
@@ -284,5 +284,5 @@ module _ (good : (ℕ → ℕ) → Type 0) (c : Config) (n : ℕ) (low : n < c.c
             there = let e : y ≢ free_record (version_of word) = (λ q. apart (q ∙ free-word word h.free)) in grind (arith, nat_tests)
 
             others : (h.late ≡ []) ⊎ (1 < c.callers) → 1 < c.callers
-            others (inl none) = moved-others c n low k.0 loaded y r word shown.found (ap (λ (q : List TrailItem). left_at r ((q ++ load_of (Record r) word ∷ []) ++ v.steps.trail)) none ∙ left-found r word v.steps.trail) apart
+            others (inl none) = moved-others c n low k.0 loaded y r word shown.found (ap (λ (q : List TracedStep). left_at r ((q ++ load_of (Record r) word ∷ []) ++ v.steps.step_trace)) none ∙ left-found r word v.steps.step_trace) apart
             others (inr many) = many

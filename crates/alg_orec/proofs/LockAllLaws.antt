@@ -8,7 +8,7 @@ use Rattle.stm_model.specs.declared.config.Config.{Config}
 use Rattle.stm_model.specs.Memories.{item_at}
 use Rattle.rule_base.specs.declared.entries.Cell.{Cell}
 use Rattle.rule_base.specs.declared.layout.At.TheVariants.{Record}
-use Rattle.rule_base.specs.declared.views.TrailItem.{TrailItem}
+use Rattle.rule_base.specs.declared.views.TracedStep.{TracedStep}
 use Rattle.rule_base.specs.declared.views.View.{View}
 use Rattle.rule_base.specs.Bridge.{items}
 use Rattle.rule_base.specs.Encodings.{free_record}
@@ -37,7 +37,7 @@ pub at-least-both : (a b x : ℕ) → x ≡ ord_max nat_cmp a b → (a ≤ x) ×
 at-least-both a b x e = (grind (arith, nat_tests), grind (arith, nat_tests))
 
 -- the greater of two versions was found where they were
-pub found-more : (c : Config) (n : ℕ) (l : Local) (a version newest next : ℕ) (item : TrailItem) (more : List TrailItem) → touches (cells_of l.writes.items) a ≡ true → next ≡ ord_max nat_cmp newest version → IsOfWritten c n l newest more → IsOfWritten c n l next (item ∷ load_of (Record (home_of c a)) (free_record version) ∷ more)
+pub found-more : (c : Config) (n : ℕ) (l : Local) (a version newest next : ℕ) (item : TracedStep) (more : List TracedStep) → touches (cells_of l.writes.items) a ≡ true → next ≡ ord_max nat_cmp newest version → IsOfWritten c n l newest more → IsOfWritten c n l next (item ∷ load_of (Record (home_of c a)) (free_record version) ∷ more)
 found-more c n l a version newest next item more written is old = by (ltb newest version) refl
   where
     by : (b : Bool) → ltb newest version ≡ b → IsOfWritten c n l next (item ∷ load_of (Record (home_of c a)) (free_record version) ∷ more)

@@ -8,7 +8,7 @@ use Rattle.stm_model.specs.declared.stop.Cause.TheVariants as causes
 use Rattle.stm_model.specs.Memories.{item_at}
 use Rattle.rule_base.specs.declared.entries.Cell.{Cell}
 use Rattle.rule_base.specs.declared.layout.At.TheVariants.{Record}
-use Rattle.rule_base.specs.declared.views.TrailItem.{TrailItem}
+use Rattle.rule_base.specs.declared.views.TracedStep.{TracedStep}
 use Rattle.rule_base.specs.declared.views.View.{View}
 use Rattle.rule_base.specs.Bridge.{items}
 use Rattle.rule_base.specs.BridgeLemmas.{item-none, item-some}
@@ -81,7 +81,7 @@ module _ (c : Config) (n r : ℕ) (low : n < c.callers) (l : Local) (v : View) (
   abbrev locked_at : ℕ → ℕ → ℕ → Bool → View
   locked_at version word found b = record v {
     owned = if b then holding r version v.owned else v.owned;
-    steps = record v.steps { trail = lock_item n r version found ∷ load_of (Record r) word ∷ v.steps.trail };
+    steps = record v.steps { step_trace = lock_item n r version found ∷ load_of (Record r) word ∷ v.steps.step_trace };
   }
 
   lock_path : (word found : ℕ) (s u : View) (b : Bool) → (found == free_record (version_of word)) ≡ b → Tells (orec_look r) (FindsRecord c n r) v word s → Tells (orec_lock n r (version_of word)) (FindsRecord c n r) s found u → u ≡ locked_at (version_of word) word found b
@@ -101,7 +101,7 @@ module _ (c : Config) (n r : ℕ) (low : n < c.callers) (l : Local) (v : View) (
           free = sym is;
           apart = λ e. apart (sym e);
           last = refl;
-          others = moved-others c n low h.0 s found r word h.1 (ap (λ (y : View). left_at r y.steps.trail) t.2 ∙ left-found r word v.steps.trail) apart;
+          others = moved-others c n low h.0 s found r word h.1 (ap (λ (y : View). left_at r y.steps.step_trace) t.2 ∙ left-found r word v.steps.step_trace) apart;
         },
       ),
     ),
@@ -120,7 +120,7 @@ record-is : (a b : ℕ) → Record a ≡ Record b → a ≡ b
 record-is a b e = cc
 
 -- a step at another record leaves this one
-untouched-more : (q r n version found : ℕ) (more : List TrailItem) → q ≢ r → Untouched (Record q) more → Untouched (Record q) (lock_item n r version found ∷ load_of (Record r) (free_record version) ∷ more)
+untouched-more : (q r n version found : ℕ) (more : List TracedStep) → q ≢ r → Untouched (Record q) more → Untouched (Record q) (lock_item n r version found ∷ load_of (Record r) (free_record version) ∷ more)
 untouched-more q r n version found more apart u = ((λ e. absurd (apart (sym (record-is r q e)))), ((λ e. refl), u))
 
 -- at first it holds none
@@ -140,7 +140,7 @@ module _ (c : Config) (n : ℕ) (l : Local) (v : View) where
   }
 
   -- the next record can be looked at
-  pub can-lock : CanLockAll c l v → (m : Local) (w : View) (more : List TrailItem) → Locks c n l v m w more → CanLock m w
+  pub can-lock : CanLockAll c l v → (m : Local) (w : View) (more : List TracedStep) → Locks c n l v m w more → CanLock m w
   can-lock k m w more e = record {
     opens = subst HasOpen (sym e.holds.is) (record { has = record { runs = record { phase = k.can.opens.has.runs.phase; algorithm = k.can.opens.has.runs.algorithm; plain = k.can.opens.has.runs.plain }; inside = k.can.opens.has.inside }; open_yet = k.can.opens.open_yet });
     lazy = ap (λ (y : View). y.owned.eager) e.holds.is ∙ k.can.lazy;
@@ -153,11 +153,11 @@ module _ (c : Config) (n : ℕ) (l : Local) (v : View) where
   covers-all held h a t = let p = cells-at l.writes.items a t in subst (λ (b : ℕ). touches held (home_of c b) ≡ true) p.2 (h p.0 p.1)
 
   -- one record more
-  module _ (r version : ℕ) (m m' : Local) (w w' : View) (more : List TrailItem) (k : Locks c n l v m w more) (h : HasLocked c n r version m w m' w') (low : r < c.records) (new : touches w.owned.held r ≡ false) (few : length m'.locks.items ≤ l.writes.len) where
+  module _ (r version : ℕ) (m m' : Local) (w w' : View) (more : List TracedStep) (k : Locks c n l v m w more) (h : HasLocked c n r version m w m' w') (low : r < c.records) (new : touches w.owned.held r ≡ false) (few : length m'.locks.items ≤ l.writes.len) where
     abbrev grown : List Cell
     grown = record { at = r; value = version } ∷ w.owned.held
 
-    abbrev steps : List TrailItem
+    abbrev steps : List TracedStep
     steps = lock_item n r version (free_record version) ∷ load_of (Record r) (free_record version) ∷ more
 
     path : w' ≡ holding_still v grown steps
@@ -178,7 +178,7 @@ module _ (c : Config) (n : ℕ) (l : Local) (v : View) where
     free_of q false e t = rw e (let f = k.free q (rw e at t) in record {
       late = lock_item n r version (free_record version) ∷ load_of (Record r) (free_record version) ∷ f.late;
       early = f.early;
-      is = ap (λ (s : List TrailItem). lock_item n r version (free_record version) ∷ load_of (Record r) (free_record version) ∷ s) f.is;
+      is = ap (λ (s : List TracedStep). lock_item n r version (free_record version) ∷ load_of (Record r) (free_record version) ∷ s) f.is;
       untouched = f.untouched;
     })
 
@@ -207,16 +207,16 @@ module _ (c : Config) (n : ℕ) (l : Local) (v : View) where
     })
 
   -- the steps by which a record can't be taken change none
-  untouched-last : (r q s : ℕ) (cause : causes.the_data) (last before : List TrailItem) → IsRefused c n r cause s last → Untouched (Record q) before → Untouched (Record q) (last ++ before)
+  untouched-last : (r q s : ℕ) (cause : causes.the_data) (last before : List TracedStep) → IsRefused c n r cause s last → Untouched (Record q) before → Untouched (Record q) (last ++ before)
   untouched-last r q s (causes.Clock had now) last before f u = absurd f
-  untouched-last r q s (causes.Record index word start) last before f u = subst (λ (is : List TrailItem). Untouched (Record q) (is ++ before)) (sym f.2.last) ((λ e. refl), u)
+  untouched-last r q s (causes.Record index word start) last before f u = subst (λ (is : List TracedStep). Untouched (Record q) (is ++ before)) (sym f.2.last) ((λ e. refl), u)
   untouched-last r q s (causes.Moved index was after) last before f u = let g = f.1 in
-      subst (λ (is : List TrailItem). Untouched (Record q) (is ++ before)) (sym g.last) ((λ e. let a = g.apart in let b = g.free in grind (arith, nat_tests)), ((λ e. refl), u))
+      subst (λ (is : List TracedStep). Untouched (Record q) (is ++ before)) (sym g.last) ((λ e. let a = g.apart in let b = g.free in grind (arith, nat_tests)), ((λ e. refl), u))
   untouched-last r q s (causes.Filter time bits) last before f u = absurd f
   untouched-last r q s (causes.Overrun start clock) last before f u = absurd f
 
   -- a record that can't be taken ends it
-  pub locks-stop : (cause : causes.the_data) (a : ℕ) (m m' : Local) (w w' : View) (before last : List TrailItem) → Locks c n l v m w before → touches w.owned.held (home_of c a) ≡ false → touches (cells_of l.writes.items) a ≡ true
+  pub locks-stop : (cause : causes.the_data) (a : ℕ) (m m' : Local) (w w' : View) (before last : List TracedStep) → Locks c n l v m w before → touches w.owned.held (home_of c a) ≡ false → touches (cells_of l.writes.items) a ≡ true
       → m' ≡ m → w' ≡ holding_still w w.owned.held last → IsRefused c n (home_of c a) cause m.start last → StopsLocking c n cause l v m' w'
   locks-stop cause a m m' w w' before last k unheld written same is why = subst (λ (q : Local). StopsLocking c n cause l v q w') (sym same) (subst (StopsLocking c n cause l v m) (sym path) (record {
     before = before;
@@ -225,7 +225,7 @@ module _ (c : Config) (n : ℕ) (l : Local) (v : View) where
     written = written;
     locks = record {
       holds = record { local = k.holds.local; len = k.holds.len; is = refl; locks = k.holds.locks; places = k.holds.places; few = k.holds.few; versions = k.holds.versions };
-      free = λ r t. let f = k.free r t in record { late = last ++ f.late; early = f.early; is = ap (λ (s : List TrailItem). last ++ s) f.is ∙ sym (append_assoc last f.late (load_of (Record r) (free_record (over w.owned.held r 0)) ∷ f.early)); untouched = f.untouched };
+      free = λ r t. let f = k.free r t in record { late = last ++ f.late; early = f.early; is = ap (λ (s : List TracedStep). last ++ s) f.is ∙ sym (append_assoc last f.late (load_of (Record r) (free_record (over w.owned.held r 0)) ∷ f.early)); untouched = f.untouched };
       apart = λ r t. untouched-last (home_of c a) r m.start cause last before why (k.apart r t);
       sole = k.sole;
     };
@@ -235,7 +235,7 @@ module _ (c : Config) (n : ℕ) (l : Local) (v : View) where
   }))
     where
       path : w' ≡ holding_still v w.owned.held (last ++ before)
-      path = is ∙ (ap (λ (y : View). holding_still y w.owned.held last) k.holds.is ∙ ap (λ (t : List TrailItem). record (holding_still v w.owned.held []) { steps = record v.steps { trail = t } }) (sym (append_assoc last before v.steps.trail)))
+      path = is ∙ (ap (λ (y : View). holding_still y w.owned.held last) k.holds.is ∙ ap (λ (t : List TracedStep). record (holding_still v w.owned.held []) { steps = record v.steps { step_trace = t } }) (sym (append_assoc last before v.steps.step_trace)))
 
 -- what holds of the items so far, and of the next one
 pub next-item : (P : ℕ → Type 0) (i : ℕ) → ((j : ℕ) → j < i → P j) → P i → (j : ℕ) → j < i + 1 → P j

@@ -5,7 +5,7 @@ use Rattle.stm_model.specs.declared.alg.Alg.{Alg}
 use Rattle.stm_model.specs.declared.config.Config.{Config}
 use Rattle.rule_base.specs.declared.seats.Who.{Who}
 use Rattle.rule_base.specs.declared.entries.Cell.{Cell}
-use Rattle.rule_base.specs.declared.views.TrailItem.{TrailItem}
+use Rattle.rule_base.specs.declared.views.TracedStep.{TracedStep}
 use Rattle.rule_base.specs.declared.views.View.{View}
 use Rattle.rule_base.specs.Own.{Own}
 use Rattle.stm_rule.specs.declared.local.Local.{Local}
@@ -15,8 +15,8 @@ use Rattle.stm_rule.specs.Callers.{Handle}
 use Rattle.stm_rule.specs.StandLemmas.{inside-of}
 use Rattle.tx_answers.specs.declared.answers.Roll.TheVariants.{Rolled}
 use Rattle.tx_answers.specs.Answers.{Rolls, kept_rolled}
-use Rattle.tx_answers.specs.Known.{Known, IsRunning, known_of, written_under, is_irrevocable, is_in, is_closing}
-use Rattle.tx_answers.specs.KnownLaws.{grows-same}
+use Rattle.tx_answers.specs.CallerState.{CallerState, IsRunning, known_of, written_under, is_irrevocable, is_in, is_closing}
+use Rattle.tx_answers.specs.CallerStateLaws.{grows-same}
 use Rattle.tx_logs.specs.LogStates.{LogState, rolled}
 use Rattle.stm_gate.specs.Knowing.{known}
 use Rattle.stm_gate.specs.Opacity.{opaque-inside}
@@ -27,18 +27,18 @@ use Rattle.alg_orec.specs.EagerEnding.{restoring}
 use Rattle.alg_orec.proofs.GrantOpening.{granted-known}
 
 -- the attempt goes on, and k is what contracts see of it
-pub record GoesOn (good : List ℕ → Type 0) (c : Config) (n : ℕ) (l : Local) (v : View) (k : Known) : Type 0 where
+pub record GoesOn (good : List ℕ → Type 0) (c : Config) (n : ℕ) (l : Local) (v : View) (k : CallerState) : Type 0 where
   pub knows : k ≡ known_of v (own_of l)
   pub stands : Stands good c n l v
   pub inside : IsInside good c n l v
   pub quiet : l.committing ≡ false
 
-by-known : (good : List ℕ → Type 0) (c : Config) (n : ℕ) (l : Local) (v : View) (k : Known) → k ≡ known_of v (own_of l) → IsRunning k → Stands good c n l v → GoesOn good c n l v k
+by-known : (good : List ℕ → Type 0) (c : Config) (n : ℕ) (l : Local) (v : View) (k : CallerState) → k ≡ known_of v (own_of l) → IsRunning k → Stands good c n l v → GoesOn good c n l v k
 by-known good c n l v k knows runs stands = record {
   knows = knows;
   stands = stands;
-  inside = inside-of good c n l v (in-of v.gate.phase (ap (λ (q : Known). q.running) (sym knows) ∙ runs.0)) stands;
-  quiet = ap (λ (q : Known). q.committing) (sym knows) ∙ runs.1;
+  inside = inside-of good c n l v (in-of v.gate.phase (ap (λ (q : CallerState). q.running) (sym knows) ∙ runs.0)) stands;
+  quiet = ap (λ (q : CallerState). q.committing) (sym knows) ∙ runs.1;
 }
 
 -- of the descriptor e, which is d, in a call that is not given the memory
@@ -49,12 +49,12 @@ goes-on {K} good {d} {e} n l same own = by-known (good_by good d.who.rule) d.who
 pub goes-on-of : {K : Type 0} (good : K → List ℕ → Type 0) (stm : Stm K) {e : Handle K} {who : Who K} {v : View} {n : ℕ} {l : Local} → Opened good stm e who v n l → IsRunning (known e) → GoesOn (good stm.rule) stm.config n l v (known e)
 goes-on-of {K} good stm {e} {who} {v} {n} {l} a runs = by-known (good stm.rule) stm.config n l v (known e) a.knows runs a.stands
 
-module _ {good : List ℕ → Type 0} {c : Config} {n : ℕ} {l : Local} {v : View} {k : Known} (a : GoesOn good c n l v k) where
+module _ {good : List ℕ → Type 0} {c : Config} {n : ℕ} {l : Local} {v : View} {k : CallerState} (a : GoesOn good c n l v k) where
   i : IsInside good c n l v
   i = a.inside
 
   -- with another log of writes and at another depth, where this is in place after these steps
-  pub inside-at : (log : LogState) (wrote : Bool) (d : ℕ) (in_place : List Cell) (more : List TrailItem)
+  pub inside-at : (log : LogState) (wrote : Bool) (d : ℕ) (in_place : List Cell) (more : List TracedStep)
       → Keeps c l.algorithm l.granted (record l { writes = log; wrote = wrote; depth = d }) (restoring v in_place more)
       → IsInside good c n (record l { writes = log; wrote = wrote; depth = d }) (restoring v in_place more)
   inside-at log wrote d in_place more keeps = record {
@@ -82,7 +82,7 @@ module _ {good : List ℕ → Type 0} {c : Config} {n : ℕ} {l : Local} {v : Vi
   pub stands-with : (log : LogState) (wrote : Bool) (d : ℕ) → log.len ≡ l.writes.len → Keeps c l.algorithm l.granted (record l { writes = log; wrote = wrote; depth = d }) v → Stands good c n (record l { writes = log; wrote = wrote; depth = d }) v
   stands-with log wrote d len keeps = stands-on good c n l (record l { writes = log; wrote = wrote; depth = d }) v v i.phase a.stands refl refl (len ∙ a.stands.lengths.0, a.stands.lengths.1) refl (inside-with log wrote d keeps)
 
-  pub rolls-log : has_records v.gate.algorithm ≡ true → l.granted ≡ false → (log : LogState) (wrote : Bool) (d : ℕ) (in_place : List Cell) (more : List TrailItem) → log ≡ rolled d l.writes → d ≤ length l.writes.marks
+  pub rolls-log : has_records v.gate.algorithm ≡ true → l.granted ≡ false → (log : LogState) (wrote : Bool) (d : ℕ) (in_place : List Cell) (more : List TracedStep) → log ≡ rolled d l.writes → d ≤ length l.writes.marks
       → (known_of (restoring v in_place more) (own_of (record l { writes = log; wrote = wrote; depth = d }))).kept ≡ kept_rolled v.gate.algorithm (known_of v (own_of l)).kept (known_of (restoring v in_place more) (own_of (record l { writes = log; wrote = wrote; depth = d }))).log.writes
       → written_under v.gate.algorithm v.gate.granted (restoring v in_place more) (own_of (record l { writes = log; wrote = wrote; depth = d })) ≡ log.items
       → IsInside good c n (record l { writes = log; wrote = wrote; depth = d }) (restoring v in_place more)
@@ -123,7 +123,7 @@ module _ {good : List ℕ → Type 0} {c : Config} {n : ℕ} {l : Local} {v : Vi
   -- ONCE IRREVOCABLE a mark is a number
   module _ (alg : Alg) (has : has_records alg ≡ true) (named : k.alg ≡ alg) (granted : l.granted ≡ true) where
     has-here : has_records v.gate.algorithm ≡ true
-    has-here = ap has_records (ap (λ (q : Known). q.alg) (sym a.knows) ∙ named) ∙ has
+    has-here = ap has_records (ap (λ (q : CallerState). q.alg) (sym a.knows) ∙ named) ∙ has
 
     irrevocable : is_irrevocable (known_of v (own_of l)) ≡ true
     irrevocable = granted-known good c n l v i has-here ∙ granted

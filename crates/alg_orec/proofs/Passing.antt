@@ -8,7 +8,7 @@ use Rattle.stm_model.specs.declared.stop.Cause.TheVariants as causes
 use Rattle.stm_model.specs.Memories.{item_at}
 use Rattle.rule_base.specs.declared.entries.Cell.{Cell}
 use Rattle.rule_base.specs.declared.layout.At.TheVariants.{Record}
-use Rattle.rule_base.specs.declared.views.TrailItem.{TrailItem}
+use Rattle.rule_base.specs.declared.views.TracedStep.{TracedStep}
 use Rattle.rule_base.specs.declared.views.Validation.{Validation}
 use Rattle.rule_base.specs.declared.views.View.{View}
 use Rattle.rule_base.specs.Bridge.{items}
@@ -31,7 +31,7 @@ use Rattle.alg_orec.proofs.ReadItems.{touched-at}
 use Rattle.alg_orec.specs.Validating.{load_of, OnlyLoads, read_at, is_old, vouches, CanValidate, IsFoundStale, IsHeldNewer, Refuses, Judges, HasPassed, Passes}
 
 -- a log of what was loaded grows
-pub loads-append : (a b : List TrailItem) → OnlyLoads a → OnlyLoads b → OnlyLoads (a ++ b)
+pub loads-append : (a b : List TracedStep) → OnlyLoads a → OnlyLoads b → OnlyLoads (a ++ b)
 loads-append [] b p q = q
 loads-append (i ∷ is) b p q = (p.0, loads-append is b p.1 q)
 
@@ -59,33 +59,33 @@ module _ (c : Config) (n : ℕ) (low : n < c.callers) (l : Local) (v : View) (ca
   read-is i lt = subst (λ (ws : List (ℕ × ℕ)). i < length ws → touches v.attempt.reads (slice_index_or ws i (0, 0)).0 ≡ true) (sym can.reads) (touched-at v.attempt.reads i) lt
 
   -- the view while a validation is under way
-  abbrev pub under : Validation → List TrailItem → View
-  under check more = record v { check = check; steps = record v.steps { trail = more ++ v.steps.trail } }
+  abbrev pub under : Validation → List TracedStep → View
+  under check more = record v { check = check; steps = record v.steps { step_trace = more ++ v.steps.step_trace } }
 
-  pub opens-under : (check : Validation) (more : List TrailItem) → HasOpen (under check more)
+  pub opens-under : (check : Validation) (more : List TracedStep) → HasOpen (under check more)
   opens-under check more = let o = can.opens in record { has = record { runs = record { phase = o.has.runs.phase; algorithm = o.has.runs.algorithm; plain = o.has.runs.plain }; inside = o.has.inside }; open_yet = o.open_yet }
 
-  pub can-under : (check : Validation) (more : List TrailItem) → CanValidate c l (under check more)
+  pub can-under : (check : Validation) (more : List TracedStep) → CanValidate c l (under check more)
   can-under check more = record { opens = opens-under check more; start = can.start; reads = can.reads; locks = can.locks; versions = can.versions; level = can.level }
 
   -- a record that was loaded passes where the start has seen its version
-  pub passes-by : (check : Validation) (more : List TrailItem) (x : ℕ) → is_owned x ≡ false → version_of x ≤ l.start → passes x (under check more) ≡ true
+  pub passes-by : (check : Validation) (more : List TracedStep) (x : ℕ) → is_owned x ≡ false → version_of x ≤ l.start → passes x (under check more) ≡ true
   passes-by check more x free old = let s = can.start in grind (arith, nat_tests, free)
 
-  pub fails-by : (check : Validation) (more : List TrailItem) (x : ℕ) → (is_owned x ≡ true) ⊎ ((is_owned x ≡ false) × (l.start < version_of x)) → passes x (under check more) ≡ false
+  pub fails-by : (check : Validation) (more : List TracedStep) (x : ℕ) → (is_owned x ≡ true) ⊎ ((is_owned x ≡ false) × (l.start < version_of x)) → passes x (under check more) ≡ false
   fails-by check more x (inl owned) = ap (λ (b : Bool). if b then false else nat_le (version_of x) v.attempt.start) owned
   fails-by check more x (inr newer) = let s = can.start in let free = newer.0 in let late = newer.1 in grind (arith, nat_tests, free)
 
   -- a loaded record that doesn't pass is another caller's, or newer
-  stale-by : (check : Validation) (more : List TrailItem) (r x : ℕ) (m : World) → item_at r l.locks.items ≡ None → FindsRecord c n r m (under check more) x → OrecFails n m (under check more) x
-      → (is_owned x ≡ true) ⊎ ((is_owned x ≡ false) × (l.start < version_of x)) → (after : List TrailItem) → after ≡ load_of (Record r) x ∷ more → IsFoundStale c n r x l.start after v
+  stale-by : (check : Validation) (more : List TracedStep) (r x : ℕ) (m : World) → item_at r l.locks.items ≡ None → FindsRecord c n r m (under check more) x → OrecFails n m (under check more) x
+      → (is_owned x ≡ true) ⊎ ((is_owned x ≡ false) × (l.start < version_of x)) → (after : List TracedStep) → after ≡ load_of (Record r) x ∷ more → IsFoundStale c n r x l.start after v
   stale-by check more r x m none f fails (inl owned) after is = let free = unheld r none in
-      record { early = more; last = is; unheld = free; stale = inl (owned, f.others owned free); others = owned-others c n low m (under check more) x r f owned free; later = λ calm. absurd (let q = f.others owned free in let own = fails.own calm owned in let e = q.3 in q.2 (omega arith)) }
+      record { early = more; last = is; unheld = free; stale = inl (owned, f.others owned free); others = owned-others c n low m (under check more) x r f owned free; later = λ quiescent. absurd (let q = f.others owned free in let own = fails.own quiescent owned in let e = q.3 in q.2 (omega arith)) }
   stale-by check more r x m none f fails (inr newer) after is = let free = unheld r none in
-      record { early = more; last = is; unheld = free; stale = inr newer; others = newer-others c n low m (under check more) x r f newer.0 can.level (let s = can.start in let e = newer.1 in omega arith); later = λ calm. fails.later calm newer.0 (fails-by check more x (inr newer)) }
+      record { early = more; last = is; unheld = free; stale = inr newer; others = newer-others c n low m (under check more) x r f newer.0 can.level (let s = can.start in let e = newer.1 in omega arith); later = λ quiescent. fails.later quiescent newer.0 (fails-by check more x (inr newer)) }
 
   -- the read at a was found stale in the last step, or its record is held in the place of a newer version
-  pub refused-found : (a x : ℕ) (check : Validation) (more : List TrailItem) (w : View) (after : Validation) (m : World) → touches v.attempt.reads a ≡ true → item_at (a % c.records) l.locks.items ≡ None → FindsRecord c n (a % c.records) m (under check more) x → OrecFails n m (under check more) x
+  pub refused-found : (a x : ℕ) (check : Validation) (more : List TracedStep) (w : View) (after : Validation) (m : World) → touches v.attempt.reads a ≡ true → item_at (a % c.records) l.locks.items ≡ None → FindsRecord c n (a % c.records) m (under check more) x → OrecFails n m (under check more) x
       → (is_owned x ≡ true) ⊎ ((is_owned x ≡ false) × (l.start < version_of x)) → OnlyLoads more → w ≡ under after (load_of (Record (a % c.records)) x ∷ more) → Refuses c n (causes.Record (a % c.records) x l.start) v w
   refused-found a x check more w after m read none f fails stale loads is = subst (λ (y : View). Refuses c n (causes.Record (a % c.records) x l.start) v y) (sym is) (record {
     start = sym can.start;
@@ -98,7 +98,7 @@ module _ (c : Config) (n : ℕ) (low : n < c.callers) (l : Local) (v : View) (ca
     why = inl (stale-by check more (a % c.records) x m none f fails stale (load_of (Record (a % c.records)) x ∷ more) refl);
   })
 
-  pub refused-held : (a version : ℕ) (w : View) (after : Validation) (more : List TrailItem) → touches v.attempt.reads a ≡ true → item_at (a % c.records) l.locks.items ≡ Some version → l.start < version → OnlyLoads more → w ≡ under after more
+  pub refused-held : (a version : ℕ) (w : View) (after : Validation) (more : List TracedStep) → touches v.attempt.reads a ≡ true → item_at (a % c.records) l.locks.items ≡ Some version → l.start < version → OnlyLoads more → w ≡ under after more
       → Refuses c n (causes.Record (a % c.records) (free_record version) l.start) v w
   refused-held a version w after more read some newer loads is = subst (λ (y : View). Refuses c n (causes.Record (a % c.records) (free_record version) l.start) v y) (sym is) (record {
     start = sym can.start;
@@ -113,7 +113,7 @@ module _ (c : Config) (n : ℕ) (low : n < c.callers) (l : Local) (v : View) (ca
   })
 
   -- what steps before have loaded
-  pub refused-earlier : (check : Validation) (early : List TrailItem) (cause : Cause) (w : View) → OnlyLoads early → Refuses c n cause (under check early) w → Refuses c n cause v w
+  pub refused-earlier : (check : Validation) (early : List TracedStep) (cause : Cause) (w : View) → OnlyLoads early → Refuses c n cause (under check early) w → Refuses c n cause v w
   refused-earlier check early (causes.Clock had now) w loads q = absurd q
   refused-earlier check early (causes.Record index word start) w loads q = record {
     start = q.start;
@@ -121,13 +121,13 @@ module _ (c : Config) (n : ℕ) (low : n < c.callers) (l : Local) (v : View) (ca
     home = q.home;
     read = q.read;
     more = q.more ++ early;
-    is = q.is ∙ ap (λ (t : List TrailItem). record v { check = w.check; steps = record v.steps { trail = t } }) (sym (append_assoc q.more early v.steps.trail));
+    is = q.is ∙ ap (λ (t : List TracedStep). record v { check = w.check; steps = record v.steps { step_trace = t } }) (sym (append_assoc q.more early v.steps.step_trace));
     loads = loads-append q.more early q.loads loads;
     why = why q.why;
   }
     where
       why : IsFoundStale c n index word start q.more (under check early) ⊎ IsHeldNewer c n index word start (under check early) → IsFoundStale c n index word start (q.more ++ early) v ⊎ IsHeldNewer c n index word start v
-      why (inl f) = inl (record { early = f.early ++ early; last = ap (λ (t : List TrailItem). t ++ early) f.last; unheld = f.unheld; stale = f.stale; others = f.others; later = f.later })
+      why (inl f) = inl (record { early = f.early ++ early; last = ap (λ (t : List TracedStep). t ++ early) f.last; unheld = f.unheld; stale = f.stale; others = f.others; later = f.later })
       why (inr f) = inr (record { held = f.held; word = f.word; newer = f.newer })
   refused-earlier check early (causes.Moved index before after) w loads q = absurd q
   refused-earlier check early (causes.Filter time bits) w loads q = absurd q
@@ -145,8 +145,8 @@ module _ (c : Config) (n : ℕ) (low : n < c.callers) (l : Local) (v : View) (ca
     pub passed-next : (w : View) → HasPassed c i (i + 1) l u w → HasPassed c 0 (i + 1) l v w
     passed-next w k = record {
       more = k.more ++ h.more;
-      is = k.is ∙ (ap (λ (y : View). record y { check = record y.check { todo = w.check.todo }; steps = record y.steps { trail = k.more ++ y.steps.trail } }) h.is
-          ∙ ap (λ (t : List TrailItem). record v { check = record v.check { todo = w.check.todo }; steps = record v.steps { trail = t } }) (sym (append_assoc k.more h.more v.steps.trail)));
+      is = k.is ∙ (ap (λ (y : View). record y { check = record y.check { todo = w.check.todo }; steps = record y.steps { step_trace = k.more ++ y.steps.step_trace } }) h.is
+          ∙ ap (λ (t : List TracedStep). record v { check = record v.check { todo = w.check.todo }; steps = record v.steps { step_trace = t } }) (sym (append_assoc k.more h.more v.steps.step_trace)));
       loads = loads-append k.more h.more k.loads h.loads;
       fewer = λ a t. h.fewer a (k.fewer a t);
       done = λ j from to e. by j (ltb j i) refl to e;

@@ -12,7 +12,7 @@ use Rattle.rule_base.specs.declared.layout.At.TheVariants.{Clock, Record}
 use Rattle.rule_base.specs.declared.views.Act.TheVariants.{Load}
 use Rattle.rule_base.specs.declared.views.LockView.{LockView}
 use Rattle.rule_base.specs.declared.views.Ownership.{Ownership}
-use Rattle.rule_base.specs.declared.views.TrailItem.{TrailItem}
+use Rattle.rule_base.specs.declared.views.TracedStep.{TracedStep}
 use Rattle.rule_base.specs.declared.views.Validation.{Validation}
 use Rattle.rule_base.specs.declared.views.View.{View}
 use Rattle.rule_base.specs.Bridge.{items, of_words}
@@ -35,7 +35,7 @@ use Rattle.steps_orec.specs.Validating.{to_validate}
 use Rattle.tx_answers.specs.declared.answers.Irrev.TheVariants as irrevs
 use Rattle.tx_answers.specs.Causes.{Conflicts, IsStaleAt, has_item}
 use Rattle.tx_answers.specs.Causes.Asked.{ToPromote}
-use Rattle.tx_answers.specs.Known.{known_of}
+use Rattle.tx_answers.specs.CallerState.{known_of}
 use Rattle.alg_orec.specs.EagerEnding.{AllBelow}
 use Rattle.alg_orec.specs.Granting.{CanPromote, loaded_at, IsPromoted, IsNotPromoted}
 use Rattle.alg_orec.specs.Validating.{load_of, OnlyLoads, read_at, is_old, vouches, IsLast, CanValidate, Refuses, IsFoundStale, IsHeldNewer, IsStale, HasPassed}
@@ -52,15 +52,15 @@ module _ (good : List ℕ → Type 0) (c : Config) (n : ℕ) (low : n < c.caller
   ready = can.validates
 
   -- the view before the grant, with what it knows of the clock as the gate's holder
-  abbrev knowing : Bool → ℕ → Bool → Bool → Validation → List TrailItem → View
-  knowing calm time rebased completed check more = record v {
-    gate = record v.gate { calm = calm; time = time; rebased = rebased; completed = completed };
+  abbrev knowing : Bool → ℕ → Bool → Bool → Validation → List TracedStep → View
+  knowing quiescent time rebased completed check more = record v {
+    gate = record v.gate { quiescent = quiescent; time = time; rebased = rebased; completed = completed };
     check = check;
-    steps = record v.steps { trail = more ++ v.steps.trail };
+    steps = record v.steps { step_trace = more ++ v.steps.step_trace };
   }
 
   -- what was loaded is all that changed
-  by-loads : (w y : View) (more : List TrailItem) → w ≡ y → y ≡ loaded_at v y more → w ≡ loaded_at v w more
+  by-loads : (w y : View) (more : List TracedStep) → w ≡ y → y ≡ loaded_at v y more → w ≡ loaded_at v w more
   by-loads w y more path is = subst (λ (u : View). u ≡ loaded_at v u more) (sym path) is
 
   -- its start has seen the versions of the records that it holds
@@ -87,7 +87,7 @@ module _ (good : List ℕ → Type 0) (c : Config) (n : ℕ) (low : n < c.caller
     gate = if b then granted_at x v.gate else v.gate;
     sample = no_sample;
     check = no_check;
-    steps = record v.steps { trail = load_of Clock x ∷ v.steps.trail };
+    steps = record v.steps { step_trace = load_of Clock x ∷ v.steps.step_trace };
   }
 
   all_path : (x : ℕ) (w : View) (b : Bool) → ltb x CLOCK_LIMIT ≡ b → (t : Tells orec_grant_all (FindsAll rule c) v x w) → w ≡ all_at t.0.history x b
@@ -109,7 +109,7 @@ module _ (good : List ℕ → Type 0) (c : Config) (n : ℕ) (low : n < c.caller
     local = refl;
     more = load_of Clock x ∷ [];
     is = refl;
-    earlier = λ calm. absurd (let f : true ≡ false = sym calm ∙ can.uncalm in cc);
+    earlier = λ quiescent. absurd (let f : true ≡ false = sym quiescent ∙ can.not_quiescent in cc);
     why = (high, λ o. (load_of Clock x ∷ [], refl, Load, (0, omega arith, refl)));
   })
 
@@ -126,7 +126,7 @@ module _ (good : List ℕ → Type 0) (c : Config) (n : ℕ) (low : n < c.caller
       local = refl;
       more = load_of Clock time ∷ [];
       is = refl;
-      earlier = λ calm r h. (let b = can.below r h in omega arith);
+      earlier = λ quiescent r h. (let b = can.below r h in omega arith);
       why = (high, λ o. (load_of Clock time ∷ [], refl, Load, (0, omega arith, refl)));
     })
 
@@ -164,7 +164,7 @@ module _ (good : List ℕ → Type 0) (c : Config) (n : ℕ) (low : n < c.caller
     stale-later index word start w q = by q.why
       where
         by : IsFoundStale c n index word start q.more s ⊎ IsHeldNewer c n index word start s → l.start < time
-        by (inl f) = let g = f.later (ap (λ (y : View). y.gate.calm) settled_path) in let e : s.attempt.start ≡ v.attempt.start = ap (λ (y : View). y.attempt.start) settled_path in let d : s.gate.time ≡ time = ap (λ (y : View). y.gate.time) settled_path in let x = ready.start in omega arith
+        by (inl f) = let g = f.later (ap (λ (y : View). y.gate.quiescent) settled_path) in let e : s.attempt.start ≡ v.attempt.start = ap (λ (y : View). y.attempt.start) settled_path in let d : s.gate.time ≡ time = ap (λ (y : View). y.gate.time) settled_path in let x = ready.start in omega arith
         by (inr f) = absurd (held-newer index word start w q f)
 
     -- a read that isn't valid, as found since the clock was loaded
@@ -177,7 +177,7 @@ module _ (good : List ℕ → Type 0) (c : Config) (n : ℕ) (low : n < c.caller
           early = f.early ++ load_of Clock time ∷ [];
           act = Load;
           late = [];
-          trail = trail ∙ (ap (λ (is : List TrailItem). is ++ (load_of Clock time ∷ v.steps.trail)) f.last ∙ ap (λ (is : List TrailItem). load_of (Record index) word ∷ is) (sym (append_assoc f.early (load_of Clock time ∷ []) v.steps.trail)));
+          step_trace = step_trace ∙ (ap (λ (is : List TracedStep). is ++ (load_of Clock time ∷ v.steps.step_trace)) f.last ∙ ap (λ (is : List TracedStep). load_of (Record index) word ∷ is) (sym (append_assoc f.early (load_of Clock time ∷ []) v.steps.step_trace)));
           untouched = untouched-loads (Record index) f.early (load_of Clock time ∷ []) (subst OnlyLoads f.last q.loads).1 ((λ e. refl), tt);
         },
         inr (tt, (q.a, q.home, read), subst (λ (t : ℕ). IsStaleAt c n t word) from f.stale),
@@ -185,8 +185,8 @@ module _ (good : List ℕ → Type 0) (c : Config) (n : ℕ) (low : n < c.caller
       f.others,
     )
       where
-        trail : w.steps.trail ≡ q.more ++ (load_of Clock time ∷ v.steps.trail)
-        trail = ap (λ (y : View). y.steps.trail) q.is ∙ ap (λ (y : View). q.more ++ y.steps.trail) settled_path
+        step_trace : w.steps.step_trace ≡ q.more ++ (load_of Clock time ∷ v.steps.step_trace)
+        step_trace = ap (λ (y : View). y.steps.step_trace) q.is ∙ ap (λ (y : View). q.more ++ y.steps.step_trace) settled_path
 
         read : has_item q.a (items v.attempt.reads) ≡ true
         read = sym (has-touched q.a v.attempt.reads) ∙ (sym (ap (λ (y : View). touches y.attempt.reads q.a) settled_path) ∙ q.read)
@@ -203,8 +203,8 @@ module _ (good : List ℕ → Type 0) (c : Config) (n : ℕ) (low : n < c.caller
 
     -- and what was loaded since
     refused_path : (index word start : ℕ) (w : View) (q : IsStale c n index word start s w) → w ≡ knowing true time false false w.check (q.more ++ load_of Clock time ∷ [])
-    refused_path index word start w q = q.is ∙ (ap (λ (y : View). record y { check = w.check; steps = record y.steps { trail = q.more ++ y.steps.trail } }) settled_path
-        ∙ ap (λ (t : List TrailItem). record (knowing true time false false w.check []) { steps = record v.steps { trail = t } }) (sym (append_assoc q.more (load_of Clock time ∷ []) v.steps.trail)))
+    refused_path index word start w q = q.is ∙ (ap (λ (y : View). record y { check = w.check; steps = record y.steps { step_trace = q.more ++ y.steps.step_trace } }) settled_path
+        ∙ ap (λ (t : List TracedStep). record (knowing true time false false w.check []) { steps = record v.steps { step_trace = t } }) (sym (append_assoc q.more (load_of Clock time ∷ []) v.steps.step_trace)))
 
     pub refused-reads : (cause : causes.the_data) (w : View) → Refuses c n cause s w → IsNotPromoted c n (irrevs.Conflict cause) l v l w
     refused-reads (causes.Clock had now) w q = absurd q
@@ -212,7 +212,7 @@ module _ (good : List ℕ → Type 0) (c : Config) (n : ℕ) (low : n < c.caller
       local = refl;
       more = q.more ++ load_of Clock time ∷ [];
       is = by-loads w (knowing true time false false w.check (q.more ++ load_of Clock time ∷ [])) (q.more ++ load_of Clock time ∷ []) path refl;
-      earlier = λ calm. seen-below w.gate.time (let t = stale-later index word start w q in let e : w.gate.time ≡ time = ap (λ (y : View). y.gate.time) path in omega arith);
+      earlier = λ quiescent. seen-below w.gate.time (let t = stale-later index word start w q in let e : w.gate.time ≡ time = ap (λ (y : View). y.gate.time) path in omega arith);
       why = ((λ o. (stale-conflicts index word start w q o).0), (stale-conflicts index word start w q (own_of l)).1);
     }
       where
@@ -225,23 +225,23 @@ module _ (good : List ℕ → Type 0) (c : Config) (n : ℕ) (low : n < c.caller
     -- the clock was loaded again, to validate, and the reads before the last one have passed
     module _ (j now : ℕ) (last : IsLast c.records (Some j) l) (p : View) (second : Tells (orec_clock (to_validate (home_of c) s)) (FindsClock c) s now p) (u : View) (h : HasPassed c 0 j l p u) where
       now_is : now ≡ time
-      now_is = second.1.settled.settled (ap (λ (y : View). y.gate.calm) settled_path) ∙ ap (λ (y : View). y.gate.time) settled_path
+      now_is = second.1.settled.settled (ap (λ (y : View). y.gate.quiescent) settled_path) ∙ ap (λ (y : View). y.gate.time) settled_path
 
       abbrev check : Validation
       check = validity.here rule c n low l s may-validate j now last p second u h
 
-      abbrev done : List TrailItem
+      abbrev done : List TracedStep
       done = validity.more rule c n low l s may-validate j now last p second u h
 
       passed_path : u ≡ knowing true time false false check (done ++ load_of Clock time ∷ [])
       passed_path = validity.path rule c n low l s may-validate j now last p second u h
-          ∙ (ap (λ (y : View). record y { check = check; steps = record y.steps { trail = done ++ y.steps.trail } }) settled_path
-          ∙ ap (λ (t : List TrailItem). record (knowing true time false false check []) { steps = record v.steps { trail = t } }) (sym (append_assoc done (load_of Clock time ∷ []) v.steps.trail)))
+          ∙ (ap (λ (y : View). record y { check = check; steps = record y.steps { step_trace = done ++ y.steps.step_trace } }) settled_path
+          ∙ ap (λ (t : List TracedStep). record (knowing true time false false check []) { steps = record v.steps { step_trace = t } }) (sym (append_assoc done (load_of Clock time ∷ []) v.steps.step_trace)))
 
       pub may-grant : (b : ℕ) → b ≡ read_at l j → CanOrecGrant (home_of c) c.words (b % c.records) b u
       may-grant b at = record {
         last = validity.may-last rule c n low l s may-validate j now last p second u h b at;
-        calm = ap (λ (y : View). y.gate.calm) passed_path;
+        quiescent = ap (λ (y : View). y.gate.quiescent) passed_path;
         upto = ap (λ (y : View). y.check.upto) passed_path ∙ (now_is ∙ sym (ap (λ (y : View). y.gate.time) passed_path));
         stores = has-stores u (ap (λ (y : View). y.lock) passed_path) (ap (λ (y : View). y.owned) passed_path);
       }
@@ -251,10 +251,10 @@ module _ (good : List ℕ → Type 0) (c : Config) (n : ℕ) (low : n < c.caller
         history = if b then record v.history { seen = seen; front = time } else v.history;
         attempt = if b then direct_attempt time v else v.attempt;
         owned = if b then direct_owned v.owned else v.owned;
-        gate = if b then granted_at time v.gate else record v.gate { calm = true; time = time; rebased = false; completed = false };
+        gate = if b then granted_at time v.gate else record v.gate { quiescent = true; time = time; rebased = false; completed = false };
         sample = no_sample;
         check = no_check;
-        steps = record v.steps { trail = load_of (Record r) x ∷ ((done ++ load_of Clock time ∷ []) ++ v.steps.trail) };
+        steps = record v.steps { step_trace = load_of (Record r) x ∷ ((done ++ load_of Clock time ∷ []) ++ v.steps.step_trace) };
       }
 
       last_path : (b x : ℕ) (w : View) (q : Bool) → passes x (passing.under c n low l s may-validate check done) ≡ q → (t : Tells (orec_grant (b % c.records) b) (FindsGrant rule c n (b % c.records)) u x w) → w ≡ last_at t.0.history (b % c.records) x q
@@ -265,7 +265,7 @@ module _ (good : List ℕ → Type 0) (c : Config) (n : ℕ) (low : n < c.caller
 
       -- THE LAST RECORD was loaded
       module _ (b x : ℕ) (w : View) (t : Tells (orec_grant (b % c.records) b) (FindsGrant rule c n (b % c.records)) u x w) where
-        abbrev loads : List TrailItem
+        abbrev loads : List TracedStep
         loads = load_of (Record (b % c.records)) x ∷ (done ++ load_of Clock time ∷ [])
 
         -- it passes: all reads are valid at the clock
@@ -311,17 +311,17 @@ module _ (good : List ℕ → Type 0) (c : Config) (n : ℕ) (low : n < c.caller
           refusal at none = passing.refused-found c n low l s may-validate b x check done alike no_check t.0 (subst (λ (a : ℕ). touches s.attempt.reads a ≡ true) (sym at) (validity.read-last rule c n low l s may-validate j now last p second u h)) none
               (subst (λ (y : View). FindsRecord c n (b % c.records) t.0 y x) (validity.path rule c n low l s may-validate j now last p second u h) t.1.read.found) (subst (λ (y : View). OrecFails n t.0 y x) (validity.path rule c n low l s may-validate j now last p second u h) t.1.read.fails) stale (validity.loads rule c n low l s may-validate j now last p second u h) refl
 
-          same-trail : w.steps.trail ≡ alike.steps.trail
-          same-trail = ap (λ (y : View). y.steps.trail) stale_path ∙ ap (λ (is : List TrailItem). load_of (Record (b % c.records)) x ∷ is) (append_assoc done (load_of Clock time ∷ []) v.steps.trail ∙ ap (λ (y : View). done ++ y.steps.trail) (sym settled_path))
+          same-step_trace : w.steps.step_trace ≡ alike.steps.step_trace
+          same-step_trace = ap (λ (y : View). y.steps.step_trace) stale_path ∙ ap (λ (is : List TracedStep). load_of (Record (b % c.records)) x ∷ is) (append_assoc done (load_of Clock time ∷ []) v.steps.step_trace ∙ ap (λ (y : View). done ++ y.steps.step_trace) (sym settled_path))
 
           pub refused-last : b ≡ read_at l j → IsNotPromoted c n (irrevs.Conflict (causes.Record (b % c.records) x l.start)) l v l w
           refused-last at = record {
             local = refl;
             more = loads;
             is = by-loads w (last_at t.0.history (b % c.records) x false) loads stale_path refl;
-            earlier = λ calm. seen-below w.gate.time (let d = stale-later (b % c.records) x l.start alike stays in let e : w.gate.time ≡ time = ap (λ (y : View). y.gate.time) stale_path in omega arith);
+            earlier = λ quiescent. seen-below w.gate.time (let d = stale-later (b % c.records) x l.start alike stays in let e : w.gate.time ≡ time = ap (λ (y : View). y.gate.time) stale_path in omega arith);
             why = (
-              (λ o. conflicts-later c n ToPromote (causes.Record (b % c.records) x l.start) (known_of v o) (known_of alike o) (known_of w o) ready.opens.has.runs.algorithm [] same-trail (stale-conflicts (b % c.records) x l.start alike stays o).0),
+              (λ o. conflicts-later c n ToPromote (causes.Record (b % c.records) x l.start) (known_of v o) (known_of alike o) (known_of w o) ready.opens.has.runs.algorithm [] same-step_trace (stale-conflicts (b % c.records) x l.start alike stays o).0),
               (stale-conflicts (b % c.records) x l.start alike stays (own_of l)).1,
             );
           }

@@ -8,7 +8,7 @@ use Rattle.rule_base.specs.declared.views.View.{View}
 use Rattle.rule_base.specs.Own.{Own}
 use Rattle.stm_rule.specs.declared.local.Local.{Local}
 use Rattle.stm_rule.specs.Attempts.{IsInside, own_of, ended}
-use Rattle.tx_answers.specs.Known.{known_of, granted_under}
+use Rattle.tx_answers.specs.CallerState.{known_of, granted_under}
 use Rattle.tx_logs.specs.LogStates.{LogState}
 
 -- by what contracts see of it, an attempt was promoted or not

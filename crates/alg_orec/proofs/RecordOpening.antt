@@ -9,7 +9,7 @@ use Rattle.stm_rule.specs.declared.local.Local.{Local}
 use Rattle.stm_rule.specs.declared.stm.Stm.{Stm}
 use Rattle.stm_rule.specs.Attempts.{HasRoom, IsInside, Stands, ended, good_by, own_of}
 use Rattle.stm_rule.specs.Callers.{Handle, IsTied}
-use Rattle.tx_answers.specs.Known.{Known, known_of}
+use Rattle.tx_answers.specs.CallerState.{CallerState, known_of}
 use Rattle.stm_gate.specs.Knowing.{known, number}
 use Rattle.stm_gate.specs.Opening.{Opened, is-known, of-view, shows, stands-after}
 use Rattle.stm_gate.specs.Told.{stands-on}
@@ -56,8 +56,8 @@ module _ {K : Type 0} (good : K → List ℕ → Type 0) (stm : Stm K) where
         who = ap (λ (y : SeatView K). y.who) seated
 
     -- the attempt ended, from where it was or from where its start had moved to
-    pub answers-ended : (P : ℕ → Known → Known → Type 0) (w : View) (m : Local) → m ≡ ended (record l { committing = false }) → P n (known_of me.0.view (own_of l)) (known_of w (own_of l)) → P (number e) (known e) (known_of w (own_of m))
+    pub answers-ended : (P : ℕ → CallerState → CallerState → Type 0) (w : View) (m : Local) → m ≡ ended (record l { committing = false }) → P n (known_of me.0.view (own_of l)) (known_of w (own_of l)) → P (number e) (known e) (known_of w (own_of m))
     answers-ended P w m is p = shows good stm a.opening P w m (ended-own l m a.reading.quiet is) p
 
-    pub answers-moved : (P : ℕ → Known → Known → Type 0) (q : Local) (w : View) (m : Local) → q ≡ record l { start = q.start } → m ≡ ended (record q { committing = false }) → P n (known_of me.0.view (own_of l)) (known_of w (own_of l)) → P (number e) (known e) (known_of w (own_of m))
+    pub answers-moved : (P : ℕ → CallerState → CallerState → Type 0) (q : Local) (w : View) (m : Local) → q ≡ record l { start = q.start } → m ≡ ended (record q { committing = false }) → P n (known_of me.0.view (own_of l)) (known_of w (own_of l)) → P (number e) (known e) (known_of w (own_of m))
     answers-moved P q w m moved is p = shows good stm a.opening P w m (ended-moved l q m a.reading.quiet moved is) p

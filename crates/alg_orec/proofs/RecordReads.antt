@@ -16,7 +16,7 @@ use Rattle.rule_base.specs.declared.views.Act.TheVariants.{Load}
 use Rattle.rule_base.specs.declared.views.GateView.{GateView}
 use Rattle.rule_base.specs.declared.views.LockView.{LockView}
 use Rattle.rule_base.specs.declared.views.Sample.{Sample}
-use Rattle.rule_base.specs.declared.views.TrailItem.{TrailItem}
+use Rattle.rule_base.specs.declared.views.TracedStep.{TracedStep}
 use Rattle.rule_base.specs.declared.views.Validation.{Validation}
 use Rattle.rule_base.specs.declared.views.View.{View}
 use Rattle.rule_base.specs.Bridge.{addresses, items, of_words, public_history}
@@ -37,12 +37,12 @@ use Rattle.tx_answers.specs.Answers.{HasRead, Quits, GoesOn, StartMoves, start_w
 use Rattle.tx_answers.specs.Causes.{Asked, FindsNewer, OwesValidation, has_item, is_some, reads_full}
 use Rattle.tx_answers.specs.Causes.Asked.{ForWord}
 use Rattle.tx_answers.specs.Evidence.{Found}
-use Rattle.tx_answers.specs.Known.{Known, Grows, known_of, granted_under, kept_under, written_under, is_irrevocable, is_in, is_closing, is_none, has_written}
-use Rattle.tx_answers.specs.KnownLaws.{grows-same, grows-trans}
+use Rattle.tx_answers.specs.CallerState.{CallerState, Grows, known_of, granted_under, kept_under, written_under, is_irrevocable, is_in, is_closing, is_none, has_written}
+use Rattle.tx_answers.specs.CallerStateLaws.{grows-same, grows-trans}
 use Rattle.tx_logs.specs.LogStates.{LogState}
 use Rattle.stm_gate.specs.InnerLaws.{goes-inner, unlocked-of}
 use Rattle.stm_gate.specs.Leaving.{left}
-use Rattle.stm_gate.specs.LeavingLaws.{IsUnmade, quits-left, trail-left}
+use Rattle.stm_gate.specs.LeavingLaws.{IsUnmade, quits-left, step_trace-left}
 use Rattle.stm_gate.specs.Logging.{put-new}
 use Rattle.stm_gate.specs.Opacity.{opaque-at, opaque-inside, later-seen}
 use Rattle.stm_gate.specs.Starts.{CanBegin, IsFresh, StartsAt}
@@ -75,12 +75,12 @@ takes-none : (a : Alg) → IsOrec a → takes_lock a ≡ false
 takes-none a (inl e) = ap takes_lock e
 takes-none a (inr e) = ap takes_lock e
 
-pub start-by : (c : Config) (asked : Asked) (a : Alg) (v w : Known) → IsOrec a → (w.start ≡ v.start) ⊎ (Found Clock w.start v w × OwesValidation c asked v w) → StartMoves c asked a v w
+pub start-by : (c : Config) (asked : Asked) (a : Alg) (v w : CallerState) → IsOrec a → (w.start ≡ v.start) ⊎ (Found Clock w.start v w × OwesValidation c asked v w) → StartMoves c asked a v w
 start-by c asked a v w (inl e) m = subst (λ (b : Alg). StartMoves c asked b v w) (sym e) m
 start-by c asked a v w (inr e) m = subst (λ (b : Alg). StartMoves c asked b v w) (sym e) m
 
 -- what its steps show of the record, as contracts see it
-pub newer-shown : (c : Config) (a : ℕ) (more : List TrailItem) (v w : View) (o p : Own) → w.steps.trail ≡ more ++ v.steps.trail → ShowsNewer c a more v → FindsNewer c a (known_of v o) (known_of w p)
+pub newer-shown : (c : Config) (a : ℕ) (more : List TracedStep) (v w : View) (o p : Own) → w.steps.step_trace ≡ more ++ v.steps.step_trace → ShowsNewer c a more v → FindsNewer c a (known_of v o) (known_of w p)
 newer-shown c a more v w o p t s = (s.0, (more, t, Load, s.1), s.2, s.3)
 
 -- an attempt that was not promoted, between two of its calls
@@ -127,7 +127,7 @@ module _ {good : List ℕ → Type 0} {c : Config} {n : ℕ} {l : Local} {v : Vi
 
   -- READ, of what was written or read before
   stays : {asked : Asked} → GoesOn c asked (known_of v o) (known_of v o)
-  stays = goes-inner v v o i.phase (record { history = refl; gate = refl; lock = refl; writer = refl; fence = refl; start = refl; rises = refl; base = refl; installs = refl; trail = ([], refl) })
+  stays = goes-inner v v o i.phase (record { history = refl; gate = refl; lock = refl; writer = refl; fence = refl; start = refl; rises = refl; base = refl; installs = refl; step_trace = ([], refl) })
 
   -- the log of reads after a read of x, by what was written and read there
   abbrev logged : ℕ → ℕ → List (ℕ × ℕ) → Option ℕ → Option ℕ → Type 0
@@ -166,7 +166,7 @@ module _ {good : List ℕ → Type 0} {c : Config} {n : ℕ} {l : Local} {v : Vi
   here = let e : v.history.front ≡ v.attempt.start = i.front ∙ sym i.start in λ j. record v { history = record v.history { front = e j } }
 
   -- THE VIEW that a load came to
-  module _ (start : ℕ) (seen : List Entry) (more : List TrailItem) (moves : MayMove rule c n start seen more v) where
+  module _ (start : ℕ) (seen : List Entry) (more : List TracedStep) (moves : MayMove rule c n start seen more v) where
     -- a start doesn't fall
     pub begins : v.attempt.start ≤ start
     begins = by moves
@@ -220,7 +220,7 @@ module _ {good : List ℕ → Type 0} {c : Config} {n : ℕ} {l : Local} {v : Vi
             up_to = q.3;
             front_rose = m.front;
             more = more;
-            trail = refl;
+            step_trace = refl;
             reads_limit = r;
             writes_limit = w;
             fenced = refl;
@@ -292,7 +292,7 @@ module _ {good : List ℕ → Type 0} {c : Config} {n : ℕ} {l : Local} {v : Vi
       }
 
       pub optimistic-moved : IsOptimistic v → IsOptimistic u
-      optimistic-moved k = record { unlocked = k.unlocked; unfixed = k.unfixed; unwritten = k.unwritten; uncommitted = k.uncommitted; ungranted = ungranted; uncalm = k.uncalm; unstored = k.unstored; rises = k.rises }
+      optimistic-moved k = record { unlocked = k.unlocked; unfixed = k.unfixed; unwritten = k.unwritten; uncommitted = k.uncommitted; ungranted = ungranted; not_quiescent = k.not_quiescent; unstored = k.unstored; rises = k.rises }
 
   -- THE REFUSALS
   pub reads-full : (at : ℕ) (w : View) → item_at at l.writes.items ≡ None → item_at at l.reads.items ≡ None → length l.reads.items ≡ l.reads.len → Quits (known_of v o) (known_of w o) → HasRead good c n at (reads.Full l.reads.len) (known_of v o) (known_of w o)
@@ -300,7 +300,7 @@ module _ {good : List ℕ → Type 0} {c : Config} {n : ℕ} {l : Local} {v : Vi
 
   pub reads-refused : (at : ℕ) (cause : Cause) (m : Local) (w before : View) → item_at at l.writes.items ≡ None → item_at at l.reads.items ≡ None → length l.reads.items ≢ l.reads.len → RefusesRead rule c n at cause l v m w → IsUnmade w before → Quits (known_of v o) (known_of (left n before) o)
       → HasRead good c n at (reads.Conflict cause) (known_of v o) (known_of (left n before) o)
-  reads-refused at cause m w before unwritten unread room h unmade quits = let more = trail-left n w before unmade.carried in (
+  reads-refused at cause m w before unwritten unread room h unmade quits = let more = step_trace-left n w before unmade.carried in (
     quits,
     conflicts-by-records c n (ForWord at) cause (known_of v o) (known_of w o) (known_of (left n before) o) (owns-records v.gate.algorithm orec) more.0 more.1 (h.why o o),
     h.others,
@@ -352,7 +352,7 @@ module _ (good : List ℕ → Type 0) (c : Config) (n : ℕ) (alg : Alg) (orec :
     b = t.1.begins
 
     pub optimistic-begun : IsOptimistic y
-    optimistic-begun = record { unlocked = can.clear.unlocked; unfixed = can.clear.unfixed; unwritten = can.clear.unwritten; uncommitted = can.clear.uncommitted; ungranted = can.ungranted; uncalm = t.1.uncalm can.reopened; unstored = refl; rises = can.rises }
+    optimistic-begun = record { unlocked = can.clear.unlocked; unfixed = can.clear.unfixed; unwritten = can.clear.unwritten; uncommitted = can.clear.uncommitted; ungranted = can.ungranted; not_quiescent = t.1.not_quiescent can.reopened; unstored = refl; rises = can.rises }
 
     pub sole-begun : c.callers ≡ 1 → clock ≡ c.clock + v.steps.rises_at_begin
     sole-begun one = let q = t.1.sole one in let r = can.rises in omega arith
@@ -413,7 +413,7 @@ module _ (good : List ℕ → Type 0) (c : Config) (n : ℕ) (alg : Alg) (orec :
           up_to = q.3;
           front_rose = b.front;
           more = load_of Clock clock ∷ [];
-          trail = refl;
+          step_trace = refl;
           reads_limit = refl;
           writes_limit = refl;
           fenced = refl;

@@ -7,7 +7,7 @@ use Rattle.rule_base.specs.declared.entries.Cell.{Cell}
 use Rattle.rule_base.specs.declared.layout.At.TheVariants.{Record}
 use Rattle.rule_base.specs.declared.seats.SeatView.{SeatView}
 use Rattle.rule_base.specs.declared.views.Act.TheVariants.{Store}
-use Rattle.rule_base.specs.declared.views.TrailItem.{TrailItem}
+use Rattle.rule_base.specs.declared.views.TracedStep.{TracedStep}
 use Rattle.rule_base.specs.Bridge.{items}
 use Rattle.rule_base.specs.Encodings.{free_record}
 use Rattle.rule_base.specs.History.{over, touches, without, Inside}
@@ -23,10 +23,10 @@ use Rattle.alg_orec.specs.Locking.{holding_still, ReleasesAll}
 use Rattle.alg_orec.specs.Validating.{HasVersions}
 
 -- a record that is given back
-abbrev pub release_item : ℕ → ℕ → TrailItem
+abbrev pub release_item : ℕ → ℕ → TracedStep
 release_item r version = record { place = Record r; act = Store (free_record version); found = None }
 
-pub released-step : {K : Type 0} → (first s t : SeatView K) (more : List TrailItem) (r version x : ℕ) (m : World) → s ≡ record first { view = holding_still first.view s.view.owned.held more } → t ≡ record s { view = view_after (orec_release r version) m s.view x }
+pub released-step : {K : Type 0} → (first s t : SeatView K) (more : List TracedStep) (r version x : ℕ) (m : World) → s ≡ record first { view = holding_still first.view s.view.owned.held more } → t ≡ record s { view = view_after (orec_release r version) m s.view x }
     → t ≡ record first { view = holding_still first.view t.view.owned.held (release_item r version ∷ more) }
 released-step {K} first s t more r version x m e p = p ∙ (ap (λ (y : SeatView K). record y { view = view_after (orec_release r version) m y.view x }) e
     ∙ (λ i. record first { view = holding_still first.view (sym held i) (release_item r version ∷ more) }))
@@ -37,7 +37,7 @@ released-step {K} first s t more r version x m e p = p ∙ (ap (λ (y : SeatView
 -- What stands once i of the records that an attempt held were given back: first is the seat before, and s that after.
 module _ {K : Type 0} (records : ℕ) (first : SeatView K) (held : List (ℕ × ℕ)) where
   pub record Gives (i : ℕ) (s : SeatView K) : Type 0 where
-    pub more : List TrailItem
+    pub more : List TracedStep
     pub seat : s ≡ record first { view = holding_still first.view s.view.owned.held more }
     pub left : items s.view.owned.held ≡ drop i held
     pub places : Inside records s.view.owned.held
@@ -68,8 +68,8 @@ module _ {K : Type 0} (records : ℕ) (first : SeatView K) (held : List (ℕ × 
         left = ap items without ∙ (peeled held i s.view.owned.held p low once g.left is).2;
         places = subst (λ (cs : List Cell). Inside records cs) (sym without)
             (inside-without records p.0 s.view.owned.held g.places);
-        steps = (let a = ap (λ (y : SeatView K). length y.view.steps.trail) seat in let b = ap
-            (λ (y : SeatView K). length y.view.steps.trail) g.seat in let q = g.steps in omega arith);
+        steps = (let a = ap (λ (y : SeatView K). length y.view.steps.step_trace) seat in let b = ap
+            (λ (y : SeatView K). length y.view.steps.step_trace) g.seat in let q = g.steps in omega arith);
       }
 
 -- no version is above the limit

@@ -9,7 +9,7 @@ use Rattle.stm_model.specs.declared.stop.Cause.TheVariants as causes
 use Rattle.stm_model.specs.Memories.{item_at}
 use Rattle.rule_base.specs.declared.entries.Entry.{Entry}
 use Rattle.rule_base.specs.declared.layout.At.TheVariants.{Clock, Record}
-use Rattle.rule_base.specs.declared.views.TrailItem.{TrailItem}
+use Rattle.rule_base.specs.declared.views.TracedStep.{TracedStep}
 use Rattle.rule_base.specs.declared.views.Validation.{Validation}
 use Rattle.rule_base.specs.declared.views.View.{View}
 use Rattle.rule_base.specs.Encodings.{free_record, is_owned, version_of}
@@ -80,15 +80,15 @@ module _ (good : (ℕ → ℕ) → Type 0) (c : Config) (n : ℕ) (low : n < c.c
 
     -- the reads before the last one have passed
     module _ (u : View) (h : HasPassed c 0 i l s u) where
-      abbrev pub more : List TrailItem
+      abbrev pub more : List TracedStep
       more = h.more ++ load_of Clock now ∷ []
 
       abbrev pub here : Validation
       here = record { checking = true; upto = now; todo = u.check.todo }
 
       pub path : u ≡ passing.under c n low l v can here more
-      path = h.is ∙ (ap (λ (y : View). record y { check = record y.check { todo = u.check.todo }; steps = record y.steps { trail = h.more ++ y.steps.trail } }) first.2
-          ∙ ap (λ (t : List TrailItem). record v { check = here; steps = record v.steps { trail = t } }) (sym (append_assoc h.more (load_of Clock now ∷ []) v.steps.trail)))
+      path = h.is ∙ (ap (λ (y : View). record y { check = record y.check { todo = u.check.todo }; steps = record y.steps { step_trace = h.more ++ y.steps.step_trace } }) first.2
+          ∙ ap (λ (t : List TracedStep). record v { check = here; steps = record v.steps { step_trace = t } }) (sym (append_assoc h.more (load_of Clock now ∷ []) v.steps.step_trace)))
 
       pub loads : OnlyLoads more
       loads = loads-append h.more (load_of Clock now ∷ []) h.loads (refl, tt)
@@ -142,7 +142,7 @@ module _ (good : (ℕ → ℕ) → Type 0) (c : Config) (n : ℕ) (low : n < c.c
         attempt = if p then record v.attempt { start = now } else v.attempt;
         sample = if p then record v.sample { loaded = false } else v.sample;
         check = no_check;
-        steps = record v.steps { trail = load_of (Record r) x ∷ (more ++ v.steps.trail) };
+        steps = record v.steps { step_trace = load_of (Record r) x ∷ (more ++ v.steps.step_trace) };
       }
 
       last_path : (b x : ℕ) (w : View) (p : Bool) → passes x (passing.under c n low l v can here more) ≡ p → (t : Tells (orec_last (b % c.records) b) (FindsLast good c n (b % c.records)) u x w) → w ≡ after_last (b % c.records) x (upto t.0.history now) p

@@ -6,7 +6,7 @@ use Rattle.stm_model.specs.declared.stop.Cause.{Cause}
 use Rattle.rule_base.specs.declared.entries.Cell.{Cell}
 use Rattle.rule_base.specs.declared.entries.Entry.{Entry}
 use Rattle.rule_base.specs.declared.layout.At.TheVariants.{Clock}
-use Rattle.rule_base.specs.declared.views.TrailItem.{TrailItem}
+use Rattle.rule_base.specs.declared.views.TracedStep.{TracedStep}
 use Rattle.rule_base.specs.declared.views.Validation.{Validation}
 use Rattle.rule_base.specs.declared.views.View.{View}
 use Rattle.rule_base.specs.Bridge.{items}
@@ -20,8 +20,8 @@ use Rattle.stm_gate.specs.LeavingLaws.{IsUnmade}
 use Rattle.tx_answers.specs.Causes.{Conflicts, OwesValidation}
 use Rattle.tx_answers.specs.Causes.Asked.{ToCommit}
 use Rattle.tx_answers.specs.Evidence.{Found}
-use Rattle.tx_answers.specs.Known.{Grows, known_of}
-use Rattle.alg_orec.specs.Ending.{CanRollBack}
+use Rattle.tx_answers.specs.CallerState.{Grows, known_of}
+use Rattle.alg_orec.specs.Ending.{CanAbortLazy}
 
 -- an attempt of OrecLazy that wrote, and was not promoted
 pub record CanCommit (good : List ℕ → Type 0) (c : Config) (n : ℕ) (l : Local) (v : View) : Type 0 where
@@ -34,14 +34,14 @@ pub record CanCommit (good : List ℕ → Type 0) (c : Config) (n : ℕ) (l : Lo
   pub lengths : HasRoom l
 
 -- the view after the records were taken, and the reads validated
-abbrev pub readied : View → List Entry → ℕ → List Cell → Bool → Validation → List TrailItem → View
+abbrev pub readied : View → List Entry → ℕ → List Cell → Bool → Validation → List TracedStep → View
 readied v seen start held loaded check more = record v {
   history = record v.history { seen = seen; front = start };
   attempt = record v.attempt { start = start };
   owned = record v.owned { held = held };
   sample = record v.sample { loaded = loaded };
   check = check;
-  steps = record v.steps { trail = more ++ v.steps.trail };
+  steps = record v.steps { step_trace = more ++ v.steps.step_trace };
 }
 
 module _ (good : List ℕ → Type 0) (c : Config) (n : ℕ) where
@@ -57,7 +57,7 @@ module _ (good : List ℕ → Type 0) (c : Config) (n : ℕ) where
     pub held : List Cell
     pub loaded : Bool
     pub check : Validation
-    pub more : List TrailItem
+    pub more : List TracedStep
     pub is : w ≡ readied v seen m.start held loaded check more
     pub stays : IsInside good c n (record m { committing = true }) w
     pub grows : (o : Own) → Grows (known_of v o) (known_of w o)
@@ -70,7 +70,7 @@ module _ (good : List ℕ → Type 0) (c : Config) (n : ℕ) where
     pub local : m ≡ record l { locks = m.locks }
     pub len : m.locks.len ≡ l.locks.len
     pub few : length m.locks.items ≤ l.writes.len
-    pub can : CanRollBack c m w
+    pub can : CanAbortLazy c m w
     pub gate : w.gate ≡ v.gate
     pub unmade : IsUnmade v w
     pub rises : w.steps.rises ≡ v.steps.rises

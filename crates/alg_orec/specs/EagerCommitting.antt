@@ -8,7 +8,7 @@ use Rattle.stm_model.specs.declared.stop.Cause.{Cause}
 use Rattle.rule_base.specs.declared.entries.Entry.{Entry}
 use Rattle.rule_base.specs.declared.layout.At.TheVariants.{Clock}
 use Rattle.rule_base.specs.declared.views.Phase.TheVariants.{In}
-use Rattle.rule_base.specs.declared.views.TrailItem.{TrailItem}
+use Rattle.rule_base.specs.declared.views.TracedStep.{TracedStep}
 use Rattle.rule_base.specs.declared.views.Validation.{Validation}
 use Rattle.rule_base.specs.declared.views.View.{View}
 use Rattle.rule_base.specs.Bridge.{items}
@@ -19,7 +19,7 @@ use Rattle.stm_rule.specs.Attempts.{IsInside, HasRoom}
 use Rattle.tx_answers.specs.Causes.{Conflicts}
 use Rattle.tx_answers.specs.Causes.Asked.{ToCommit}
 use Rattle.tx_answers.specs.Evidence.{Found}
-use Rattle.tx_answers.specs.Known.{Grows, known_of}
+use Rattle.tx_answers.specs.CallerState.{Grows, known_of}
 use Rattle.alg_orec.specs.Committing.{readied}
 use Rattle.alg_orec.specs.EagerEnding.{AllBelow}
 
@@ -40,7 +40,7 @@ module _ (good : List ℕ → Type 0) (c : Config) (n : ℕ) where
     pub seen : List Entry
     pub loaded : Bool
     pub check : Validation
-    pub more : List TrailItem
+    pub more : List TracedStep
     pub is : w ≡ readied v seen m.start v.owned.held loaded check more
     pub stays : IsInside good c n m w
     pub grows : (o : Own) → Grows (known_of v o) (known_of w o)
@@ -52,8 +52,8 @@ module _ (good : List ℕ → Type 0) (c : Config) (n : ℕ) where
   pub record IsOverrun (cause : Cause) (l : Local) (v : View) (m : Local) (w : View) : Type 0 where
     pub local : m ≡ l
     pub check : Validation
-    pub more : List TrailItem
-    pub is : w ≡ record v { check = check; steps = record v.steps { trail = more ++ v.steps.trail } }
+    pub more : List TracedStep
+    pub is : w ≡ record v { check = check; steps = record v.steps { step_trace = more ++ v.steps.step_trace } }
     pub conflicts : (o p : Own) → o.committing ≡ l.committing → Conflicts c n ToCommit cause (known_of v o) (known_of w p)
     pub others : 1 < c.callers
 
@@ -80,10 +80,10 @@ pub record GivesAbove (v w : View) : Type 0 where
     gate = record v.gate { time = w.gate.time; rebased = w.gate.rebased; completed = w.gate.completed };
     attempt = w.attempt;
     owned = w.owned;
-    steps = record v.steps { rises = w.steps.rises; trail = w.steps.trail };
+    steps = record v.steps { rises = w.steps.rises; step_trace = w.steps.step_trace };
   }
-  pub more : List TrailItem
-  pub trail : w.steps.trail ≡ more ++ v.steps.trail
+  pub more : List TracedStep
+  pub step_trace : w.steps.step_trace ≡ more ++ v.steps.step_trace
   pub handed : w.owned.held ≡ []
   pub unstored : w.attempt.stores ≡ []
   pub unentered : w.attempt.entered ≡ false

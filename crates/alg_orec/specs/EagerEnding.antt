@@ -5,7 +5,7 @@ use Rattle.stm_model.specs.declared.config.TheConstants.{CLOCK_LIMIT}
 use Rattle.stm_model.specs.Memories.{item_at}
 use Rattle.rule_base.specs.declared.entries.Cell.{Cell}
 use Rattle.rule_base.specs.declared.views.Ownership.{Ownership}
-use Rattle.rule_base.specs.declared.views.TrailItem.{TrailItem}
+use Rattle.rule_base.specs.declared.views.TracedStep.{TracedStep}
 use Rattle.rule_base.specs.declared.views.View.{View}
 use Rattle.rule_base.specs.Bridge.{items}
 use Rattle.rule_base.specs.History.{over, touches, Inside}
@@ -27,12 +27,12 @@ pub record CanRestoreAll (c : Config) (l : Local) (v : View) : Type 0 where
   pub words : Inside c.words v.owned.undo
 
 -- the view with these values in place, and with these steps added
-abbrev pub restoring : View → List Cell → List TrailItem → View
-restoring v in_place more = record v { owned = record v.owned { in_place = in_place }; steps = record v.steps { trail = more ++ v.steps.trail } }
+abbrev pub restoring : View → List Cell → List TracedStep → View
+restoring v in_place more = record v { owned = record v.owned { in_place = in_place }; steps = record v.steps { step_trace = more ++ v.steps.step_trace } }
 
 -- the words are as they were
 pub record RestoresAll (v w : View) : Type 0 where
-  pub more : List TrailItem
+  pub more : List TracedStep
   pub is : w ≡ restoring v [] more
 
 -- none of the items has a greater value, and where there is one, one has this
@@ -65,20 +65,20 @@ pub record CanGiveBack (c : Config) (l : Local) (v : View) : Type 0 where
   pub places : Inside c.records v.owned.held
   pub below : AllBelow CLOCK_LIMIT v.owned.held
   -- who knows the clock as the gate's holder took its records before
-  pub earlier : v.gate.calm ≡ true → AllBelow v.gate.time v.owned.held
+  pub earlier : v.gate.quiescent ≡ true → AllBelow v.gate.time v.owned.held
 
 -- no record is held any more; where some were, the clock may have been raised by one
 pub record GivesBack (v w : View) : Type 0 where
   pub owned : Ownership
   pub rises : ℕ
-  pub more : List TrailItem
-  pub is : w ≡ record v { owned = owned; steps = record v.steps { rises = rises; trail = more ++ v.steps.trail } }
+  pub more : List TracedStep
+  pub is : w ≡ record v { owned = owned; steps = record v.steps { rises = rises; step_trace = more ++ v.steps.step_trace } }
   pub handed : owned.held ≡ []
   pub rose : (v.steps.rises ≤ rises) × (rises ≤ v.steps.rises + 1)
   pub level : v.owned.held ≡ [] → rises ≡ v.steps.rises
 
 -- and nothing of the attempt is elsewhere
-pub record CanTakeBack (c : Config) (l : Local) (v : View) : Type 0 where
+pub record CanAbortEager (c : Config) (l : Local) (v : View) : Type 0 where
   pub gives : CanGiveBack c l v
   pub unlocked : v.lock.taken ≡ false
   pub unfixed : v.lock.irrevocable ≡ false
@@ -88,7 +88,7 @@ pub record CanTakeBack (c : Config) (l : Local) (v : View) : Type 0 where
   pub unentered : v.attempt.entered ≡ false
 
 -- caller n ended the attempt without an entry
-pub record TakesBack (n : ℕ) (v w : View) : Type 0 where
+pub record AbortsEager (n : ℕ) (v w : View) : Type 0 where
   pub outside : IsOutside w
   pub before : View
   pub unmade : IsUnmade v before

@@ -5,7 +5,7 @@ use Rattle.stm_model.specs.declared.stop.Cause.{Cause}
 use Rattle.stm_model.specs.declared.stop.Cause.TheVariants as causes
 use Rattle.stm_model.specs.Memories.{item_at}
 use Rattle.rule_base.specs.declared.layout.At.TheVariants.{Record}
-use Rattle.rule_base.specs.declared.views.TrailItem.{TrailItem}
+use Rattle.rule_base.specs.declared.views.TracedStep.{TracedStep}
 use Rattle.rule_base.specs.declared.views.View.{View}
 use Rattle.rule_base.specs.Encodings.{free_record}
 use Rattle.rule_base.specs.History.{touches}
@@ -18,11 +18,11 @@ use Rattle.tx_answers.specs.declared.answers.Read.TheVariants as reads
 use Rattle.tx_answers.specs.Answers.{HasOthers, HasRead, GoesOn, IsOpaque, Quits}
 use Rattle.tx_answers.specs.Causes.{reads_full}
 use Rattle.tx_answers.specs.Causes.Asked.{ForWord}
-use Rattle.tx_answers.specs.Known.{Known}
+use Rattle.tx_answers.specs.CallerState.{CallerState}
 use Rattle.alg_orec.specs.Validating.{load_of, OnlyLoads}
 
 -- the attempt has neither written nor read a, and its read log has room for it
-pub record IsNew (a : ℕ) (v : Known) : Type 0 where
+pub record IsNew (a : ℕ) (v : CallerState) : Type 0 where
   pub unwritten : item_at a v.log.writes ≡ None
   pub unread : item_at a v.log.reads ≡ None
   pub room : reads_full a v ≡ false
@@ -40,7 +40,7 @@ module _ (c : Config) (a : ℕ) where
 
   -- no own step has changed the record since it was found as this word; or there are others
   abbrev pub IsLeftSo : ℕ → View → Type 0
-  IsLeftSo word v = (left_at (a % c.records) v.steps.trail ≡ Some word) ⊎ (1 < c.callers)
+  IsLeftSo word v = (left_at (a % c.records) v.steps.step_trace ≡ Some word) ⊎ (1 < c.callers)
 
   -- the record was found as this word
   pub record IsSampled (word : ℕ) (v : View) : Type 0 where
@@ -62,18 +62,18 @@ module _ (c : Config) (a : ℕ) where
 
 module _ (good : List ℕ → Type 0) (c : Config) (n a : ℕ) where
   -- the attempt goes on after these steps, and has yet to read a
-  pub record GoesOnReading (more : List TrailItem) (v w : Known) : Type 0 where
+  pub record GoesOnReading (more : List TracedStep) (v w : CallerState) : Type 0 where
     pub goes : GoesOn c (ForWord a) v w
     pub uncommitted : w.committing ≡ false
     pub log : w.log ≡ v.log
     pub kept : w.kept ≡ v.kept
     pub fresh : IsNew a w
     pub opaque : IsOpaque good c n w
-    pub trail : w.trail ≡ more ++ v.trail
+    pub step_trace : w.step_trace ≡ more ++ v.step_trace
 
   -- the first step loaded the record of a as this word, and what came then were loads
-  abbrev pub FindsFree : ℕ → Known → Known → Type 0
-  FindsFree word v w = (late : List TrailItem) × OnlyLoads late × GoesOnReading (late ++ load_of (Record (a % c.records)) word ∷ []) v w
+  abbrev pub FindsFree : ℕ → CallerState → CallerState → Type 0
+  FindsFree word v w = (late : List TracedStep) × OnlyLoads late × GoesOnReading (late ++ load_of (Record (a % c.records)) word ∷ []) v w
 
   -- what `sample` tells: the record's word; or that the attempt holds the record, and did nothing
   module _ {K : Type 0} where
@@ -85,17 +85,17 @@ module _ (good : List ℕ → Type 0) (c : Config) (n a : ℕ) where
     Samples (Err (reads.Full limit)) d e = HasRead good c n a (reads.Full limit) (known d) (known e)
 
   -- the first step loaded the record of a, and found it otherwise than as this word; then the attempt ended
-  pub record FindsMoved (word : ℕ) (cause : Cause) (v w : Known) : Type 0 where
+  pub record FindsMoved (word : ℕ) (cause : Cause) (v w : CallerState) : Type 0 where
     pub quits : Quits v w
     pub others : HasOthers good c n
     pub after : ℕ
     pub apart : word ≢ after
     pub is : cause ≡ causes.Moved (a % c.records) word after
-    pub late : List TrailItem
-    pub trail : w.trail ≡ late ++ load_of (Record (a % c.records)) after ∷ v.trail
+    pub late : List TracedStep
+    pub step_trace : w.step_trace ≡ late ++ load_of (Record (a % c.records)) after ∷ v.step_trace
 
   -- what `confirm` tells of a record that was found as this word before a was loaded as x
-  abbrev pub Confirms : ℕ → ℕ → Read → Known → Known → Type 0
+  abbrev pub Confirms : ℕ → ℕ → Read → CallerState → CallerState → Type 0
   Confirms word x (reads.Value y) v w = (y ≡ x) × HasRead good c n a (reads.Value x) v w
   Confirms word x (reads.Conflict cause) v w = FindsMoved word cause v w
   Confirms word x (reads.Full limit) v w = ⊥

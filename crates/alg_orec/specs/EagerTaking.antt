@@ -8,7 +8,7 @@ use Rattle.rule_base.specs.declared.entries.Cell.{Cell}
 use Rattle.rule_base.specs.declared.entries.Entry.{Entry}
 use Rattle.rule_base.specs.declared.layout.At.TheVariants.{Clock}
 use Rattle.rule_base.specs.declared.views.Sample.{Sample}
-use Rattle.rule_base.specs.declared.views.TrailItem.{TrailItem}
+use Rattle.rule_base.specs.declared.views.TracedStep.{TracedStep}
 use Rattle.rule_base.specs.declared.views.Validation.{Validation}
 use Rattle.rule_base.specs.declared.views.View.{View}
 use Rattle.rule_base.specs.Bridge.{items}
@@ -48,14 +48,14 @@ pub record CanTake (c : Config) (a : ℕ) (l : Local) (v : View) : Type 0 where
   pub inside : a < c.words
 
 -- the view with this start and what was seen up to it, with these records held, and with these steps added
-abbrev pub taken : View → ℕ → List Entry → List Cell → Sample → Validation → List TrailItem → View
+abbrev pub taken : View → ℕ → List Entry → List Cell → Sample → Validation → List TracedStep → View
 taken v start seen held sample check more = record v {
   history = record v.history { seen = seen; front = start };
   attempt = record v.attempt { start = start };
   owned = record v.owned { held = held };
   sample = sample;
   check = check;
-  steps = record v.steps { trail = more ++ v.steps.trail };
+  steps = record v.steps { step_trace = more ++ v.steps.step_trace };
 }
 
 module _ (good : (ℕ → ℕ) → Type 0) (c : Config) (n : ℕ) where
@@ -67,7 +67,7 @@ module _ (good : (ℕ → ℕ) → Type 0) (c : Config) (n : ℕ) where
     pub held : List Cell
     pub sample : Sample
     pub check : Validation
-    pub more : List TrailItem
+    pub more : List TracedStep
     pub is : w ≡ taken v m.start seen held sample check more
     pub moves : MayMove good c n m.start seen more v
     pub owed : MovesOwed c a m.start more v
@@ -83,7 +83,7 @@ module _ (good : (ℕ → ℕ) → Type 0) (c : Config) (n : ℕ) where
   pub record FindsLimit (clock : ℕ) (l : Local) (v : View) (m : Local) (w : View) : Type 0 where
     pub local : m ≡ record l { start = m.start }
     pub seen : List Entry
-    pub more : List TrailItem
+    pub more : List TracedStep
     pub is : w ≡ moved v m.start seen v.attempt.reads w.sample w.check more
     pub moves : MayMove good c n m.start seen more v
     pub limit : CLOCK_LIMIT ≤ clock
@@ -114,6 +114,6 @@ pub record CanStoreFirst (c : Config) (a : ℕ) (l : Local) (v : View) : Type 0 
 -- x lies in place, and what the word was is in the undo log
 pub record StoresFirst (a x : ℕ) (l : Local) (v : View) (m : Local) (w : View) : Type 0 where
   pub old : ℕ
-  pub more : List TrailItem
+  pub more : List TracedStep
   pub local : m ≡ record l { undo = record l.undo { items = l.undo.items ++ (a, old) ∷ [] }; writes = record l.writes { items = l.writes.items ++ (a, x) ∷ [] }; wrote = true }
-  pub is : w ≡ record v { owned = record v.owned { in_place = record { at = a; value = x } ∷ v.owned.in_place; undo = record { at = a; value = old } ∷ v.owned.undo }; steps = record v.steps { trail = more ++ v.steps.trail } }
+  pub is : w ≡ record v { owned = record v.owned { in_place = record { at = a; value = x } ∷ v.owned.in_place; undo = record { at = a; value = old } ∷ v.owned.undo }; steps = record v.steps { step_trace = more ++ v.steps.step_trace } }

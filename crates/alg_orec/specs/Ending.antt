@@ -12,7 +12,7 @@ use Rattle.stm_rule.specs.Attempts.{IsOutside}
 use Rattle.alg_orec.specs.Validating.{HasVersions}
 
 -- what it wrote lies with its descriptor, which has the records that it holds
-pub record CanRollBack (c : Config) (l : Local) (v : View) : Type 0 where
+pub record CanAbortLazy (c : Config) (l : Local) (v : View) : Type 0 where
   pub opens : HasOpen v
   pub lazy : v.owned.eager ≡ false
   pub unplaced : v.owned.in_place ≡ []

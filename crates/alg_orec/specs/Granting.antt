@@ -4,7 +4,7 @@ use Rattle.stm_model.specs.declared.config.Config.{Config}
 use Rattle.stm_model.specs.declared.config.TheConstants.{CLOCK_LIMIT}
 use Rattle.rule_base.specs.declared.entries.Entry.{Entry}
 use Rattle.rule_base.specs.declared.layout.At.TheVariants.{Clock}
-use Rattle.rule_base.specs.declared.views.TrailItem.{TrailItem}
+use Rattle.rule_base.specs.declared.views.TracedStep.{TracedStep}
 use Rattle.rule_base.specs.declared.views.View.{View}
 use Rattle.rule_base.specs.Bridge.{of_words}
 use Rattle.rule_base.specs.GateSteps.{granted_at}
@@ -21,7 +21,7 @@ use Rattle.tx_answers.specs.declared.answers.Irrev.TheVariants as irrevs
 use Rattle.tx_answers.specs.Causes.{Conflicts}
 use Rattle.tx_answers.specs.Causes.Asked.{ToPromote}
 use Rattle.tx_answers.specs.Evidence.{Found}
-use Rattle.tx_answers.specs.Known.{known_of}
+use Rattle.tx_answers.specs.CallerState.{known_of}
 use Rattle.alg_orec.specs.EagerEnding.{AllBelow}
 use Rattle.alg_orec.specs.Validating.{load_of, CanValidate}
 
@@ -30,13 +30,13 @@ pub record CanPromote (c : Config) (n : ℕ) (l : Local) (v : View) : Type 0 whe
   pub validates : CanValidate c l v
   pub alone : IsAlone c.callers n v
   pub stores : HasStores c.words v
-  pub uncalm : v.gate.calm ≡ false
+  pub not_quiescent : v.gate.quiescent ≡ false
   -- its start has seen the versions of the records that it holds, which are below the limit
   pub olds : (r : ℕ) → touches v.owned.held r ≡ true → over v.owned.held r 0 ≤ l.start
   pub below : AllBelow CLOCK_LIMIT v.owned.held
 
 -- the view after the promotion to the clock t: what lies in place is what the attempt stored
-abbrev pub promoted_at : View → List Entry → ℕ → List TrailItem → View
+abbrev pub promoted_at : View → List Entry → ℕ → List TracedStep → View
 promoted_at v seen t more = record v {
   history = record v.history { seen = seen; front = t };
   attempt = direct_attempt t v;
@@ -44,23 +44,23 @@ promoted_at v seen t more = record v {
   gate = granted_at t v.gate;
   sample = no_sample;
   check = no_check;
-  steps = record v.steps { trail = more ++ v.steps.trail };
+  steps = record v.steps { step_trace = more ++ v.steps.step_trace };
 }
 
 -- the view after steps that only loaded: but for what w knows by them, it is as before
-abbrev pub loaded_at : View → View → List TrailItem → View
+abbrev pub loaded_at : View → View → List TracedStep → View
 loaded_at v w more = record v {
-  gate = record v.gate { calm = w.gate.calm; time = w.gate.time; rebased = w.gate.rebased; completed = w.gate.completed };
+  gate = record v.gate { quiescent = w.gate.quiescent; time = w.gate.time; rebased = w.gate.rebased; completed = w.gate.completed };
   sample = w.sample;
   check = w.check;
-  steps = record v.steps { trail = more ++ v.steps.trail };
+  steps = record v.steps { step_trace = more ++ v.steps.step_trace };
 }
 
 -- its start is the clock, below its limit, and all reads are of the memory there
 pub record IsPromoted (good : List ℕ → Type 0) (c : Config) (l : Local) (v : View) (m : Local) (w : View) : Type 0 where
   pub local : m ≡ record l { start = m.start }
   pub seen : List Entry
-  pub more : List TrailItem
+  pub more : List TracedStep
   pub is : w ≡ promoted_at v seen m.start more
   pub moves : Moves (of_words good c.words) c seen v m.start
   pub found : Contains more (load_of Clock m.start)
@@ -78,9 +78,9 @@ module _ (c : Config) (n : ℕ) where
   -- and is to be taken back: a clock that it knows is above the versions of what it holds
   pub record IsNotPromoted (refusal : Irrev) (l : Local) (v : View) (m : Local) (w : View) : Type 0 where
     pub local : m ≡ l
-    pub more : List TrailItem
+    pub more : List TracedStep
     pub is : w ≡ loaded_at v w more
-    pub earlier : w.gate.calm ≡ true → AllBelow w.gate.time v.owned.held
+    pub earlier : w.gate.quiescent ≡ true → AllBelow w.gate.time v.owned.held
     pub why : RefusesGrant refusal v w
 
 abbrev pub Promotes : (List ℕ → Type 0) → Config → ℕ → Result (Unit {0}) Irrev → Local → View → Local → View → Type 0
@@ -96,5 +96,5 @@ pub record CanStoreAll (words : ℕ) (l : Local) (v : View) : Type 0 where
 
 -- all of it does
 pub record StoresAll (l : Local) (v w : View) : Type 0 where
-  pub more : List TrailItem
-  pub is : w ≡ record v { attempt = record v.attempt { stores = cells_of l.writes.items }; steps = record v.steps { trail = more ++ v.steps.trail } }
+  pub more : List TracedStep
+  pub is : w ≡ record v { attempt = record v.attempt { stores = cells_of l.writes.items }; steps = record v.steps { step_trace = more ++ v.steps.step_trace } }

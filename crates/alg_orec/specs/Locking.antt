@@ -7,7 +7,7 @@ use Rattle.stm_model.specs.declared.stop.Cause.TheVariants as causes
 use Rattle.rule_base.specs.declared.entries.Cell.{Cell}
 use Rattle.rule_base.specs.declared.layout.At.TheVariants.{Record}
 use Rattle.rule_base.specs.declared.views.Act.TheVariants.{Exchange}
-use Rattle.rule_base.specs.declared.views.TrailItem.{TrailItem}
+use Rattle.rule_base.specs.declared.views.TracedStep.{TracedStep}
 use Rattle.rule_base.specs.declared.views.View.{View}
 use Rattle.rule_base.specs.Bridge.{items}
 use Rattle.rule_base.specs.Encodings.{free_record, owned_record, is_owned, owner_of}
@@ -21,11 +21,11 @@ use Rattle.tx_answers.specs.Evidence.{Untouched}
 use Rattle.alg_orec.specs.Validating.{load_of}
 
 -- the view with these records held, and with these steps added
-abbrev pub holding_still : View → List Cell → List TrailItem → View
-holding_still v held more = record v { owned = record v.owned { held = held }; steps = record v.steps { trail = more ++ v.steps.trail } }
+abbrev pub holding_still : View → List Cell → List TracedStep → View
+holding_still v held more = record v { owned = record v.owned { held = held }; steps = record v.steps { step_trace = more ++ v.steps.step_trace } }
 
 -- the exchange by which caller n takes a record, where it found x
-abbrev pub lock_item : ℕ → ℕ → ℕ → ℕ → TrailItem
+abbrev pub lock_item : ℕ → ℕ → ℕ → ℕ → TracedStep
 lock_item n r version x = record { place = Record r; act = Exchange (free_record version) (owned_record n); found = Some x }
 
 -- the attempt has no entry yet, and its descriptor has the records that it holds
@@ -43,9 +43,9 @@ pub record CanLockAll (c : Config) (l : Local) (v : View) : Type 0 where
   pub records : 0 < c.records
 
 -- a load found the record free at this version, and no own step had changed it before
-pub record WasFree (r version : ℕ) (more : List TrailItem) : Type 0 where
-  pub late : List TrailItem
-  pub early : List TrailItem
+pub record WasFree (r version : ℕ) (more : List TracedStep) : Type 0 where
+  pub late : List TracedStep
+  pub early : List TracedStep
   pub is : more ≡ late ++ load_of (Record r) (free_record version) ∷ early
   pub untouched : Untouched (Record r) early
 
@@ -59,14 +59,14 @@ module _ (c : Config) (n : ℕ) where
     pub is : w ≡ holding_still v (record { at = r; value = version } ∷ v.owned.held) (lock_item n r version (free_record version) ∷ load_of (Record r) (free_record version) ∷ [])
 
   -- the last step found the record another caller's
-  pub record IsFoundOwned (r word : ℕ) (more : List TrailItem) : Type 0 where
+  pub record IsFoundOwned (r word : ℕ) (more : List TracedStep) : Type 0 where
     pub last : more ≡ load_of (Record r) word ∷ []
     pub owned : is_owned word ≡ true
     pub other : NamesOther c n (1 + owner_of word)
     pub others : 1 < c.callers
 
   -- the exchange found the record otherwise than the load before it
-  pub record IsFoundMoved (r before after : ℕ) (more : List TrailItem) : Type 0 where
+  pub record IsFoundMoved (r before after : ℕ) (more : List TracedStep) : Type 0 where
     pub version : ℕ
     pub free : before ≡ free_record version
     pub apart : before ≢ after
@@ -74,7 +74,7 @@ module _ (c : Config) (n : ℕ) where
     pub others : 1 < c.callers
 
   -- why record r can't be taken
-  abbrev pub IsRefused : ℕ → Cause → ℕ → List TrailItem → Type 0
+  abbrev pub IsRefused : ℕ → Cause → ℕ → List TracedStep → Type 0
   IsRefused r (causes.Clock had now) s more = ⊥
   IsRefused r (causes.Record index word start) s more = (index ≡ r) × (start ≡ s) × IsFoundOwned r word more
   IsRefused r (causes.Moved index before after) s more = (index ≡ r) × IsFoundMoved r before after more
@@ -83,10 +83,10 @@ module _ (c : Config) (n : ℕ) where
 
   abbrev pub LocksOne : ℕ → Result ℕ Cause → Local → View → Local → View → Type 0
   LocksOne r (Ok version) l v m w = HasLocked r version l v m w
-  LocksOne r (Err cause) l v m w = (m ≡ l) × ((more : List TrailItem) × (w ≡ holding_still v v.owned.held more) × IsRefused r cause l.start more)
+  LocksOne r (Err cause) l v m w = (m ≡ l) × ((more : List TracedStep) × (w ≡ holding_still v v.owned.held more) × IsRefused r cause l.start more)
 
   -- What is held, with what the descriptor has of it. v is the view before the steps, and w that after them.
-  pub record Holds (l : Local) (v : View) (m : Local) (w : View) (more : List TrailItem) : Type 0 where
+  pub record Holds (l : Local) (v : View) (m : Local) (w : View) (more : List TracedStep) : Type 0 where
     pub local : m ≡ record l { locks = m.locks }
     pub len : m.locks.len ≡ l.locks.len
     pub is : w ≡ holding_still v w.owned.held more
@@ -96,19 +96,19 @@ module _ (c : Config) (n : ℕ) where
     pub versions : (r : ℕ) → touches w.owned.held r ≡ true → over w.owned.held r 0 ≤ CLOCK_LIMIT
 
   -- each record that is held was free when it was looked at, and no other was changed
-  pub record Locks (l : Local) (v : View) (m : Local) (w : View) (more : List TrailItem) : Type 0 where
+  pub record Locks (l : Local) (v : View) (m : Local) (w : View) (more : List TracedStep) : Type 0 where
     pub holds : Holds l v m w more
     pub free : (r : ℕ) → touches w.owned.held r ≡ true → WasFree r (over w.owned.held r 0) more
     pub apart : (r : ℕ) → touches w.owned.held r ≡ false → Untouched (Record r) more
     pub sole : (r : ℕ) → touches w.owned.held r ≡ true → c.callers ≡ 1 → over w.owned.held r 0 ≤ c.clock + v.steps.rises
 
   -- 0, or a version at which the record of an address that was written was found free
-  abbrev pub IsOfWritten : Local → ℕ → List TrailItem → Type 0
+  abbrev pub IsOfWritten : Local → ℕ → List TracedStep → Type 0
   IsOfWritten l version more = (version ≡ 0) ⊎ ((a : ℕ) × (touches (cells_of l.writes.items) a ≡ true) × Contains more (load_of (Record (home_of c a)) (free_record version)))
 
   -- all records of what was written are held, and this is the newest of their versions
   pub record LocksEach (newest : ℕ) (l : Local) (v : View) (m : Local) (w : View) : Type 0 where
-    pub more : List TrailItem
+    pub more : List TracedStep
     pub locks : Locks l v m w more
     pub covered : (a : ℕ) → touches (cells_of l.writes.items) a ≡ true → touches w.owned.held (home_of c a) ≡ true
     pub olds : (r : ℕ) → touches w.owned.held r ≡ true → over w.owned.held r 0 ≤ newest
@@ -116,8 +116,8 @@ module _ (c : Config) (n : ℕ) where
 
   -- or the record of an address that was written can't be taken
   pub record StopsLocking (cause : Cause) (l : Local) (v : View) (m : Local) (w : View) : Type 0 where
-    pub before : List TrailItem
-    pub last : List TrailItem
+    pub before : List TracedStep
+    pub last : List TracedStep
     pub a : ℕ
     pub written : touches (cells_of l.writes.items) a ≡ true
     pub locks : Locks l v m w (last ++ before)
@@ -137,8 +137,8 @@ pub record Owes (words : ℕ) (l : Local) (v : View) : Type 0 where
 
 -- all of it does
 pub record Pays (v w : View) : Type 0 where
-  pub more : List TrailItem
-  pub is : w ≡ record v { owned = record v.owned { back = [] }; steps = record v.steps { trail = more ++ v.steps.trail } }
+  pub more : List TracedStep
+  pub is : w ≡ record v { owned = record v.owned { back = [] }; steps = record v.steps { step_trace = more ++ v.steps.step_trace } }
 
 -- the entry is made at t, and all that it wrote lies in the heap
 pub record OwesNothing (c : Config) (t : ℕ) (l : Local) (v : View) : Type 0 where
@@ -152,5 +152,5 @@ pub record OwesNothing (c : Config) (t : ℕ) (l : Local) (v : View) : Type 0 wh
 
 -- no record is held any more
 pub record ReleasesAll (v w : View) : Type 0 where
-  pub more : List TrailItem
+  pub more : List TracedStep
   pub is : w ≡ holding_still v [] more

@@ -9,7 +9,7 @@ use Rattle.rule_base.specs.declared.entries.Entry.{Entry}
 use Rattle.rule_base.specs.declared.layout.At.{At}
 use Rattle.rule_base.specs.declared.layout.At.TheVariants.{Clock, Record}
 use Rattle.rule_base.specs.declared.views.Act.TheVariants.{Load}
-use Rattle.rule_base.specs.declared.views.TrailItem.{TrailItem}
+use Rattle.rule_base.specs.declared.views.TracedStep.{TracedStep}
 use Rattle.rule_base.specs.declared.views.View.{View}
 use Rattle.rule_base.specs.Bridge.{items}
 use Rattle.rule_base.specs.Encodings.{free_record, is_owned, owner_of, version_of}
@@ -22,11 +22,11 @@ use Rattle.steps_orec.specs.RecordFindings.{Moves}
 use Rattle.tx_answers.specs.Causes.{NamesOther}
 
 -- a load that found x
-abbrev pub load_of : At → ℕ → TrailItem
+abbrev pub load_of : At → ℕ → TracedStep
 load_of place x = record { place = place; act = Load; found = Some x }
 
 -- none of these steps changed a word
-abbrev pub OnlyLoads : List TrailItem → Type 0
+abbrev pub OnlyLoads : List TracedStep → Type 0
 OnlyLoads [] = Unit {0}
 OnlyLoads (i ∷ is) = (i.act ≡ Load) × OnlyLoads is
 
@@ -75,22 +75,22 @@ Judges r (Err cause) word start = (cause ≡ causes.Record r word start) × ((is
 module _ (c : Config) where
   -- the reads from the first on and before the last have passed, of those that the validation has to look at
   pub record HasPassed (first last : ℕ) (l : Local) (v w : View) : Type 0 where
-    pub more : List TrailItem
-    pub is : w ≡ record v { check = record v.check { todo = w.check.todo }; steps = record v.steps { trail = more ++ v.steps.trail } }
+    pub more : List TracedStep
+    pub is : w ≡ record v { check = record v.check { todo = w.check.todo }; steps = record v.steps { step_trace = more ++ v.steps.step_trace } }
     pub loads : OnlyLoads more
     pub fewer : (a : ℕ) → touches w.check.todo a ≡ true → touches v.check.todo a ≡ true
     pub done : (j : ℕ) → first ≤ j → j < last → vouches l (read_at l j % c.records) ≡ false → touches w.check.todo (read_at l j) ≡ false
 
 module _ (c : Config) (n : ℕ) where
   -- the last step found the record another caller's, or newer than the start
-  pub record IsFoundStale (index word start : ℕ) (more : List TrailItem) (v : View) : Type 0 where
-    pub early : List TrailItem
+  pub record IsFoundStale (index word start : ℕ) (more : List TracedStep) (v : View) : Type 0 where
+    pub early : List TracedStep
     pub last : more ≡ load_of (Record index) word ∷ early
     pub unheld : touches v.owned.held index ≡ false
     pub stale : ((is_owned word ≡ true) × NamesOther c n (1 + owner_of word)) ⊎ ((is_owned word ≡ false) × (start < version_of word))
     pub others : 1 < c.callers
     -- who knows the clock as the gate's holder has an older start
-    pub later : v.gate.calm ≡ true → v.attempt.start < v.gate.time
+    pub later : v.gate.quiescent ≡ true → v.attempt.start < v.gate.time
 
   -- the attempt holds the record, in the place of a version above its start
   pub record IsHeldNewer (index found start : ℕ) (v : View) : Type 0 where
@@ -104,8 +104,8 @@ module _ (c : Config) (n : ℕ) where
     pub a : ℕ
     pub home : index ≡ home_of c a
     pub read : touches v.attempt.reads a ≡ true
-    pub more : List TrailItem
-    pub is : w ≡ record v { check = w.check; steps = record v.steps { trail = more ++ v.steps.trail } }
+    pub more : List TracedStep
+    pub is : w ≡ record v { check = w.check; steps = record v.steps { step_trace = more ++ v.steps.step_trace } }
     pub loads : OnlyLoads more
     pub why : IsFoundStale index word compared more v ⊎ IsHeldNewer index word compared v
 
@@ -125,8 +125,8 @@ module _ (c : Config) (n : ℕ) where
     pub record IsValid (l : Local) (v : View) (m : Local) (w : View) : Type 0 where
       pub local : m ≡ record l { start = m.start }
       pub history : List Entry
-      pub more : List TrailItem
-      pub is : w ≡ record v { history = record v.history { seen = history; front = m.start }; attempt = record v.attempt { start = m.start }; sample = record v.sample { loaded = false }; check = no_check; steps = record v.steps { trail = more ++ v.steps.trail } }
+      pub more : List TracedStep
+      pub is : w ≡ record v { history = record v.history { seen = history; front = m.start }; attempt = record v.attempt { start = m.start }; sample = record v.sample { loaded = false }; check = no_check; steps = record v.steps { step_trace = more ++ v.steps.step_trace } }
       pub loads : OnlyLoads more
       pub found : Contains more (load_of Clock m.start)
       pub moves : Moves good c history v m.start

@@ -8,14 +8,14 @@ ghost use Rattle.stm_rule.specs.Callers.{IsOf, IsSameCaller, IsSeatOf};
 ghost use Rattle.stm_gate.specs.Knowing.{known, number};
 ghost use Rattle.stm_rule.specs.Kept.{IsSameSeat, view_of};
 ghost use Rattle.tx_answers.specs.Answers.{KeepsRule, Commits};
-ghost use Rattle.tx_answers.specs.Known.{known_of};
+ghost use Rattle.tx_answers.specs.CallerState.{known_of};
 ghost use Rattle.alg_orec.specs.EagerCommitting.{CanCommitPlaced, Revalidates, CanGiveDirect, CanGiveAbove, GivesAbove};
 ghost use Rattle.alg_orec.specs.Locking.{ReleasesAll};
 
-use crate::eager_ending::{newest, take_back};
+use crate::eager_ending::{abort, newest};
 use crate::locking::release_all;
 use crate::validate::validate;
-use steps_orec::promoting::{direct_lift, direct_release, direct_release_above};
+use steps_orec::promoting::{direct_raise_clock, direct_release, direct_release_above};
 use steps_orec::{eager, lazy};
 use stm_gate::leave::leave;
 use stm_model::config::CLOCK_LIMIT;
@@ -44,13 +44,13 @@ pub(crate) fn commit_placed<K: MemRule>(
     ensures steps { TakesAtMost (5 + local.old.reads.len + local.old.undo.len + length local.old.locks.items) (view_of seat.old) (view_of seat.new) }
 {
     if let Err(cause) = revalidate(seat, local, stm, caller) {
-        take_back(seat, local, stm, caller);
+        abort(seat, local, stm, caller);
         return Commit::Conflict(cause);
     }
     let start = local.start;
     if start >= CLOCK_LIMIT {
         let clock = lazy::limit(stm, seat, caller);
-        take_back(seat, local, stm, caller);
+        abort(seat, local, stm, caller);
         return Commit::ClockFull { clock };
     }
     let now = eager::commit_placed(stm, seat, caller, start);
@@ -133,7 +133,7 @@ fn give_above<K: MemRule>(seat: &mut Token<K>, local: &Local, stm: &Stm<K>, call
         return;
     }
     let least = newest(local) + 1;
-    direct_lift(stm, seat, caller, least);
+    direct_raise_clock(stm, seat, caller, least);
     for i in 0..local.locks.count() {
         let (r, version) = local.locks.item(i);
         direct_release_above(stm, seat, caller, r, version + 1);

@@ -4,10 +4,10 @@ ghost use Rattle.std.specs.Prelude.{length, ◌≡◌, ℕ, ◌<◌, ◌≤◌, 
 ghost use Rattle.stm_rule.specs.Attempts.{ended, IsFenceOf};
 ghost use Rattle.stm_rule.specs.Callers.{IsSeatOf};
 ghost use Rattle.stm_rule.specs.Kept.{IsSameSeat, view_of};
-ghost use Rattle.alg_orec.specs.EagerEnding.{CanRestoreAll, RestoresAll, IsNewest, CanReleaseAbove, CanGiveBack, GivesBack, CanTakeBack, TakesBack};
+ghost use Rattle.alg_orec.specs.EagerEnding.{CanRestoreAll, RestoresAll, IsNewest, CanReleaseAbove, CanGiveBack, GivesBack, CanAbortEager, AbortsEager};
 ghost use Rattle.alg_orec.specs.Locking.{ReleasesAll};
 
-use steps_orec::eager::{lift, release_above, restore};
+use steps_orec::eager::{raise_clock, release_above, restore};
 use stm_gate::leave::leave;
 use stm_model::rule::MemRule;
 use stm_rule::local::Local;
@@ -17,20 +17,15 @@ use stm_rule::stm::{Stm, Token};
 /// holds the gate.
 #[cold]
 #[inline(never)]
-pub(crate) fn take_back<K: MemRule>(
-    seat: &mut Token<K>,
-    local: &mut Local,
-    stm: &Stm<K>,
-    caller: usize,
-)
+pub(crate) fn abort<K: MemRule>(seat: &mut Token<K>, local: &mut Local, stm: &Stm<K>, caller: usize)
     requires seat { IsSeatOf stm.now caller seat.old }
     requires caller { caller < stm.now.config.callers }
-    requires view { CanTakeBack stm.now.config local.old (view_of seat.old) }
+    requires view { CanAbortEager stm.now.config local.old (view_of seat.old) }
     requires fence { IsFenceOf local.old (view_of seat.old) }
     requires holds { local.old.holds ≡ (view_of seat.old).gate.holds }
     requires named { local.old.algorithm ≡ (view_of seat.old).gate.algorithm }
     ensures same { IsSameSeat seat.old seat.new × (seat.new.me.0 ≡ record seat.old.me.0 { view = view_of seat.new }) }
-    ensures takes_back { TakesBack caller (view_of seat.old) (view_of seat.new) }
+    ensures aborts { AbortsEager caller (view_of seat.old) (view_of seat.new) }
     ensures idle { local.new ≡ ended (record local.old { committing = false }) }
     ensures steps { TakesAtMost (3 + local.old.undo.len + length local.old.locks.items) (view_of seat.old) (view_of seat.new) }
 {
@@ -55,7 +50,7 @@ fn give_back<K: MemRule>(seat: &mut Token<K>, local: &Local, stm: &Stm<K>, calle
     }
     restore_all(seat, local, stm, caller);
     let least = newest(local) + 1;
-    lift(stm, seat, caller, least);
+    raise_clock(stm, seat, caller, least);
     release_all_above(seat, local, stm, caller);
 }
 

@@ -3,11 +3,11 @@ ghost use Rattle.std.specs.Prelude.{◌≡◌, ℕ, ◌+◌, ◌*◌, false};
 ghost use Rattle.stm_model.specs.declared.alg.Alg.TheVariants.{OrecEager};
 ghost use Rattle.stm_rule.specs.Callers.{IsOf, IsSameCaller};
 ghost use Rattle.tx_answers.specs.Counting.{AddsAtMost};
-ghost use Rattle.tx_answers.specs.Known.{IsRunning, is_irrevocable};
+ghost use Rattle.tx_answers.specs.CallerState.{IsRunning, is_irrevocable};
 ghost use Rattle.stm_gate.specs.Knowing.{known, number};
 ghost use Rattle.stm_gate.specs.Granting.{IsAlone, Grants};
 
-use crate::eager_ending::take_back;
+use crate::eager_ending::abort;
 use crate::granting::grant_reads;
 use stm_model::rule::MemRule;
 use stm_rule::desc::Desc;
@@ -27,7 +27,7 @@ pub(crate) fn grant<K: MemRule>(desc: &mut Desc<K>, stm: &Stm<K>) -> Irrev
 {
     let caller = desc.number;
     if let Err(refusal) = grant_reads(&mut desc.seat, &mut desc.local, stm, caller) {
-        take_back(&mut desc.seat, &mut desc.local, stm, caller);
+        abort(&mut desc.seat, &mut desc.local, stm, caller);
         return refusal;
     }
     desc.local.granted = true;

@@ -10,9 +10,9 @@ ghost use Rattle.stm_rule.specs.Callers.{IsOf, IsSameCaller, IsSeatOf};
 ghost use Rattle.stm_rule.specs.Kept.{IsSameSeat, view_of};
 ghost use Rattle.tx_answers.specs.Answers.{Rolls};
 ghost use Rattle.tx_answers.specs.Counting.{AddsAtMost};
-ghost use Rattle.tx_answers.specs.Known.{IsRunning};
+ghost use Rattle.tx_answers.specs.CallerState.{IsRunning};
 ghost use Rattle.stm_gate.specs.Knowing.{known, number};
-ghost use Rattle.alg_orec.specs.EagerNesting.{CanRestoreBehind, RestoresBehind, CanPlaceAgain, PlacesAgain};
+ghost use Rattle.alg_orec.specs.EagerNesting.{CanRestoreAfter, RestoresAfter, CanPlaceAgain, PlacesAgain};
 
 use steps_orec::eager::{place, restore};
 use stm_model::rule::MemRule;
@@ -37,7 +37,7 @@ pub(crate) fn roll_in_place<K: MemRule>(desc: &mut Desc<K>, stm: &Stm<K>, depth:
 {
     let caller = desc.number;
     let left = desc.local.writes.count_at(depth);
-    restore_behind(
+    restore_after(
         &mut desc.seat,
         stm,
         caller,
@@ -54,7 +54,7 @@ pub(crate) fn roll_in_place<K: MemRule>(desc: &mut Desc<K>, stm: &Stm<K>, depth:
 
 /// Stores the old values back of all words that are written but the first `left`, the last first. Their items stay in the
 /// undo log. One step for each.
-fn restore_behind<K: MemRule>(
+fn restore_after<K: MemRule>(
     seat: &mut Token<K>,
     stm: &Stm<K>,
     caller: usize,
@@ -63,9 +63,9 @@ fn restore_behind<K: MemRule>(
     left: usize,
 )
     requires seat { IsSeatOf stm.now caller seat.old }
-    requires behind { CanRestoreBehind stm.now.config.words undo.now.items writes.now.items (view_of seat.old) }
+    requires behind { CanRestoreAfter stm.now.config.words undo.now.items writes.now.items (view_of seat.old) }
     ensures same { IsSameSeat seat.old seat.new × (seat.new.me.0 ≡ record seat.old.me.0 { view = view_of seat.new }) }
-    ensures behind { RestoresBehind left writes.now.items (view_of seat.old) (view_of seat.new) }
+    ensures behind { RestoresAfter left writes.now.items (view_of seat.old) (view_of seat.new) }
     ensures steps { TakesAtMost (length writes.now.items - left) (view_of seat.old) (view_of seat.new) }
 {
     let mut count = writes.count();

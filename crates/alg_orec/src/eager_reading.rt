@@ -6,14 +6,14 @@ ghost use Rattle.rule_base.specs.declared.layout.At.TheVariants.{Heap};
 ghost use Rattle.stm_model.specs.Memories.{item_at};
 ghost use Rattle.stm_model.specs.declared.alg.Alg.TheVariants.{OrecEager};
 ghost use Rattle.stm_rule.specs.Callers.{IsOf, IsSameCaller};
-ghost use Rattle.tx_answers.specs.Known.{IsRunning};
+ghost use Rattle.tx_answers.specs.CallerState.{IsRunning};
 ghost use Rattle.rule_base.specs.Encodings.{fenced};
 ghost use Rattle.stm_gate.specs.Knowing.{known, number};
 ghost use Rattle.alg_orec.specs.EagerReading.{IsNew, HasSample, IsLoaded, LoadsSampled, GoesOnReading, Samples, Confirms};
 ghost use Rattle.alg_orec.specs.Loading.{HasPlace};
 ghost use Rattle.alg_orec.specs.Validating.{load_of};
 
-use crate::eager_ending::take_back;
+use crate::eager_ending::abort;
 use crate::records;
 use crate::sampling::sample_valid;
 use steps_orec::reading;
@@ -57,7 +57,7 @@ pub fn sample<K: MemRule>(desc: &mut Desc<K>, stm: &Stm<K>, a: usize) -> Result<
     let caller = desc.number;
     let limit = desc.local.reads.len();
     if desc.local.reads.count() == limit {
-        take_back(&mut desc.seat, &mut desc.local, stm, caller);
+        abort(&mut desc.seat, &mut desc.local, stm, caller);
         return Err(Read::Full { limit });
     }
     if records::held(&desc.local, stm.config.records, a).is_some() {
@@ -66,7 +66,7 @@ pub fn sample<K: MemRule>(desc: &mut Desc<K>, stm: &Stm<K>, a: usize) -> Result<
     match sample_valid(&mut desc.seat, &mut desc.local, stm, caller, a) {
         Ok(word) => Ok(Some(word)),
         Err(cause) => {
-            take_back(&mut desc.seat, &mut desc.local, stm, caller);
+            abort(&mut desc.seat, &mut desc.local, stm, caller);
             Err(Read::Conflict(cause))
         }
     }
@@ -118,7 +118,7 @@ pub fn confirm<K: MemRule>(
     let caller = desc.number;
     let after = records::confirm(stm, &mut desc.seat, caller, a);
     if after != word {
-        take_back(&mut desc.seat, &mut desc.local, stm, caller);
+        abort(&mut desc.seat, &mut desc.local, stm, caller);
         return Read::Conflict(Cause::Moved {
             index: a % stm.config.records,
             before: word,

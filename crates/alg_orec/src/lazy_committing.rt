@@ -5,11 +5,11 @@ ghost use Rattle.stm_rule.specs.Attempts.{IsFenceOf, own_of, Stands, ended};
 ghost use Rattle.stm_rule.specs.Callers.{IsSeatOf};
 ghost use Rattle.stm_rule.specs.Kept.{IsSameSeat, view_of};
 ghost use Rattle.tx_answers.specs.Answers.{KeepsRule, Commits};
-ghost use Rattle.tx_answers.specs.Known.{known_of};
+ghost use Rattle.tx_answers.specs.CallerState.{known_of};
 ghost use Rattle.alg_orec.specs.Committing.{CanCommit, Prepares, CanFinish};
 ghost use Rattle.alg_orec.specs.Ending.{GivesUp};
 
-use crate::lazy_ending::roll_back;
+use crate::lazy_ending::abort;
 use crate::locking::{lock_all, release_all, write_back_all};
 use crate::validate::validate;
 use steps_orec::lazy;
@@ -39,13 +39,13 @@ pub(crate) fn commit_writes<K: MemRule>(
     ensures steps { TakesAtMost (5 + local.old.reads.len + 4 * local.old.writes.len) (view_of seat.old) (view_of seat.new) }
 {
     if let Err(cause) = prepare(seat, local, stm, caller) {
-        roll_back(seat, local, stm, caller);
+        abort(seat, local, stm, caller);
         return Commit::Conflict(cause);
     }
     let start = local.start;
     if start >= CLOCK_LIMIT {
         let clock = lazy::limit(stm, seat, caller);
-        roll_back(seat, local, stm, caller);
+        abort(seat, local, stm, caller);
         return Commit::ClockFull { clock };
     }
     let now = lazy::commit(stm, seat, caller, start, &local.writes);

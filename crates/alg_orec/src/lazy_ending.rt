@@ -4,7 +4,7 @@ ghost use Rattle.stm_rule.specs.Counting.{TakesAtMost};
 ghost use Rattle.stm_rule.specs.Attempts.{ended, IsFenceOf};
 ghost use Rattle.stm_rule.specs.Callers.{IsSeatOf};
 ghost use Rattle.stm_rule.specs.Kept.{IsSameSeat, view_of};
-ghost use Rattle.alg_orec.specs.Ending.{CanRollBack, GivesUp};
+ghost use Rattle.alg_orec.specs.Ending.{CanAbortLazy, GivesUp};
 
 use steps_orec::lazy::release_old;
 use stm_gate::leave::leave;
@@ -16,15 +16,10 @@ use stm_rule::stm::{Stm, Token};
 /// each, and one, two where it holds the gate.
 #[cold]
 #[inline(never)]
-pub(crate) fn roll_back<K: MemRule>(
-    seat: &mut Token<K>,
-    local: &mut Local,
-    stm: &Stm<K>,
-    caller: usize,
-)
+pub(crate) fn abort<K: MemRule>(seat: &mut Token<K>, local: &mut Local, stm: &Stm<K>, caller: usize)
     requires seat { IsSeatOf stm.now caller seat.old }
     requires caller { caller < stm.now.config.callers }
-    requires view { CanRollBack stm.now.config local.old (view_of seat.old) }
+    requires view { CanAbortLazy stm.now.config local.old (view_of seat.old) }
     requires fence { IsFenceOf local.old (view_of seat.old) }
     requires holds { local.old.holds ≡ (view_of seat.old).gate.holds }
     requires named { local.old.algorithm ≡ (view_of seat.old).gate.algorithm }

@@ -10,7 +10,7 @@ ghost use Rattle.std.specs.Prelude.{◌≡◌, ℕ, ◌<◌, None, true, false, 
 ghost use Rattle.stm_model.specs.Memories.{item_at};
 ghost use Rattle.stm_rule.specs.Callers.{IsOf, IsSameCaller};
 ghost use Rattle.tx_answers.specs.Answers.{HasRead, HasWritten};
-ghost use Rattle.tx_answers.specs.Known.{IsRunning};
+ghost use Rattle.tx_answers.specs.CallerState.{IsRunning};
 ghost use Rattle.rule_base.specs.Encodings.{fenced};
 ghost use Rattle.rule_base.specs.History.{member};
 ghost use Rattle.stm_gate.specs.Knowing.{known, number};
@@ -18,7 +18,7 @@ ghost use Rattle.alg_orec.specs.EagerReading.{IsNew, HoldsRecord};
 ghost use Rattle.alg_orec.specs.Loading.{HasPlace};
 
 use crate::eager_committing::{commit_direct, commit_placed};
-use crate::eager_ending::take_back;
+use crate::eager_ending::abort;
 use crate::eager_granting::grant;
 use crate::eager_nesting::roll_in_place;
 use crate::eager_reading::{confirm, load, read_place, sample};
@@ -93,7 +93,7 @@ impl Algorithm for OrecEager {
             if desc.local.locks.count() == 0 {
                 leave(&mut desc.seat, &mut desc.local, stm, caller);
             } else {
-                take_back(&mut desc.seat, &mut desc.local, stm, caller);
+                abort(&mut desc.seat, &mut desc.local, stm, caller);
             }
             return Commit::ReadOnly { time };
         }
@@ -107,13 +107,13 @@ impl Algorithm for OrecEager {
         }
         let caller = desc.number;
         let time = desc.local.start;
-        take_back(&mut desc.seat, &mut desc.local, stm, caller);
+        abort(&mut desc.seat, &mut desc.local, stm, caller);
         Cancel::Cancelled { time }
     }
 
     /// Makes the attempt irrevocable, where it is alone and all that it read is valid at the clock: what it wrote stays
     /// in place. The steps of a promotion, and those of a validation and one more.
-    fn become_irrevocable<K: MemRule>(desc: &mut Desc<K>, stm: &Stm<K>) -> Irrev {
+    fn try_irrevocable<K: MemRule>(desc: &mut Desc<K>, stm: &Stm<K>) -> Irrev {
         if desc.local.granted {
             return Irrev::Granted;
         }
@@ -223,11 +223,11 @@ fn first_write<K: MemRule>(desc: &mut Desc<K>, stm: &Stm<K>, a: usize, x: u64) -
     let caller = desc.number;
     let limit = desc.local.undo.len();
     if desc.local.undo.count() == limit {
-        take_back(&mut desc.seat, &mut desc.local, stm, caller);
+        abort(&mut desc.seat, &mut desc.local, stm, caller);
         return Write::Full { limit };
     }
     if let Err(refusal) = take_record(&mut desc.seat, &mut desc.local, stm, caller, a) {
-        take_back(&mut desc.seat, &mut desc.local, stm, caller);
+        abort(&mut desc.seat, &mut desc.local, stm, caller);
         return refusal;
     }
     store_first(&mut desc.seat, &mut desc.local, stm, caller, a, x);

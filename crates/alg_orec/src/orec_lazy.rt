@@ -13,13 +13,13 @@ ghost use Rattle.stm_model.specs.Memories.{item_at};
 ghost use Rattle.stm_rule.specs.Callers.{IsOf, IsSameCaller, IsSeatOf};
 ghost use Rattle.stm_rule.specs.Kept.{IsSameSeat, good_of, view_of};
 ghost use Rattle.tx_answers.specs.Answers.{HasRead};
-ghost use Rattle.tx_answers.specs.Known.{IsRunning};
+ghost use Rattle.tx_answers.specs.CallerState.{IsRunning};
 ghost use Rattle.rule_base.specs.Encodings.{fenced};
 ghost use Rattle.stm_gate.specs.Knowing.{known, number};
 ghost use Rattle.alg_orec.specs.Loading.{CanLoadValid, HasPlace, LoadsValid};
 
 use crate::lazy_committing::commit_writes;
-use crate::lazy_ending::roll_back;
+use crate::lazy_ending::abort;
 use crate::lazy_granting::grant;
 use crate::records::record_of;
 use crate::sampling::sample_valid;
@@ -77,7 +77,7 @@ impl Algorithm for OrecLazy {
         }
         if let Push::Full { limit } = desc.local.writes.push(a, x) {
             let caller = desc.number;
-            roll_back(&mut desc.seat, &mut desc.local, stm, caller);
+            abort(&mut desc.seat, &mut desc.local, stm, caller);
             return Write::Full { limit };
         }
         desc.local.wrote = true;
@@ -106,13 +106,13 @@ impl Algorithm for OrecLazy {
         }
         let caller = desc.number;
         let time = desc.local.start;
-        roll_back(&mut desc.seat, &mut desc.local, stm, caller);
+        abort(&mut desc.seat, &mut desc.local, stm, caller);
         Cancel::Cancelled { time }
     }
 
     /// Makes the attempt irrevocable, where it is alone and all that it read is valid at the clock: what it wrote is
     /// stored then. The steps of a promotion, those of a validation and one more, and one for each word.
-    fn become_irrevocable<K: MemRule>(desc: &mut Desc<K>, stm: &Stm<K>) -> Irrev {
+    fn try_irrevocable<K: MemRule>(desc: &mut Desc<K>, stm: &Stm<K>) -> Irrev {
         if desc.local.granted {
             return Irrev::Granted;
         }
@@ -156,7 +156,7 @@ fn first_read<K: MemRule>(desc: &mut Desc<K>, stm: &Stm<K>, a: usize, place: usi
     let caller = desc.number;
     let limit = desc.local.reads.len();
     if desc.local.reads.count() == limit {
-        roll_back(&mut desc.seat, &mut desc.local, stm, caller);
+        abort(&mut desc.seat, &mut desc.local, stm, caller);
         return Read::Full { limit };
     }
     match load_valid(&mut desc.seat, &mut desc.local, stm, caller, a) {
@@ -165,7 +165,7 @@ fn first_read<K: MemRule>(desc: &mut Desc<K>, stm: &Stm<K>, a: usize, place: usi
             Read::Value(x)
         }
         Err(cause) => {
-            roll_back(&mut desc.seat, &mut desc.local, stm, caller);
+            abort(&mut desc.seat, &mut desc.local, stm, caller);
             Read::Conflict(cause)
         }
     }

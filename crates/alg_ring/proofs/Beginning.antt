@@ -17,7 +17,7 @@ use Rattle.rule_ring.specs.RingSteps.{ring_begin, CanRingBegin, RingBegins}
 use Rattle.rule_ring.specs.SlotFilter.{slot_filter}
 use Rattle.stm_rule.specs.Attempts.{no_filter}
 use Rattle.steps_ring.specs.RingFindings.{FindsStart}
-use Rattle.tx_answers.specs.Known.{granted_under, written_under, kept_under}
+use Rattle.tx_answers.specs.CallerState.{granted_under, written_under, kept_under}
 use Rattle.rule_base.specs.declared.entries.Cell.{Cell}
 use Rattle.stm_gate.specs.Opacity.{opaque-at, later-seen}
 use Rattle.stm_gate.specs.Starts.{CanBegin, StartsAt}
@@ -54,7 +54,7 @@ module _ (good : List ℕ → Type 0) (c : Config) (n : ℕ) (v : View) (can : C
           unwritten = can.clear.unwritten;
           uncommitted = can.clear.uncommitted;
           ungranted = can.ungranted;
-          uncalm = t.1.uncalm can.reopened;
+          not_quiescent = t.1.not_quiescent can.reopened;
           unstored = refl;
           rises = can.rises;
         };
@@ -81,7 +81,7 @@ module _ (good : List ℕ → Type 0) (c : Config) (n : ℕ) (v : View) (can : C
           up_to = q.3;
           front_rose = b.front;
           more = record { place = Done; act = Load; found = Some done } ∷ [];
-          trail = refl;
+          step_trace = refl;
           reads_limit = refl;
           writes_limit = refl;
           fenced = refl;

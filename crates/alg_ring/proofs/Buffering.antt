@@ -5,7 +5,7 @@ use Rattle.std.proofs.lemmas.Bool.Decides.{nat_tests}
 use Rattle.std.proofs.lemmas.List.{append-nil}
 use Rattle.stm_model.specs.Memories.{item_at, Once}
 use Rattle.rule_base.specs.declared.entries.Cell.{Cell}
-use Rattle.rule_base.specs.declared.views.TrailItem.{TrailItem}
+use Rattle.rule_base.specs.declared.views.TracedStep.{TracedStep}
 use Rattle.rule_base.specs.declared.views.View.{View}
 use Rattle.rule_base.specs.History.{over, touches, without}
 use Rattle.stm_rule.specs.RecordsKept.{cells_of}
@@ -110,8 +110,8 @@ drop-all (w ∷ ws) zero l = absurd (omega arith)
 drop-all (w ∷ ws) (suc k) l = drop-all ws k (omega arith)
 
 -- the view with this left to be written back
-abbrev pub back_at : View → List Cell → List TrailItem → View
-back_at v back more = record v { ring_commit = record v.ring_commit { back = back }; steps = record v.steps { trail = more ++ v.steps.trail } }
+abbrev pub back_at : View → List Cell → List TracedStep → View
+back_at v back more = record v { ring_commit = record v.ring_commit { back = back }; steps = record v.steps { step_trace = more ++ v.steps.step_trace } }
 
 cells-snoc : (xs : List (ℕ × ℕ)) (p : ℕ × ℕ) → cells_of (xs ++ p ∷ []) ≡ record { at = p.0; value = p.1 } ∷ cells_of xs
 cells-snoc [] p = refl
@@ -142,5 +142,5 @@ item-inside ws i p low is = sub-inside ws i p.0 (ap (λ (l : List (ℕ × ℕ)).
     by false false e = absurd cc
 
 -- the view with these stores
-abbrev pub stored_at : View → List Cell → List TrailItem → View
-stored_at v stores more = record v { attempt = record v.attempt { stores = stores ++ v.attempt.stores }; steps = record v.steps { trail = more ++ v.steps.trail } }
+abbrev pub stored_at : View → List Cell → List TracedStep → View
+stored_at v stores more = record v { attempt = record v.attempt { stores = stores ++ v.attempt.stores }; steps = record v.steps { step_trace = more ++ v.steps.step_trace } }

@@ -9,7 +9,7 @@ use Rattle.rule_base.specs.History.{upto}
 use Rattle.alg_ring.proofs.Seen.{upto-upto}
 use Rattle.rule_base.specs.Own.{Own}
 use Rattle.rule_ring.specs.RingSteps.{RingBegins}
-use Rattle.tx_answers.specs.Known.{Grows, known_of}
+use Rattle.tx_answers.specs.CallerState.{Grows, known_of}
 use Rattle.stm_gate.specs.Opacity.{later-seen}
 use Rattle.alg_ring.specs.Checking.{Passes}
 
@@ -27,7 +27,7 @@ module _ (good : List ℕ → Type 0) (c : Config) (gate : GateView) (start : �
         up_to = f.3;
         front_rose = begins.front;
         more = p.more;
-        trail = refl;
+        step_trace = refl;
         reads_limit = reads;
         writes_limit = writes;
         fenced = refl;

@@ -9,7 +9,7 @@ use Rattle.rule_base.specs.declared.layout.At.TheVariants.{Clock, Done}
 use Rattle.rule_base.specs.declared.views.Act.TheVariants.{Load}
 use Rattle.rule_base.specs.declared.views.GateView.{GateView}
 use Rattle.rule_base.specs.declared.views.SlotWord.{SlotWord}
-use Rattle.rule_base.specs.declared.views.TrailItem.{TrailItem}
+use Rattle.rule_base.specs.declared.views.TracedStep.{TracedStep}
 use Rattle.rule_base.specs.declared.views.View.{View}
 use Rattle.rule_base.specs.Bridge.{of_words}
 use Rattle.rule_base.specs.GateSteps.{granted_at}
@@ -20,9 +20,9 @@ use Rattle.rule_promoted.specs.PromotedSteps.{ring_look_grant, ring_move_grant}
 use Rattle.rule_ring.specs.RingSteps.{HasRing, ring_look, ring_again, ring_move, CanRingMove, AllClear, RingSees, RingMoves, read_in, passed, moved}
 use Rattle.rule_ring.specs.SlotFilter.{slot_filter}
 use Rattle.steps_ring.specs.RingFindings.{FindsLook, FindsAgain, FindsMove, FindsLevel}
-use Rattle.tx_answers.specs.SlotEvidence.{InTrail}
+use Rattle.tx_answers.specs.SlotEvidence.{InStepTrace}
 use Rattle.alg_ring.specs.Checking.{with_words, CanScan, MeetsOne, OneMeets, Refutes, scanned, Scans, CanCheck, CanCheckToGrant, Passes, Fails, Checks, ChecksToGrant}
-use Rattle.alg_ring.proofs.Words.{trail-right}
+use Rattle.alg_ring.proofs.Words.{step_trace-right}
 
 -- where a check moves the start
 pub moved-is : (v : View) (start clock done : ℕ) → v.attempt.start ≡ start → v.ring_read.clock ≡ clock → moved v done ≡ max start (min done clock)
@@ -38,17 +38,17 @@ module _ (c : Config) (start clock : ℕ) (filter : List ℕ) where
     scans-far far = (v.ring_read.words, v.ring_read.sure, [], refl, (refl, far, inl refl))
 
     module _ (good : List ℕ → Type 0) (w u : View) (later : ℕ) (t : Tells (ring_again c.ring) (FindsAgain (of_words good c.words) c) w later u) where
-      again_at : (words : List SlotWord) (more : List TrailItem) → w ≡ with_words v words more → u ≡ scanned c start clock v words (ltb later (v.attempt.start + c.ring)) (record { place = Clock; act = Load; found = Some later } ∷ more)
+      again_at : (words : List SlotWord) (more : List TracedStep) → w ≡ with_words v words more → u ≡ scanned c start clock v words (ltb later (v.attempt.start + c.ring)) (record { place = Clock; act = Load; found = Some later } ∷ more)
       again_at words more is = t.2 ∙ ap (λ (y : View). view_after (ring_again c.ring) t.0 y later) is
 
-      met-words : (r : Option Cause) → MeetsOne c start clock r filter v w → (words : List SlotWord) × (more : List TrailItem) × (w ≡ with_words v words more)
+      met-words : (r : Option Cause) → MeetsOne c start clock r filter v w → (words : List SlotWord) × (more : List TracedStep) × (w ≡ with_words v words more)
       met-words None m = (m.0, m.1, m.2)
       met-words (Some cause) m = (m.0, m.1, m.2)
 
       pub scans-later : (r : Option Cause) → MeetsOne c start clock r filter v w → start + c.ring ≤ later → Scans c start clock (Err (causes.Overrun start later)) filter v u
       scans-later r m far = let k = met-words r m in (k.0, ltb later (v.attempt.start + c.ring), record { place = Clock; act = Load; found = Some later } ∷ k.1, again_at k.0 k.1 k.2, (refl, far, inr (Load, (0, omega arith, refl))))
 
-      one-refutes : (cause : Cause) (more : List TrailItem) → later < start + c.ring → OneMeets c start clock cause filter more → Refutes c start clock cause filter (record { place = Clock; act = Load; found = Some later } ∷ more)
+      one-refutes : (cause : Cause) (more : List TracedStep) → later < start + c.ring → OneMeets c start clock cause filter more → Refutes c start clock cause filter (record { place = Clock; act = Load; found = Some later } ∷ more)
       one-refutes (causes.Filter time bits) more near m = (later, more, refl, near, m)
       one-refutes (causes.Clock had now) more near m = m
       one-refutes (causes.Record index word from) more near m = m
@@ -81,7 +81,7 @@ abbrev pub looked_at : View → ℕ → Bool → View
 looked_at v clock b = record v {
   attempt = if b then record v.attempt { reads = read_in v } else v.attempt;
   ring_read = if b then passed v.ring_read else record v.ring_read { checking = true; clock = clock; words = []; sure = false };
-  steps = record v.steps { trail = record { place = Clock; act = Load; found = Some clock } ∷ v.steps.trail };
+  steps = record v.steps { step_trace = record { place = Clock; act = Load; found = Some clock } ∷ v.steps.step_trace };
 }
 
 module _ (good : List ℕ → Type 0) (c : Config) (start : ℕ) (filter : List ℕ) (v : View) where
@@ -101,7 +101,7 @@ module _ (good : List ℕ → Type 0) (c : Config) (start : ℕ) (filter : List 
           gate = gate;
           attempt = record { start = start_is i; reads = read_in v; stores = v.attempt.stores; entered = v.attempt.entered };
           ring_read = passed v.ring_read;
-          steps = record v.steps { trail = record { place = Clock; act = Load; found = Some clock } ∷ v.steps.trail };
+          steps = record v.steps { step_trace = record { place = Clock; act = Load; found = Some clock } ∷ v.steps.step_trace };
         });
         sees = subst (RingSees rule c m v) start_is s;
         kept = subst (λ (k : ℕ). Explains (word_now (upto m.history k)) v.attempt.reads) start_is f.kept;
@@ -119,7 +119,7 @@ module _ (good : List ℕ → Type 0) (c : Config) (start : ℕ) (filter : List 
     read = record v.ring_read { checking = true; clock = clock; words = s.0; sure = s.1 };
     more = s.2 ++ record { place = Clock; act = Load; found = Some clock } ∷ [];
     is = s.3 ∙ (ap (λ (y : View). scanned c start clock y s.0 s.1 s.2) is
-        ∙ (λ i. record v { ring_read = record v.ring_read { checking = true; clock = clock; words = s.0; sure = s.1 }; steps = record v.steps { trail = sym (append_assoc s.2 (record { place = Clock; act = Load; found = Some clock } ∷ []) v.steps.trail) i } }));
+        ∙ (λ i. record v { ring_read = record v.ring_read { checking = true; clock = clock; words = s.0; sure = s.1 }; steps = record v.steps { step_trace = sym (append_assoc s.2 (record { place = Clock; act = Load; found = Some clock } ∷ []) v.steps.step_trace) i } }));
     others = λ one. apart (f.sole one ∙ sym (sole one));
     clock = clock;
     loads = s.2;
@@ -128,15 +128,15 @@ module _ (good : List ℕ → Type 0) (c : Config) (start : ℕ) (filter : List 
   }
 
   -- the view before the load of DONE
-  scanned-path : (clock : ℕ) (words : List SlotWord) (more : List TrailItem) (w u : View) → w ≡ looked_at v clock false → u ≡ scanned c start clock w words true more → u ≡ scanned c start clock (looked_at v clock false) words true more
+  scanned-path : (clock : ℕ) (words : List SlotWord) (more : List TracedStep) (w u : View) → w ≡ looked_at v clock false → u ≡ scanned c start clock w words true more → u ≡ scanned c start clock (looked_at v clock false) words true more
   scanned-path clock words more w u is e = e ∙ ap (λ (y : View). scanned c start clock y words true more) is
 
   -- the steps of a check that loads DONE, the latest first
-  abbrev pub move_steps : ℕ → ℕ → List TrailItem → List TrailItem
+  abbrev pub move_steps : ℕ → ℕ → List TracedStep → List TracedStep
   move_steps clock done more = record { place = Done; act = Load; found = Some done } ∷ (more ++ record { place = Clock; act = Load; found = Some clock } ∷ [])
 
   -- the check passes with the load of DONE
-  pub moves-at : (m n : World) (clock done : ℕ) (gate : GateView) (words : List SlotWord) (more : List TrailItem) (w : View) → v.attempt.start ≡ start → HasRing v → clock ≢ start → (c.callers ≡ 1 → start ≡ c.clock + v.steps.rises) → FindsLook rule c m v clock
+  pub moves-at : (m n : World) (clock done : ℕ) (gate : GateView) (words : List SlotWord) (more : List TracedStep) (w : View) → v.attempt.start ≡ start → HasRing v → clock ≢ start → (c.callers ≡ 1 → start ≡ c.clock + v.steps.rises) → FindsLook rule c m v clock
       → RingMoves rule c n (scanned c start clock (looked_at v clock false) words true more) done
       → Explains (word_now (upto n.history (moved (scanned c start clock (looked_at v clock false) words true more) done))) v.attempt.reads
       → w ≡ record (view_after ring_move n (scanned c start clock (looked_at v clock false) words true more) done) { gate = gate } → Passes good c gate (max start (min done clock)) v w
@@ -149,7 +149,7 @@ module _ (good : List ℕ → Type 0) (c : Config) (start : ℕ) (filter : List 
       gate = gate;
       attempt = record { start = to i; reads = read_in v; stores = v.attempt.stores; entered = v.attempt.entered };
       ring_read = passed (record v.ring_read { checking = true; clock = clock; words = words; sure = true });
-      steps = record v.steps { trail = ap (λ (t : List TrailItem). record { place = Done; act = Load; found = Some done } ∷ t) (sym (append_assoc more (record { place = Clock; act = Load; found = Some clock } ∷ []) v.steps.trail)) i };
+      steps = record v.steps { step_trace = ap (λ (t : List TracedStep). record { place = Done; act = Load; found = Some done } ∷ t) (sym (append_assoc more (record { place = Clock; act = Load; found = Some clock } ∷ []) v.steps.step_trace)) i };
     });
     sees = subst (RingSees rule c n v) to (record { value = r.sees.value; sees = r.sees.sees; begins = record { legal = r.sees.begins.legal; below = r.sees.begins.below; seen = r.sees.begins.seen; front = r.sees.begins.front; limit = r.sees.begins.limit } });
     kept = subst (λ (k : ℕ). Explains (word_now (upto n.history k)) v.attempt.reads) to kept;
@@ -160,7 +160,7 @@ module _ (good : List ℕ → Type 0) (c : Config) (start : ℕ) (filter : List 
     moves = inr (
       clock,
       done,
-      trail-right (record { place = Done; act = Load; found = Some done } ∷ []) (more ++ record { place = Clock; act = Load; found = Some clock } ∷ []) Clock clock (trail-right more (record { place = Clock; act = Load; found = Some clock } ∷ []) Clock clock (Load, (0, omega arith, refl))),
+      step_trace-right (record { place = Done; act = Load; found = Some done } ∷ []) (more ++ record { place = Clock; act = Load; found = Some clock } ∷ []) Clock clock (step_trace-right more (record { place = Clock; act = Load; found = Some clock } ∷ []) Clock clock (Load, (0, omega arith, refl))),
       (Load, (0, omega arith, refl)),
       ap (λ (k : ℕ). max k (min done clock)) (sym start_is),
     );
@@ -206,7 +206,7 @@ module _ (good : List ℕ → Type 0) (c : Config) (start : ℕ) (filter : List 
         let path = scanned-path clock s.0 s.1 w u (look-path clock w false (other-start d) t) s.2 in
         let f = subst (λ (y : View). FindsMove rule c k.0 y done) path k.1 in (
           moves-at t.0 k.0 clock done v.gate s.0 s.1 x can.start_is can.has d can.sole t.1 f.moves f.kept (k.2 ∙ ap (λ (y : View). view_after ring_move k.0 y done) path),
-          λ taken early ticked. let a = f.level taken early ticked can.uncalm in let b = t.1.ticked taken ticked in let l = t.1.looks.later in let e = can.start_is in omega arith,
+          λ taken early ticked. let a = f.level taken early ticked can.not_quiescent in let b = t.1.ticked taken ticked in let l = t.1.looks.later in let e = can.start_is in omega arith,
         )
 
   -- AND OF ONE THAT IS
@@ -224,14 +224,14 @@ module _ (good : List ℕ → Type 0) (c : Config) (start : ℕ) (filter : List 
     other-grant d = let s = can.start_is in grind (arith, nat_tests)
 
     settled : clock ≡ v.gate.time
-    settled = t.1.settled can.grant.calm
+    settled = t.1.settled can.grant.quiescent
 
     pub grant-passes : clock ≡ start → ChecksToGrant good c (Ok start) filter v w
     grant-passes e =
         let path = grant-path clock w true (same-grant e) t in (
           passes-at t.0 clock (granted_at v.gate.time v.gate) w can.start_is can.front_is can.grant.has e t.1 (path ∙ (λ i. record (looked_at v clock true) { gate = granted_at (settled i) v.gate })),
           sym e ∙ settled,
-          (record { place = Clock; act = Load; found = Some clock } ∷ [], ap (λ (y : View). y.steps.trail) path, subst (λ (k : ℕ). InTrail (record { place = Clock; act = Load; found = Some clock } ∷ []) Clock k) e (Load, (0, omega arith, refl))),
+          (record { place = Clock; act = Load; found = Some clock } ∷ [], ap (λ (y : View). y.steps.step_trace) path, subst (λ (k : ℕ). InStepTrace (record { place = Clock; act = Load; found = Some clock } ∷ []) Clock k) e (Load, (0, omega arith, refl))),
         )
 
     pub grant-fails : (cause : Cause) (u : View) → clock ≢ start → Scans c start clock (Err cause) filter w u → ChecksToGrant good c (Err cause) filter v u
@@ -250,12 +250,12 @@ module _ (good : List ℕ → Type 0) (c : Config) (start : ℕ) (filter : List 
         let to : moved y done ≡ v.gate.time = moved-is y start clock done is_start refl ∙ end in
         let here : (moved y done == v.gate.time) ≡ true = grind (arith, nat_tests) in
         let last : x ≡ record (view_after ring_move k.0 y done) { gate = granted_at v.gate.time v.gate } = k.2 ∙ (ap (λ (q : View). view_after ring_move_grant k.0 q done) path ∙ ap (λ (b : Bool). record (view_after ring_move k.0 y done) { gate = if b then granted_at v.gate.time v.gate else v.gate }) here) in
-        let more : List TrailItem = record { place = Done; act = Load; found = Some done } ∷ (s.1 ++ record { place = Clock; act = Load; found = Some clock } ∷ []) in (
+        let more : List TracedStep = record { place = Done; act = Load; found = Some done } ∷ (s.1 ++ record { place = Clock; act = Load; found = Some clock } ∷ []) in (
           moves-at t.0 k.0 clock done (granted_at v.gate.time v.gate) s.0 s.1 x is_start can.grant.has d can.sole t.1 f.moves f.kept last,
           end,
           (
             more,
-            ap (λ (q : View). q.steps.trail) last ∙ ap (λ (z : List TrailItem). record { place = Done; act = Load; found = Some done } ∷ z) (sym (append_assoc s.1 (record { place = Clock; act = Load; found = Some clock } ∷ []) v.steps.trail)),
-            subst (λ (q : ℕ). InTrail more Clock q) (is_time ∙ sym end) (trail-right (record { place = Done; act = Load; found = Some done } ∷ []) (s.1 ++ record { place = Clock; act = Load; found = Some clock } ∷ []) Clock clock (trail-right s.1 (record { place = Clock; act = Load; found = Some clock } ∷ []) Clock clock (Load, (0, omega arith, refl)))),
+            ap (λ (q : View). q.steps.step_trace) last ∙ ap (λ (z : List TracedStep). record { place = Done; act = Load; found = Some done } ∷ z) (sym (append_assoc s.1 (record { place = Clock; act = Load; found = Some clock } ∷ []) v.steps.step_trace)),
+            subst (λ (q : ℕ). InStepTrace more Clock q) (is_time ∙ sym end) (step_trace-right (record { place = Done; act = Load; found = Some done } ∷ []) (s.1 ++ record { place = Clock; act = Load; found = Some clock } ∷ []) Clock clock (step_trace-right s.1 (record { place = Clock; act = Load; found = Some clock } ∷ []) Clock clock (Load, (0, omega arith, refl)))),
           ),
         )

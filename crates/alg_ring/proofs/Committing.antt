@@ -8,7 +8,7 @@ use Rattle.stm_model.specs.declared.alg.Alg.TheVariants.{RingSw}
 use Rattle.stm_model.specs.declared.config.Config.{Config}
 use Rattle.rule_base.specs.declared.layout.At.TheVariants.{Lock}
 use Rattle.rule_base.specs.declared.views.Act.TheVariants.{Exchange}
-use Rattle.rule_base.specs.declared.views.TrailItem.{TrailItem}
+use Rattle.rule_base.specs.declared.views.TracedStep.{TracedStep}
 use Rattle.rule_base.specs.declared.views.View.{View}
 use Rattle.rule_base.specs.Bridge.{items}
 use Rattle.rule_base.specs.Encodings.{taken_lock}
@@ -23,8 +23,8 @@ use Rattle.stm_rule.specs.RingKept.{IsRing}
 use Rattle.tx_answers.specs.declared.answers.Commit.TheVariants as commits
 use Rattle.tx_answers.specs.Answers.{Commits, StartMoves}
 use Rattle.tx_answers.specs.Causes.Asked.{ToCommit}
-use Rattle.tx_answers.specs.Known.{known_of, written_under, is_in, is_closing, wrote}
-use Rattle.tx_answers.specs.KnownLaws.{grows-same}
+use Rattle.tx_answers.specs.CallerState.{known_of, written_under, is_in, is_closing, wrote}
+use Rattle.tx_answers.specs.CallerStateLaws.{grows-same}
 use Rattle.stm_gate.specs.KeptLaws.{kept-same}
 use Rattle.stm_gate.specs.Leaving.{left}
 use Rattle.stm_gate.specs.LeavingLaws.{unmade-refl, ended-left}
@@ -34,7 +34,7 @@ use Rattle.alg_ring.specs.Calls.{HasAttempt, HasWrites, StandsTold, TookTurn}
 use Rattle.alg_ring.proofs.Running as attempt
 
 -- the try of caller n to take the lock
-abbrev tried : ℕ → ℕ → TrailItem
+abbrev tried : ℕ → ℕ → TracedStep
 tried n found = record { place = Lock; act = Exchange 0 (taken_lock n); found = Some found }
 
 module _ (good : List ℕ → Type 0) (c : Config) (n : ℕ) (l : Local) (v : View) (a : HasAttempt good c n l v) (plain : l.granted ≡ false) where
@@ -61,7 +61,7 @@ module _ (good : List ℕ → Type 0) (c : Config) (n : ℕ) (l : Local) (v : Vi
     locked_at b = record v {
       lock = if b then fresh_lock RingSw else v.lock;
       ring_commit = if b then no_turn else v.ring_commit;
-      steps = record v.steps { trail = tried n found ∷ v.steps.trail };
+      steps = record v.steps { step_trace = tried n found ∷ v.steps.step_trace };
     }
 
     -- it was free
@@ -106,7 +106,7 @@ module _ (good : List ℕ → Type 0) (c : Config) (n : ℕ) (l : Local) (v : Vi
               unwritten = k.optimistic.unwritten;
               uncommitted = k.optimistic.uncommitted;
               ungranted = k.optimistic.ungranted;
-              uncalm = k.optimistic.uncalm;
+              not_quiescent = k.optimistic.not_quiescent;
               unstored = k.optimistic.unstored;
               rises = k.optimistic.rises;
             };

@@ -13,7 +13,7 @@ use Rattle.stm_rule.specs.Attempts.{Keeps, IsInside}
 use Rattle.stm_rule.specs.RingKept.{IsRing}
 use Rattle.tx_answers.specs.declared.answers.Cancel.TheVariants.{Cancelled}
 use Rattle.tx_answers.specs.Answers.{Cancels}
-use Rattle.tx_answers.specs.Known.{known_of, granted_under, written_under, is_irrevocable}
+use Rattle.tx_answers.specs.CallerState.{known_of, granted_under, written_under, is_irrevocable}
 use Rattle.stm_gate.specs.Leaving.{CanLeave, left}
 use Rattle.stm_gate.specs.LeavingLaws.{unmade-refl, ended-left}
 use Rattle.stm_gate.specs.Opacity.{opaque-inside}

@@ -7,7 +7,7 @@ use Rattle.rule_base.specs.declared.entries.Cell.{Cell}
 use Rattle.rule_base.specs.declared.layout.At.TheVariants.{Clock}
 use Rattle.rule_base.specs.declared.layout.TheConstants.{SLOT_WORDS}
 use Rattle.rule_base.specs.declared.views.Act.TheVariants.{Store}
-use Rattle.rule_base.specs.declared.views.TrailItem.{TrailItem}
+use Rattle.rule_base.specs.declared.views.TracedStep.{TracedStep}
 use Rattle.rule_base.specs.declared.views.View.{View}
 use Rattle.rule_base.specs.Bridge.{of_words}
 use Rattle.rule_base.specs.StepKinds.{Tells}
@@ -17,8 +17,8 @@ use Rattle.stm_rule.specs.RecordsKept.{cells_of}
 use Rattle.alg_ring.specs.Calls.{CanEnter, Enters}
 
 -- the view with this word of the slot to be stored next
-abbrev pub slotted_at : View → ℕ → List Cell → List TrailItem → View
-slotted_at v i writes more = record v { ring_commit = record v.ring_commit { slotted = i; writes = writes }; steps = record v.steps { trail = more ++ v.steps.trail } }
+abbrev pub slotted_at : View → ℕ → List Cell → List TracedStep → View
+slotted_at v i writes more = record v { ring_commit = record v.ring_commit { slotted = i; writes = writes }; steps = record v.steps { step_trace = more ++ v.steps.step_trace } }
 
 -- a log with an item has a cell
 pub some-cells : (ws : List (ℕ × ℕ)) → not (is_empty ws) ≡ true → cells_of ws ≢ []
@@ -29,7 +29,7 @@ module _ (good : List ℕ → Type 0) (c : Config) (time : ℕ) (l : Local) (v :
   abbrev ws : List Cell
   ws = cells_of l.writes.items
 
-  pub may-slot : (i : ℕ) (writes : List Cell) (more : List TrailItem) → i < SLOT_WORDS → (0 < i → ws ≡ writes) → CanRingSlot time i ws (slotted_at v i writes more)
+  pub may-slot : (i : ℕ) (writes : List Cell) (more : List TracedStep) → i < SLOT_WORDS → (0 < i → ws ≡ writes) → CanRingSlot time i ws (slotted_at v i writes more)
   may-slot i writes more low same = record {
     turn = record { has = record { runs = record { phase = can.turn.has.runs.phase; algorithm = can.turn.has.runs.algorithm; plain = can.turn.has.runs.plain }; inside = can.turn.has.inside }; taken = can.turn.taken; unentered = can.turn.unentered };
     ticked = can.ticked;
@@ -40,7 +40,7 @@ module _ (good : List ℕ → Type 0) (c : Config) (time : ℕ) (l : Local) (v :
     same = same;
   }
 
-  pub may-enter : (writes : List Cell) (more : List TrailItem) → ws ≡ writes → CanRingEnter (of_words good c.words) c.words time (slotted_at v SLOT_WORDS writes more)
+  pub may-enter : (writes : List Cell) (more : List TracedStep) → ws ≡ writes → CanRingEnter (of_words good c.words) c.words time (slotted_at v SLOT_WORDS writes more)
   may-enter writes more same = subst (λ (cs : List Cell). CanRingEnter (of_words good c.words) c.words time (slotted_at v SLOT_WORDS cs more)) same (record {
     turn = record { has = record { runs = record { phase = can.turn.has.runs.phase; algorithm = can.turn.has.runs.algorithm; plain = can.turn.has.runs.plain }; inside = can.turn.has.inside }; taken = can.turn.taken; unentered = can.turn.unentered };
     ticked = can.ticked;
@@ -49,14 +49,14 @@ module _ (good : List ℕ → Type 0) (c : Config) (time : ℕ) (l : Local) (v :
     time = can.next;
     limit = can.limit;
     settled = can.settled;
-    free = can.uncalm;
+    free = can.not_quiescent;
     wrote = some-cells l.writes.items (sym can.buffers.wrote ∙ can.wrote);
     writes_inside = can.buffers.inside;
     writes_small = can.buffers.small;
     keeps = can.keeps;
   })
 
-  pub tells-entered : (n : ℕ) (writes : List Cell) (more : List TrailItem) (w : View) → ws ≡ writes → Tells (ring_enter n time) (RingEnters (of_words good c.words) c n time) (slotted_at v SLOT_WORDS writes more) time w → Enters good c n time l v w
+  pub tells-entered : (n : ℕ) (writes : List Cell) (more : List TracedStep) (w : View) → ws ≡ writes → Tells (ring_enter n time) (RingEnters (of_words good c.words) c n time) (slotted_at v SLOT_WORDS writes more) time w → Enters good c n time l v w
   tells-entered n writes more w same t = by (subst (λ (cs : List Cell). Tells (ring_enter n time) (RingEnters (of_words good c.words) c n time) (slotted_at v SLOT_WORDS cs more) time w) (sym same) t)
     where
       by : Tells (ring_enter n time) (RingEnters (of_words good c.words) c n time) (slotted_at v SLOT_WORDS ws more) time w → Enters good c n time l v w

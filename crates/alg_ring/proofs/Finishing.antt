@@ -17,7 +17,7 @@ use Rattle.rule_base.specs.declared.views.Attempt.{Attempt}
 use Rattle.rule_base.specs.declared.views.RingCommit.{RingCommit}
 use Rattle.rule_base.specs.declared.views.RingRead.{RingRead}
 use Rattle.rule_base.specs.declared.views.SeenHistory.{SeenHistory}
-use Rattle.rule_base.specs.declared.views.TrailItem.{TrailItem}
+use Rattle.rule_base.specs.declared.views.TracedStep.{TracedStep}
 use Rattle.rule_base.specs.declared.views.View.{View}
 use Rattle.rule_base.specs.Bridge.{items, of_words, public_entry, public_history}
 use Rattle.rule_base.specs.BridgeLemmas.{keeps-cells, legal-public, length-public_history}
@@ -36,8 +36,8 @@ use Rattle.tx_answers.specs.declared.answers.Commit.{Commit}
 use Rattle.tx_answers.specs.declared.answers.Commit.TheVariants as commits
 use Rattle.tx_answers.specs.Answers.{Commits, CommitsAt, Quits, entry}
 use Rattle.tx_answers.specs.Causes.Asked.{ToCommit}
-use Rattle.tx_answers.specs.Known.{Grows, known_of}
-use Rattle.tx_answers.specs.KnownLaws.{grows-same, grows-trans, ascending-append, within-append}
+use Rattle.tx_answers.specs.CallerState.{Grows, known_of}
+use Rattle.tx_answers.specs.CallerStateLaws.{grows-same, grows-trans, ascending-append, within-append}
 use Rattle.stm_gate.specs.Leaving.{left, last_steps}
 use Rattle.stm_gate.specs.LeavingLaws.{quits-left, finds-full, found-left}
 use Rattle.stm_model.specs.Logs as logs
@@ -48,13 +48,13 @@ use Rattle.alg_ring.proofs.Refuting.{refuted}
 use Rattle.alg_ring.proofs.Running as attempt
 use Rattle.stm_gate.specs.InnerLaws.{unlocked-of}
 
-abbrev pub clock_found : ℕ → TrailItem
+abbrev pub clock_found : ℕ → TracedStep
 clock_found clock = record { place = Clock; act = Load; found = Some clock }
 
-abbrev lock_freed : TrailItem
+abbrev lock_freed : TracedStep
 lock_freed = record { place = Lock; act = Store 0; found = None }
 
-abbrev done_stored : ℕ → TrailItem
+abbrev done_stored : ℕ → TracedStep
 done_stored time = record { place = Done; act = Store time; found = None }
 
 pub freed-is : {K : Type 0} (s t : SeatView K) → SeatTells ring_free Nothing s 0 t → t.view ≡ freed s.view
@@ -93,18 +93,18 @@ module _ (good : List ℕ → Type 0) (c : Config) (n : ℕ) (l : Local) (v w : 
   k = attempt.kept good c n l v has plain
 
   -- what changes while it has the lock
-  abbrev locked_at : SeenHistory → Attempt → RingRead → RingCommit → ℕ → List TrailItem → View
+  abbrev locked_at : SeenHistory → Attempt → RingRead → RingCommit → ℕ → List TracedStep → View
   locked_at history mine read commit rises more = record v {
     history = history;
     attempt = mine;
     lock = fresh_lock RingSw;
     ring_read = read;
     ring_commit = commit;
-    steps = record v.steps { rises = rises; trail = more ++ v.steps.trail };
+    steps = record v.steps { rises = rises; step_trace = more ++ v.steps.step_trace };
   }
 
   -- with neither a store in the heap nor an entry that isn't written back, it can free the lock and leave
-  decided : (answer : Commit) (history : SeenHistory) (mine : Attempt) (read : RingRead) (commit : RingCommit) (rises : ℕ) (more : List TrailItem) → mine.entered ≡ false → mine.stores ≡ [] → (commit.committed ≡ true → commit.finished ≡ true)
+  decided : (answer : Commit) (history : SeenHistory) (mine : Attempt) (read : RingRead) (commit : RingCommit) (rises : ℕ) (more : List TracedStep) → mine.entered ≡ false → mine.stores ≡ [] → (commit.committed ≡ true → commit.finished ≡ true)
       → Commits good c n answer (known_of v o) (known_of (left n (freed (locked_at history mine read commit rises more))) o) → IsDecided good c n answer v l (locked_at history mine read commit rises more)
   decided answer history mine read commit rises more unentered unstored finished told = record {
     free = record { runs = record { phase = i.phase; algorithm = named; plain = k.optimistic.ungranted }; taken = refl; finished = finished };
@@ -128,21 +128,21 @@ module _ (good : List ℕ → Type 0) (c : Config) (n : ℕ) (l : Local) (v w : 
   abbrev ticking : ℕ → RingCommit
   ticking clock = record no_turn { ticked = true; clock = clock }
 
-  abbrev ticked_at : RingRead → ℕ → List TrailItem → View
+  abbrev ticked_at : RingRead → ℕ → List TracedStep → View
   ticked_at read clock more = locked_at v.history v.attempt read (ticking clock) v.steps.rises more
 
   -- nothing was appended
-  unmade : (answer : Commit) (read : RingRead) (clock : ℕ) (more : List TrailItem) (u : View) → u ≡ ticked_at read clock more
+  unmade : (answer : Commit) (read : RingRead) (clock : ℕ) (more : List TracedStep) (u : View) → u ≡ ticked_at read clock more
       → (Quits (known_of v o) (known_of (left n (freed (ticked_at read clock more))) o) → Commits good c n answer (known_of v o) (known_of (left n (freed (ticked_at read clock more))) o)) → IsDecided good c n answer v l u
   unmade answer read clock more u is told = subst (IsDecided good c n answer v l) (sym is) (decided answer v.history v.attempt read (ticking clock) v.steps.rises more i.unentered k.optimistic.unstored (λ e. absurd cc) (told (
-      quits-left n v (freed (ticked_at read clock more)) o (record { carried = record { named = refl; base = refl; installs = refl; fence = refl; trail = (lock_freed ∷ more, refl); unlocked = refl; unwritten = k.optimistic.unwritten }; history = refl })
+      quits-left n v (freed (ticked_at read clock more)) o (record { carried = record { named = refl; base = refl; installs = refl; fence = refl; step_trace = (lock_freed ∷ more, refl); unlocked = refl; unwritten = k.optimistic.unwritten }; history = refl })
       (let r = k.optimistic.rises in (omega arith, omega arith)) turn.has.revocable)))
 
   pub may-tick : HasTurn w
   may-tick = subst HasTurn (sym turn.is) (record { has = record { runs = record { phase = i.phase; algorithm = named; plain = k.optimistic.ungranted }; inside = k.inside }; taken = refl; unentered = refl })
 
   module _ (clock : ℕ) (u : View) (t : Tells ring_tick (FindsTick rule c) w clock u) where
-    abbrev early : List TrailItem
+    abbrev early : List TracedStep
     early = clock_found clock ∷ turn.more
 
     ticked : u ≡ ticked_at v.ring_read clock early
@@ -163,7 +163,7 @@ module _ (good : List ℕ → Type 0) (c : Config) (n : ℕ) (l : Local) (v w : 
       start_is = i.start;
       front_is = i.front;
       watched = k.loaded;
-      uncalm = k.optimistic.uncalm;
+      not_quiescent = k.optimistic.not_quiescent;
       sole = λ one. (let a = k.sole one in let b = k.optimistic.rises in omega arith);
     })
 
@@ -171,28 +171,28 @@ module _ (good : List ℕ → Type 0) (c : Config) (n : ℕ) (l : Local) (v w : 
     decides-conflict low cause x f = unmade (commits.Conflict cause) f.read clock (f.more ++ early) x failed (λ quits. (
       quits,
       refuted c n ToCommit (known_of v o) (known_of (left n (freed (ticked_at f.read clock (f.more ++ early)))) o) l.loaded u.attempt.start f.clock (last ++ lock_freed ∷ []) f.loads early cause named (sym (ap (λ (z : View). z.attempt.start) ticked)) k.read
-          (ap (λ (s : List TrailItem). last ++ lock_freed ∷ s) (append_assoc f.more early v.steps.trail) ∙ (sym (append_assoc last (lock_freed ∷ []) (f.more ++ (early ++ v.steps.trail))) ∙ ap (λ (m : List TrailItem). (last ++ lock_freed ∷ []) ++ (m ++ (early ++ v.steps.trail))) f.parts)) f.refutes,
+          (ap (λ (s : List TracedStep). last ++ lock_freed ∷ s) (append_assoc f.more early v.steps.step_trace) ∙ (sym (append_assoc last (lock_freed ∷ []) (f.more ++ (early ++ v.steps.step_trace))) ∙ ap (λ (m : List TracedStep). (last ++ lock_freed ∷ []) ++ (m ++ (early ++ v.steps.step_trace))) f.parts)) f.refutes,
       (let d = f.others in omega arith),
       turn.has.wrote,
     ))
       where
-        last : List TrailItem
+        last : List TracedStep
         last = last_steps n v.gate.holds v.gate.fence v.gate.algorithm
 
         failed : x ≡ ticked_at f.read clock (f.more ++ early)
-        failed = f.is ∙ (ap (λ (y : View). record y { ring_read = f.read; steps = record y.steps { trail = f.more ++ y.steps.trail } }) ticked
-            ∙ ap (λ (s : List TrailItem). record (ticked_at f.read clock []) { steps = record v.steps { trail = s } }) (sym (append_assoc f.more early v.steps.trail)))
+        failed = f.is ∙ (ap (λ (y : View). record y { ring_read = f.read; steps = record y.steps { step_trace = f.more ++ y.steps.step_trace } }) ticked
+            ∙ ap (λ (s : List TracedStep). record (ticked_at f.read clock []) { steps = record v.steps { step_trace = s } }) (sym (append_assoc f.more early v.steps.step_trace)))
 
     -- where it passes, the start is the clock
     module _ (start : ℕ) (x : View) (p : Checks good c (Ok start) l.loaded u x) where
-      abbrev checked_at : List TrailItem → View
+      abbrev checked_at : List TracedStep → View
       checked_at more = locked_at (record v.history { seen = upto p.0.world.history start; front = start }) (record v.attempt { start = start }) p.0.read (ticking clock) v.steps.rises more
 
       passed : x ≡ checked_at (p.0.more ++ early)
       passed = p.0.is ∙ (ap (λ (y : View). passed_at p.0.world start y.gate p.0.read p.0.more y) ticked
           ∙ (λ j. record (checked_at []) {
             attempt = record v.attempt { start = start; reads = if k.settled j then record { at = v.ring_read.from; value = v.ring_read.value } ∷ v.attempt.reads else v.attempt.reads };
-            steps = record v.steps { trail = sym (append_assoc p.0.more early v.steps.trail) j };
+            steps = record v.steps { step_trace = sym (append_assoc p.0.more early v.steps.step_trace) j };
           }))
 
       start-is : start ≡ clock
@@ -210,7 +210,7 @@ module _ (good : List ℕ → Type 0) (c : Config) (n : ℕ) (l : Local) (v w : 
         next = refl;
         limit = omega arith;
         settled = p.0.settled;
-        uncalm = k.optimistic.uncalm;
+        not_quiescent = k.optimistic.not_quiescent;
         buffers = k.buffers;
         spared = λ a t. ap (λ f. fenced f a) i.spared.is ∙ k.buffers.apart a t;
         wrote = sym (attempt.wrote-is good c n l v has plain) ∙ turn.has.wrote;
@@ -228,13 +228,13 @@ module _ (good : List ℕ → Type 0) (c : Config) (n : ℕ) (l : Local) (v w : 
         abbrev mine : Entry
         mine = record { time = clock + 1; caller = n; number = length v.history.made; reads = v.attempt.reads; writes = ws }
 
-        abbrev behind : Bool → List Cell → List TrailItem → View
+        abbrev behind : Bool → List Cell → List TracedStep → View
         behind finished back more = locked_at (record v.history { made = mine ∷ v.history.made; seen = mine ∷ e.world.history; front = clock + 1 }) (record { start = 0; reads = []; stores = []; entered = v.attempt.entered }) no_read
             (record { slotted = 0; writes = ws; ticked = true; clock = clock + 1; committed = true; finished = finished; back = back }) (v.steps.rises + 1) more
 
         entered : y ≡ behind false ws (e.more ++ (p.0.more ++ early))
         entered = e.is ∙ (ap (entered_at good c n (clock + 1) e.world.history l e.more) passed
-            ∙ ap (λ (s : List TrailItem). record (behind false ws []) { steps = record v.steps { rises = v.steps.rises + 1; trail = s } }) (sym (append_assoc e.more (p.0.more ++ early) v.steps.trail)))
+            ∙ ap (λ (s : List TracedStep). record (behind false ws []) { steps = record v.steps { rises = v.steps.rises + 1; step_trace = s } }) (sym (append_assoc e.more (p.0.more ++ early) v.steps.step_trace)))
 
         pub may-write_back : CanWriteBack c l.writes y
         may-write_back = subst (CanWriteBack c l.writes) (sym entered) (record {
@@ -244,8 +244,8 @@ module _ (good : List ℕ → Type 0) (c : Config) (n : ℕ) (l : Local) (v w : 
           back = refl;
         })
 
-        -- the commit: the entry was made behind a check that passed
-        commits-at : (more : List TrailItem) → CommitsAt good c n (clock + 1) (known_of v o) (known_of (left n (freed (behind true [] more))) o)
+        -- the commit: the entry was made after a check that passed
+        commits-at : (more : List TracedStep) → CommitsAt good c n (clock + 1) (known_of v o) (known_of (left n (freed (behind true [] more))) o)
         commits-at more = let rose = grows.front_rose in record {
           ends = record {
             idle = (refl, refl, refl, refl, unlocked-of v.gate.algorithm false v.tml.writer refl k.optimistic.unwritten);
@@ -256,7 +256,7 @@ module _ (good : List ℕ → Type 0) (c : Config) (n : ℕ) (l : Local) (v w : 
               up_to = within-append x.history.front (clock + 1) grows.later (made ∷ []) grows.up_to (omega (arith, front-is)) (omega arith, tt);
               front_rose = omega (arith, front-is);
               more = last ++ lock_freed ∷ more;
-              trail = sym (append_assoc last (lock_freed ∷ more) v.steps.trail);
+              step_trace = sym (append_assoc last (lock_freed ∷ more) v.steps.step_trace);
               reads_limit = refl;
               writes_limit = refl;
               fenced = refl;
@@ -288,23 +288,23 @@ module _ (good : List ℕ → Type 0) (c : Config) (n : ℕ) (l : Local) (v w : 
             front-is : x.history.front ≡ clock
             front-is = ap (λ (z : View). z.history.front) passed ∙ start-is
 
-            last : List TrailItem
+            last : List TracedStep
             last = last_steps n v.gate.holds v.gate.fence v.gate.algorithm
 
         module _ (z : View) (b : WritesBack y z) where
           written : z ≡ behind false [] (b.more ++ (e.more ++ (p.0.more ++ early)))
-          written = b.is ∙ (ap (λ (q : View). record q { ring_commit = record q.ring_commit { back = [] }; steps = record q.steps { trail = b.more ++ q.steps.trail } }) entered
-              ∙ ap (λ (s : List TrailItem). record (behind false [] []) { steps = record v.steps { rises = v.steps.rises + 1; trail = s } }) (sym (append_assoc b.more (e.more ++ (p.0.more ++ early)) v.steps.trail)))
+          written = b.is ∙ (ap (λ (q : View). record q { ring_commit = record q.ring_commit { back = [] }; steps = record q.steps { step_trace = b.more ++ q.steps.step_trace } }) entered
+              ∙ ap (λ (s : List TracedStep). record (behind false [] []) { steps = record v.steps { rises = v.steps.rises + 1; step_trace = s } }) (sym (append_assoc b.more (e.more ++ (p.0.more ++ early)) v.steps.step_trace)))
 
           pub may-done : CanRingDone (clock + 1) z
           may-done = subst (CanRingDone (clock + 1)) (sym written) (record {
             entered = record { runs = record { phase = i.phase; algorithm = named; plain = k.optimistic.ungranted }; committed = refl; unfinished = refl };
             time = refl;
             written = λ a. refl;
-            free = k.optimistic.uncalm;
+            free = k.optimistic.not_quiescent;
           })
 
           pub decides-committed : (q : View) → Tells (ring_done (clock + 1)) Nothing z (clock + 1) q → IsDecided good c n (commits.Committed (clock + 1)) v l q
-          decides-committed q d = let more : List TrailItem = done_stored (clock + 1) ∷ (b.more ++ (e.more ++ (p.0.more ++ early))) in
+          decides-committed q d = let more : List TracedStep = done_stored (clock + 1) ∷ (b.more ++ (e.more ++ (p.0.more ++ early))) in
               subst (IsDecided good c n (commits.Committed (clock + 1)) v l) (sym (d.2 ∙ ap (λ (y : View). view_after (ring_done (clock + 1)) d.0 y (clock + 1)) written))
               (decided (commits.Committed (clock + 1)) (behind true [] more).history (behind true [] more).attempt no_read (behind true [] more).ring_commit (v.steps.rises + 1) more i.unentered refl (λ f. refl) (commits-at more))

@@ -15,7 +15,7 @@ use Rattle.rule_base.specs.declared.layout.At.TheVariants.{Clock}
 use Rattle.rule_base.specs.declared.seats.Who.{Who}
 use Rattle.rule_base.specs.declared.views.Act.TheVariants.{Load}
 use Rattle.rule_base.specs.declared.views.RingRead.{RingRead}
-use Rattle.rule_base.specs.declared.views.TrailItem.{TrailItem}
+use Rattle.rule_base.specs.declared.views.TracedStep.{TracedStep}
 use Rattle.rule_base.specs.declared.views.View.{View}
 use Rattle.rule_base.specs.Bridge.{items, public_history}
 use Rattle.rule_base.specs.GateSteps.{granted_at}
@@ -35,8 +35,8 @@ use Rattle.tx_answers.specs.declared.answers.Irrev.TheVariants as irrevs
 use Rattle.tx_answers.specs.Answers.{Quits, IsOpaque}
 use Rattle.tx_answers.specs.Causes.Asked.{ToPromote}
 use Rattle.tx_answers.specs.Evidence.{Found}
-use Rattle.tx_answers.specs.Known.{Known, Grows, IsRunning, known_of, fenced_of, granted_under, written_under, is_irrevocable, is_in, is_closing, wrote, locked_under}
-use Rattle.tx_answers.specs.KnownLaws.{grows-same, grows-trans}
+use Rattle.tx_answers.specs.CallerState.{CallerState, Grows, IsRunning, known_of, fenced_of, granted_under, written_under, is_irrevocable, is_in, is_closing, wrote, locked_under}
+use Rattle.tx_answers.specs.CallerStateLaws.{grows-same, grows-trans}
 use Rattle.stm_gate.specs.KeptLaws.{kept-same}
 use Rattle.stm_gate.specs.Granting.{IsAlone, Grants}
 use Rattle.stm_gate.specs.Knowing.{known, number}
@@ -69,7 +69,7 @@ pub can-grant : {K : Type 0} (good : K → List ℕ → Type 0) (stm : Stm K) {e
 can-grant {K} good stm {e} {who} {v} {n} {l} a running alg revocable alone = let at = has-attempt good stm a running.0 alg in record {
   attempt = at;
   plain = sym (attempt.irrevocable-is (good stm.rule) stm.config n l v at) ∙ (ap is_irrevocable (sym a.knows) ∙ revocable);
-  free = ap (λ (k : Known). k.committing) (sym a.knows) ∙ running.1;
+  free = ap (λ (k : CallerState). k.committing) (sym a.knows) ∙ running.1;
   alone = subst (λ (w : View). IsAlone stm.config.callers n w) a.view (subst (λ (k : ℕ). IsAlone stm.config.callers k e.view) a.name alone);
 }
 
@@ -102,14 +102,14 @@ module _ (good : List ℕ → Type 0) (c : Config) (n : ℕ) (l : Local) (v : Vi
   may-settle = record { holds = can.alone.holds; quiet = can.alone.quiet }
 
   -- the clock was loaded as the gate's holder
-  abbrev settled_at : ℕ → RingRead → List TrailItem → View
+  abbrev settled_at : ℕ → RingRead → List TracedStep → View
   settled_at clock read more = record v {
-    gate = record v.gate { calm = true; time = clock; rebased = false; completed = false };
+    gate = record v.gate { quiescent = true; time = clock; rebased = false; completed = false };
     ring_read = read;
-    steps = record v.steps { trail = more ++ v.steps.trail };
+    steps = record v.steps { step_trace = more ++ v.steps.step_trace };
   }
 
-  leaves-settled : (clock : ℕ) (read : RingRead) (more : List TrailItem) → CanLeave (settled_at clock read more)
+  leaves-settled : (clock : ℕ) (read : RingRead) (more : List TracedStep) → CanLeave (settled_at clock read more)
   leaves-settled clock read more = record {
     phase = i.phase;
     unlocked = k.optimistic.unlocked;
@@ -123,8 +123,8 @@ module _ (good : List ℕ → Type 0) (c : Config) (n : ℕ) (l : Local) (v : Vi
     marked = λ e q. absurd (let f : true ≡ false = sym q ∙ i.unentered in cc);
   }
 
-  quits-settled : (clock : ℕ) (read : RingRead) (more : List TrailItem) → Quits (known_of v o) (known_of (left n (settled_at clock read more)) o)
-  quits-settled clock read more = quits-left n v (settled_at clock read more) o (record { carried = record { named = refl; base = refl; installs = refl; fence = refl; trail = (more, refl); unlocked = k.optimistic.unlocked; unwritten = k.optimistic.unwritten }; history = refl }) (let r = k.optimistic.rises in (omega arith, omega arith)) revocable
+  quits-settled : (clock : ℕ) (read : RingRead) (more : List TracedStep) → Quits (known_of v o) (known_of (left n (settled_at clock read more)) o)
+  quits-settled clock read more = quits-left n v (settled_at clock read more) o (record { carried = record { named = refl; base = refl; installs = refl; fence = refl; step_trace = (more, refl); unlocked = k.optimistic.unlocked; unwritten = k.optimistic.unwritten }; history = refl }) (let r = k.optimistic.rises in (omega arith, omega arith)) revocable
 
   module _ (clock : ℕ) (w : View) (t : Tells settle FindsWithin v clock w) where
     settled-path : w ≡ settled_at clock v.ring_read (clock_found clock ∷ [])
@@ -146,7 +146,7 @@ module _ (good : List ℕ → Type 0) (c : Config) (n : ℕ) (l : Local) (v : Vi
     may-check under = subst (CanCheckToGrant c l.start l.loaded) (sym settled-path) (record {
       grant = record {
         has = record { runs = record { phase = i.phase; algorithm = named; plain = k.optimistic.ungranted }; inside = k.inside };
-        calm = refl;
+        quiescent = refl;
         limit = under;
         unlocked = k.optimistic.unlocked;
         uncommitted = k.optimistic.uncommitted;
@@ -162,8 +162,8 @@ module _ (good : List ℕ → Type 0) (c : Config) (n : ℕ) (l : Local) (v : Vi
     -- it failed
     module _ (cause : Cause) (u : View) (f : Fails good c cause l.loaded w u) where
       failed-path : u ≡ settled_at clock f.read (f.more ++ clock_found clock ∷ [])
-      failed-path = f.is ∙ (ap (λ (y : View). record y { ring_read = f.read; steps = record y.steps { trail = f.more ++ y.steps.trail } }) settled-path
-          ∙ ap (λ (s : List TrailItem). record (settled_at clock f.read []) { steps = record v.steps { trail = s } }) (sym (append_assoc f.more (clock_found clock ∷ []) v.steps.trail)))
+      failed-path = f.is ∙ (ap (λ (y : View). record y { ring_read = f.read; steps = record y.steps { step_trace = f.more ++ y.steps.step_trace } }) settled-path
+          ∙ ap (λ (s : List TracedStep). record (settled_at clock f.read []) { steps = record v.steps { step_trace = s } }) (sym (append_assoc f.more (clock_found clock ∷ []) v.steps.step_trace)))
 
       pub may-leave-failed : CanLeave u
       may-leave-failed = subst CanLeave (sym failed-path) (leaves-settled clock f.read (f.more ++ clock_found clock ∷ []))
@@ -178,22 +178,22 @@ module _ (good : List ℕ → Type 0) (c : Config) (n : ℕ) (l : Local) (v : Vi
       tells-conflict low y end = subst (λ (z : View). Grants good c n (irrevs.Conflict cause) (known_of v o) (known_of z o)) (sym (end ∙ ap (left n) failed-path)) (
         quits-settled clock f.read (f.more ++ clock_found clock ∷ []),
         refuted c n ToPromote (known_of v o) (known_of (left n (settled_at clock f.read (f.more ++ clock_found clock ∷ []))) o) l.loaded w.attempt.start f.clock last f.loads (clock_found clock ∷ []) cause named (sym (ap (λ (z : View). z.attempt.start) settled-path)) k.read
-            (ap (λ (s : List TrailItem). last ++ s) (append_assoc f.more (clock_found clock ∷ []) v.steps.trail) ∙ ap (λ (m : List TrailItem). last ++ (m ++ clock_found clock ∷ v.steps.trail)) f.parts) f.refutes,
+            (ap (λ (s : List TracedStep). last ++ s) (append_assoc f.more (clock_found clock ∷ []) v.steps.step_trace) ∙ ap (λ (m : List TracedStep). last ++ (m ++ clock_found clock ∷ v.steps.step_trace)) f.parts) f.refutes,
         (let d = f.others in omega arith),
       )
         where
-          last : List TrailItem
+          last : List TracedStep
           last = last_steps n v.gate.holds v.gate.fence v.gate.algorithm
 
     -- it passed: the start is the clock
     module _ (under : clock < CLOCK_LIMIT) (start : ℕ) (u : View) (p : ChecksToGrant good c (Ok start) l.loaded w u) where
-      abbrev promoted_at : List Cell → List TrailItem → View
+      abbrev promoted_at : List Cell → List TracedStep → View
       promoted_at stores more = record v {
         history = record v.history { seen = upto p.0.world.history start; front = start };
         gate = granted_at clock v.gate;
         attempt = record { start = start; reads = v.attempt.reads; stores = stores; entered = v.attempt.entered };
         ring_read = p.0.read;
-        steps = record v.steps { trail = more ++ v.steps.trail };
+        steps = record v.steps { step_trace = more ++ v.steps.step_trace };
       }
 
       start-is : start ≡ clock
@@ -203,7 +203,7 @@ module _ (good : List ℕ → Type 0) (c : Config) (n : ℕ) (l : Local) (v : Vi
       passed-path = p.0.is ∙ (ap (λ (y : View). passed_at p.0.world start (granted_at y.gate.time y.gate) p.0.read p.0.more y) settled-path
           ∙ (λ j. record (promoted_at [] []) {
             attempt = record { start = start; reads = if k.settled j then record { at = v.ring_read.from; value = v.ring_read.value } ∷ v.attempt.reads else v.attempt.reads; stores = k.optimistic.unstored j; entered = v.attempt.entered };
-            steps = record v.steps { trail = sym (append_assoc p.0.more (clock_found clock ∷ []) v.steps.trail) j };
+            steps = record v.steps { step_trace = sym (append_assoc p.0.more (clock_found clock ∷ []) v.steps.step_trace) j };
           }))
 
       -- what is stored lies outside the fence that the attempt knows
@@ -221,14 +221,14 @@ module _ (good : List ℕ → Type 0) (c : Config) (n : ℕ) (l : Local) (v : Vi
       promoted = record l { start = start; granted = true }
 
       module _ (x : View) (st : Stores l.writes u x) where
-        abbrev more : List TrailItem
+        abbrev more : List TracedStep
         more = st.more ++ (p.0.more ++ clock_found clock ∷ [])
 
         stored-path : x ≡ promoted_at ws more
-        stored-path = st.is ∙ (ap (λ (y : View). record y { attempt = record y.attempt { stores = ws ++ y.attempt.stores }; steps = record y.steps { trail = st.more ++ y.steps.trail } }) passed-path
+        stored-path = st.is ∙ (ap (λ (y : View). record y { attempt = record y.attempt { stores = ws ++ y.attempt.stores }; steps = record y.steps { step_trace = st.more ++ y.steps.step_trace } }) passed-path
             ∙ (λ j. record (promoted_at [] []) {
               attempt = record { start = start; reads = v.attempt.reads; stores = append-nil ws j; entered = v.attempt.entered };
-              steps = record v.steps { trail = sym (append_assoc st.more (p.0.more ++ clock_found clock ∷ []) v.steps.trail) j };
+              steps = record v.steps { step_trace = sym (append_assoc st.more (p.0.more ++ clock_found clock ∷ []) v.steps.step_trace) j };
             }))
 
         stays-promoted : IsInside good c n promoted x
@@ -249,7 +249,7 @@ module _ (good : List ℕ → Type 0) (c : Config) (n : ℕ) (l : Local) (v : Vi
           spared = record { is = i.spared.is; fits = i.spared.fits };
           keeps = subst (λ (a : Alg). Keeps c a true promoted (promoted_at ws more)) (sym ring) (record {
             granted = refl;
-            calm = refl;
+            quiescent = refl;
             holds = can.attempt.stands.holds ∙ can.alone.holds;
             clear = record { unlocked = k.optimistic.unlocked; unfixed = k.optimistic.unfixed; disowned = i.disowned (ap has_records ring); unwritten = k.optimistic.unwritten; uncommitted = k.optimistic.uncommitted; unentered = i.unentered };
             clean = λ e. none-written l.writes.items (sym k.buffers.wrote ∙ e);
@@ -268,12 +268,12 @@ module _ (good : List ℕ → Type 0) (c : Config) (n : ℕ) (l : Local) (v : Vi
             (grows-trans (known_of v o) (known_of w o) (known_of u o)
             (subst (λ (y : View). Grows (known_of v o) (known_of y o)) (sym settled-path) (grows-same (known_of v o) (known_of (settled_at clock v.ring_read (clock_found clock ∷ [])) o) refl refl (clock_found clock ∷ []) refl refl refl refl))
             (passes-grows good c (granted_at w.gate.time w.gate) start w u p.0 o o refl refl))
-            (grows-same (known_of u o) (known_of x o) (ap (λ (y : View). public_history y.history.seen) st.is) (ap (λ (y : View). y.history.front) st.is) st.more (ap (λ (y : View). y.steps.trail) st.is) refl refl (ap (λ (y : View). fenced_of y.fence) st.is))
+            (grows-same (known_of u o) (known_of x o) (ap (λ (y : View). public_history y.history.seen) st.is) (ap (λ (y : View). y.history.front) st.is) st.more (ap (λ (y : View). y.steps.step_trace) st.is) refl refl (ap (λ (y : View). fenced_of y.fence) st.is))
 
         found-promoted : Found Clock start (known_of v o) (known_of x o)
         found-promoted = found-later Clock start (known_of v o) (known_of u o) (known_of x o)
-            (found-earlier Clock start (known_of v o) (known_of w o) (known_of u o) (p.2.0, p.2.1, p.2.2.0, p.2.2.1) (clock_found clock ∷ []) (ap (λ (y : View). y.steps.trail) settled-path))
-            st.more (ap (λ (y : View). y.steps.trail) st.is)
+            (found-earlier Clock start (known_of v o) (known_of w o) (known_of u o) (p.2.0, p.2.1, p.2.2.0, p.2.2.1) (clock_found clock ∷ []) (ap (λ (y : View). y.steps.step_trace) settled-path))
+            st.more (ap (λ (y : View). y.steps.step_trace) st.is)
 
         tells-granted : Grants good c n irrevs.Granted (known_of v o) (known_of x o)
         tells-granted = record {

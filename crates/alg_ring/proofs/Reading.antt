@@ -14,7 +14,7 @@ use Rattle.rule_base.specs.declared.layout.At.TheVariants.{Clock, Done, Heap}
 use Rattle.rule_base.specs.declared.layout.TheConstants.{SLOT_WORDS}
 use Rattle.rule_base.specs.declared.views.Act.TheVariants.{Load}
 use Rattle.rule_base.specs.declared.views.Attempt.{Attempt}
-use Rattle.rule_base.specs.declared.views.TrailItem.{TrailItem}
+use Rattle.rule_base.specs.declared.views.TracedStep.{TracedStep}
 use Rattle.rule_base.specs.declared.views.View.{View}
 use Rattle.rule_base.specs.Bridge.{items, public_history}
 use Rattle.rule_base.specs.History.{touches, upto, word_now}
@@ -32,7 +32,7 @@ use Rattle.tx_answers.specs.declared.answers.Read.TheVariants.{Value, Conflict}
 use Rattle.tx_answers.specs.Answers.{HasRead, GoesOn, Quits, StartMoves}
 use Rattle.tx_answers.specs.Causes.{Conflicts, has_item, reads_full}
 use Rattle.tx_answers.specs.Causes.Asked.{ForWord}
-use Rattle.tx_answers.specs.Known.{Grows, known_of, written_under, is_irrevocable, is_in, is_closing}
+use Rattle.tx_answers.specs.CallerState.{Grows, known_of, written_under, is_irrevocable, is_in, is_closing}
 use Rattle.stm_gate.specs.KeptLaws.{kept-same}
 use Rattle.stm_gate.specs.Leaving.{CanLeave, left, last_steps}
 use Rattle.stm_gate.specs.LeavingLaws.{quits-left}
@@ -59,7 +59,7 @@ module _ (good : List ℕ → Type 0) (c : Config) (n a : ℕ) (l : Local) (v : 
     abbrev loaded : View
     loaded = view_after (ring_load a) t.0 v x
 
-    abbrev item : TrailItem
+    abbrev item : TracedStep
     item = record { place = Heap a; act = Load; found = Some x }
 
     -- the filter has the word's address too
@@ -72,7 +72,7 @@ module _ (good : List ℕ → Type 0) (c : Config) (n a : ℕ) (l : Local) (v : 
       start_is = i.start;
       front_is = i.front;
       watched = filter-watched;
-      uncalm = k.optimistic.uncalm;
+      not_quiescent = k.optimistic.not_quiescent;
       sole = λ one. k.sole one ∙ ap (λ (q : ℕ). c.clock + q) (sym k.optimistic.rises);
     })
 
@@ -107,7 +107,7 @@ module _ (good : List ℕ → Type 0) (c : Config) (n a : ℕ) (l : Local) (v : 
         steady = i.steady;
         spared = record { is = i.spared.is; fits = i.spared.fits };
         keeps = keeps-ring (record {
-          optimistic = record { unlocked = k.optimistic.unlocked; unfixed = k.optimistic.unfixed; unwritten = k.optimistic.unwritten; uncommitted = k.optimistic.uncommitted; ungranted = k.optimistic.ungranted; uncalm = k.optimistic.uncalm; unstored = k.optimistic.unstored; rises = k.optimistic.rises };
+          optimistic = record { unlocked = k.optimistic.unlocked; unfixed = k.optimistic.unfixed; unwritten = k.optimistic.unwritten; uncommitted = k.optimistic.uncommitted; ungranted = k.optimistic.ungranted; not_quiescent = k.optimistic.not_quiescent; unstored = k.optimistic.unstored; rises = k.optimistic.rises };
           buffers = record { wrote = k.buffers.wrote; once = k.buffers.once; inside = k.buffers.inside; small = k.buffers.small; apart = k.buffers.apart };
           inside = p.inside;
           settled = p.settled;
@@ -128,7 +128,7 @@ module _ (good : List ℕ → Type 0) (c : Config) (n a : ℕ) (l : Local) (v : 
           up_to = q.3;
           front_rose = b.front;
           more = p.more ++ item ∷ [];
-          trail = sym (append_assoc p.more (item ∷ []) v.steps.trail);
+          step_trace = sym (append_assoc p.more (item ∷ []) v.steps.step_trace);
           reads_limit = refl;
           writes_limit = refl;
           fenced = refl;
@@ -192,7 +192,7 @@ module _ (good : List ℕ → Type 0) (c : Config) (n a : ℕ) (l : Local) (v : 
       q = subst (λ (z : View). Fails good c cause filter z w) t.2 checks
 
       abbrev failed : View
-      failed = record v { ring_read = q.read; steps = record v.steps { trail = q.more ++ item ∷ v.steps.trail } }
+      failed = record v { ring_read = q.read; steps = record v.steps { step_trace = q.more ++ item ∷ v.steps.step_trace } }
 
       -- nothing that stands against its end
       abbrev pub MayEnd : View → Type 0
@@ -208,16 +208,16 @@ module _ (good : List ℕ → Type 0) (c : Config) (n a : ℕ) (l : Local) (v : 
 
       module _ (o : Own) where
         quits : Quits (known_of v o) (known_of (left n failed) o)
-        quits = quits-left n v failed o (record { carried = record { named = refl; base = refl; installs = refl; fence = refl; trail = (q.more ++ item ∷ [], sym (append_assoc q.more (item ∷ []) v.steps.trail)); unlocked = k.optimistic.unlocked; unwritten = k.optimistic.unwritten }; history = refl })
+        quits = quits-left n v failed o (record { carried = record { named = refl; base = refl; installs = refl; fence = refl; step_trace = (q.more ++ item ∷ [], sym (append_assoc q.more (item ∷ []) v.steps.step_trace)); unlocked = k.optimistic.unlocked; unwritten = k.optimistic.unwritten }; history = refl })
             (let r = k.optimistic.rises in (omega arith, omega arith)) (revocable good c n l v i named k o)
 
         why : Conflicts c n (ForWord a) cause (known_of v o) (known_of (left n failed) o)
         why = refuted c n (ForWord a) (known_of v o) (known_of (left n failed) o) filter v.attempt.start q.clock last q.loads (item ∷ []) cause named refl
             (λ j less. words j less ∙ ap (bit_or (address_word a j)) (k.read j less))
-            (ap (λ (m : List TrailItem). last ++ (m ++ item ∷ v.steps.trail)) q.parts)
+            (ap (λ (m : List TracedStep). last ++ (m ++ item ∷ v.steps.step_trace)) q.parts)
             q.refutes
           where
-            last : List TrailItem
+            last : List TracedStep
             last = last_steps n v.gate.holds v.gate.fence v.gate.algorithm
 
       pub loads-conflict : (z : View) → n < c.callers → z ≡ left n w → IsOutside z → LoadsNew good c n a (Conflict cause) l v (ended (record l { loaded = filter })) z

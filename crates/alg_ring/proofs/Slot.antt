@@ -8,29 +8,29 @@ use Rattle.rule_base.specs.declared.layout.At.TheVariants.{Slot}
 use Rattle.rule_base.specs.declared.layout.TheConstants.{SLOT_WORDS}
 use Rattle.rule_base.specs.declared.views.Act.TheVariants.{Load}
 use Rattle.rule_base.specs.declared.views.SlotWord.{SlotWord}
-use Rattle.rule_base.specs.declared.views.TrailItem.{TrailItem}
+use Rattle.rule_base.specs.declared.views.TracedStep.{TracedStep}
 use Rattle.rule_base.specs.declared.views.View.{View}
 use Rattle.rule_base.specs.StepKinds.{Nothing, Tells, view_after}
 use Rattle.rule_ring.specs.RingSteps.{CanRingWord, ring_word, AllClear}
 use Rattle.rule_ring.specs.SlotFilter.{slot_filter}
 use Rattle.rule_ring.specs.Slots.{slot_place, has_word, loaded_word}
 use Rattle.tx_logs.specs.Filters.{meets, part_meets}
-use Rattle.tx_answers.specs.SlotEvidence.{InTrail, LoadsWord, Misses}
+use Rattle.tx_answers.specs.SlotEvidence.{InStepTrace, LoadsWord, Misses}
 use Rattle.alg_ring.specs.Checking.{with_words, CanLoadSlot, NoCommon, FirstCommon, LoadsPart, MeetsSlot, CanScan, MeetsOne}
 use Rattle.alg_ring.proofs.Meeting.{part-yes, part-no, meets-yes, meets-no, part-same, lowest-at, ring-meets}
-use Rattle.alg_ring.proofs.Words.{front-has, back-has, loaded-some, last-here, last-else, last-of, trail-right, trail-left}
+use Rattle.alg_ring.proofs.Words.{front-has, back-has, loaded-some, last-here, last-else, last-of, step_trace-right, step_trace-left}
 
 -- the view doesn't see how the steps are parted
-pub with-more : (v : View) (words : List SlotWord) (a b : List TrailItem) → with_words (with_words v words b) words a ≡ with_words v words (a ++ b)
-with-more v words a b = ap (λ (t : List TrailItem). record v { ring_read = record v.ring_read { words = words }; steps = record v.steps { trail = t } }) (sym (append_assoc a b v.steps.trail))
+pub with-more : (v : View) (words : List SlotWord) (a b : List TracedStep) → with_words (with_words v words b) words a ≡ with_words v words (a ++ b)
+with-more v words a b = ap (λ (t : List TracedStep). record v { ring_read = record v.ring_read { words = words }; steps = record v.steps { step_trace = t } }) (sym (append_assoc a b v.steps.step_trace))
 
 -- two runs of loads, one after the other
-pub with-both : (v w u : View) (xs ys : List SlotWord) (a b : List TrailItem) → w ≡ with_words v (xs ++ v.ring_read.words) a → u ≡ with_words w (ys ++ w.ring_read.words) b → u ≡ with_words v ((ys ++ xs) ++ v.ring_read.words) (b ++ a)
+pub with-both : (v w u : View) (xs ys : List SlotWord) (a b : List TracedStep) → w ≡ with_words v (xs ++ v.ring_read.words) a → u ≡ with_words w (ys ++ w.ring_read.words) b → u ≡ with_words v ((ys ++ xs) ++ v.ring_read.words) (b ++ a)
 with-both v w u xs ys a b e f = f ∙ (ap (λ (y : View). with_words y (ys ++ y.ring_read.words) b) e
-    ∙ (λ i. record v { ring_read = record v.ring_read { words = sym (append_assoc ys xs v.ring_read.words) i }; steps = record v.steps { trail = sym (append_assoc b a v.steps.trail) i } }))
+    ∙ (λ i. record v { ring_read = record v.ring_read { words = sym (append_assoc ys xs v.ring_read.words) i }; steps = record v.steps { step_trace = sym (append_assoc b a v.steps.step_trace) i } }))
 
 -- what a load of a word asks
-pub may-word : (ring time i : ℕ) (v w : View) (words : List SlotWord) (more : List TrailItem) → CanLoadSlot ring time v → w ≡ with_words v words more → i < SLOT_WORDS → CanRingWord ring time i w
+pub may-word : (ring time i : ℕ) (v w : View) (words : List SlotWord) (more : List TracedStep) → CanLoadSlot ring time v → w ≡ with_words v words more → i < SLOT_WORDS → CanRingWord ring time i w
 may-word ring time i v w words more can is low = subst (CanRingWord ring time i) (sym is) (record {
   has = record { runs = record { phase = can.has.runs.phase; algorithm = can.has.runs.algorithm; plain = can.has.runs.plain }; inside = can.has.inside };
   checking = can.checking;
@@ -41,8 +41,8 @@ may-word ring time i v w words more can is low = subst (CanRingWord ring time i)
   index = low;
 })
 
--- and that of a slot, behind others
-pub may-slot : (ring time : ℕ) (v w : View) (words : List SlotWord) (more : List TrailItem) → CanLoadSlot ring time v → w ≡ with_words v words more → CanLoadSlot ring time w
+-- and that of a slot, after others
+pub may-slot : (ring time : ℕ) (v w : View) (words : List SlotWord) (more : List TracedStep) → CanLoadSlot ring time v → w ≡ with_words v words more → CanLoadSlot ring time w
 may-slot ring time v w words more can is = subst (CanLoadSlot ring time) (sym is) (record {
   has = record { runs = record { phase = can.has.runs.phase; algorithm = can.has.runs.algorithm; plain = can.has.runs.plain }; inside = can.has.inside };
   checking = can.checking;
@@ -56,10 +56,10 @@ module _ (ring time : ℕ) (filter : List ℕ) where
   -- the words of the part before word i were loaded, and have no common bits
   pub record PartSoFar (part i : ℕ) (v w : View) : Type 0 where
     pub words : List SlotWord
-    pub more : List TrailItem
+    pub more : List TracedStep
     pub is : w ≡ with_words v (words ++ v.ring_read.words) more
     pub of : (t j : ℕ) → has_word words t j ≡ true → (t ≡ time) × (4 * part ≤ j) × (j < i)
-    pub found : (j : ℕ) → has_word words time j ≡ true → InTrail more (Slot (slot_place ring time j)) (loaded_word words time j)
+    pub found : (j : ℕ) → has_word words time j ≡ true → InStepTrace more (Slot (slot_place ring time j)) (loaded_word words time j)
     pub none : (j : ℕ) → 4 * part ≤ j → j < i → NoCommon ring time filter words j
 
   pub part-first : (part : ℕ) (v : View) → PartSoFar part (4 * part) v v
@@ -69,7 +69,7 @@ module _ (ring time : ℕ) (filter : List ℕ) where
     abbrev pub next : List SlotWord
     next = record { time = time; index = i; value = x } ∷ s.words
 
-    abbrev pub steps : List TrailItem
+    abbrev pub steps : List TracedStep
     steps = record { place = Slot (slot_place ring time i); act = Load; found = Some x } ∷ s.more
 
     next_is : u ≡ with_words v (next ++ v.ring_read.words) steps
@@ -78,14 +78,14 @@ module _ (ring time : ℕ) (filter : List ℕ) where
     next_of : (d j : ℕ) → has_word next d j ≡ true → (d ≡ time) × (4 * part ≤ j) × (j < i + 1)
     next_of d j h = last-of s.words time i x d j ((d ≡ time) × (4 * part ≤ j) × (j < i + 1)) (λ a b. (a, omega arith, omega arith)) (λ k. let o = s.of d j k in (o.0, o.1, let q = o.2 in omega arith)) h
 
-    next_found : (j : ℕ) → has_word next time j ≡ true → InTrail steps (Slot (slot_place ring time j)) (loaded_word next time j)
+    next_found : (j : ℕ) → has_word next time j ≡ true → InStepTrace steps (Slot (slot_place ring time j)) (loaded_word next time j)
     next_found j h = by (i == j) refl
       where
-        by : (b : Bool) → (i == j) ≡ b → InTrail steps (Slot (slot_place ring time j)) (loaded_word next time j)
+        by : (b : Bool) → (i == j) ≡ b → InStepTrace steps (Slot (slot_place ring time j)) (loaded_word next time j)
         by true q = let same : i ≡ j = grind (arith, nat_tests) in
-            subst (λ (k : ℕ). InTrail steps (Slot (slot_place ring time k)) (loaded_word next time k)) same (subst (λ (n : ℕ). InTrail steps (Slot (slot_place ring time i)) n) (sym (last-here s.words time i x).1) (Load, (0, omega arith, refl)))
+            subst (λ (k : ℕ). InStepTrace steps (Slot (slot_place ring time k)) (loaded_word next time k)) same (subst (λ (n : ℕ). InStepTrace steps (Slot (slot_place ring time i)) n) (sym (last-here s.words time i x).1) (Load, (0, omega arith, refl)))
         by false q = let e = last-else s.words time i x j (let d : i ≢ j = grind (arith, nat_tests) in d) in
-            subst (λ (n : ℕ). InTrail steps (Slot (slot_place ring time j)) n) (sym e.1) (trail-right (record { place = Slot (slot_place ring time i); act = Load; found = Some x } ∷ []) s.more (Slot (slot_place ring time j)) (loaded_word s.words time j) (s.found j (sym e.0 ∙ h)))
+            subst (λ (n : ℕ). InStepTrace steps (Slot (slot_place ring time j)) n) (sym e.1) (step_trace-right (record { place = Slot (slot_place ring time i); act = Load; found = Some x } ∷ []) s.more (Slot (slot_place ring time j)) (loaded_word s.words time j) (s.found j (sym e.0 ∙ h)))
 
     next_none : (j : ℕ) → 4 * part ≤ j → j < i → NoCommon ring time filter next j
     next_none j a b = let e = last-else s.words time i x j (omega arith) in let n = s.none j a b in (e.0 ∙ n.0, ap (bit_and (slice_index filter j)) e.1 ∙ n.1)
@@ -126,10 +126,10 @@ module _ (ring time : ℕ) (filter : List ℕ) where
   -- words of the parts before this one were loaded
   pub record SlotWords (part : ℕ) (v w : View) : Type 0 where
     pub words : List SlotWord
-    pub more : List TrailItem
+    pub more : List TracedStep
     pub is : w ≡ with_words v (words ++ v.ring_read.words) more
     pub of : (t j : ℕ) → has_word words t j ≡ true → (t ≡ time) × (j < 4 * part)
-    pub found : (j : ℕ) → has_word words time j ≡ true → InTrail more (Slot (slot_place ring time j)) (loaded_word words time j)
+    pub found : (j : ℕ) → has_word words time j ≡ true → InStepTrace more (Slot (slot_place ring time j)) (loaded_word words time j)
 
   pub slot-first : (v : View) → SlotWords 0 v v
   slot-first v = record { words = []; more = []; is = refl; of = λ t j e. absurd cc; found = λ j e. absurd cc }
@@ -158,13 +158,13 @@ module _ (ring time : ℕ) (filter : List ℕ) where
         by true e = let o = l.of t j e in (o.0, let q = o.2 in omega arith)
         by false e = let b = back-has l.words s.words t j (λ k. let f : true ≡ false = sym k ∙ e in cc) in let o = s.of t j (sym b.0 ∙ h) in (o.0, let q = o.1 in omega arith)
 
-    pub both_found : (j : ℕ) → has_word both time j ≡ true → InTrail (l.more ++ s.more) (Slot (slot_place ring time j)) (loaded_word both time j)
+    pub both_found : (j : ℕ) → has_word both time j ≡ true → InStepTrace (l.more ++ s.more) (Slot (slot_place ring time j)) (loaded_word both time j)
     both_found j h = by (has_word l.words time j) refl
       where
-        by : (b : Bool) → has_word l.words time j ≡ b → InTrail (l.more ++ s.more) (Slot (slot_place ring time j)) (loaded_word both time j)
-        by true e = subst (λ (n : ℕ). InTrail (l.more ++ s.more) (Slot (slot_place ring time j)) n) (sym (here j e).1) (trail-left l.more s.more (Slot (slot_place ring time j)) (loaded_word l.words time j) (l.found j e))
+        by : (b : Bool) → has_word l.words time j ≡ b → InStepTrace (l.more ++ s.more) (Slot (slot_place ring time j)) (loaded_word both time j)
+        by true e = subst (λ (n : ℕ). InStepTrace (l.more ++ s.more) (Slot (slot_place ring time j)) n) (sym (here j e).1) (step_trace-left l.more s.more (Slot (slot_place ring time j)) (loaded_word l.words time j) (l.found j e))
         by false e = let b = back-has l.words s.words time j (λ k. let f : true ≡ false = sym k ∙ e in cc) in
-            subst (λ (n : ℕ). InTrail (l.more ++ s.more) (Slot (slot_place ring time j)) n) (sym b.1) (trail-right l.more s.more (Slot (slot_place ring time j)) (loaded_word s.words time j) (s.found j (sym b.0 ∙ h)))
+            subst (λ (n : ℕ). InStepTrace (l.more ++ s.more) (Slot (slot_place ring time j)) n) (sym b.1) (step_trace-right l.more s.more (Slot (slot_place ring time j)) (loaded_word s.words time j) (s.found j (sym b.0 ∙ h)))
 
     pub both_is : u ≡ with_words v (both ++ v.ring_read.words) (l.more ++ s.more)
     both_is = with-both v w u s.words l.words s.more l.more s.is l.is
@@ -242,13 +242,13 @@ module _ (ring time : ℕ) (filter : List ℕ) where
 -- ALL SLOTS
 
 -- a word by its place in the ring
-loads-at : (ring : ℕ) (filter : ℕ → ℕ) (more : List TrailItem) (time i x : ℕ) → InTrail more (Slot (slot_place ring time i)) x → LoadsWord ring filter more time i x
+loads-at : (ring : ℕ) (filter : ℕ → ℕ) (more : List TracedStep) (time i x : ℕ) → InStepTrace more (Slot (slot_place ring time i)) x → LoadsWord ring filter more time i x
 unfolding slot_place
 loads-at ring filter more time i x t = t
 
 -- with later loads
-misses-right : (ring : ℕ) (filter : ℕ → ℕ) (more xs : List TrailItem) (e : ℕ) → Misses ring filter xs e → Misses ring filter (more ++ xs) e
-misses-right ring filter more xs e m = record { slot = m.slot; part = m.part; low = m.low; loaded = λ i a b. trail-right more xs _ (m.slot i) (m.loaded i a b); none = m.none }
+misses-right : (ring : ℕ) (filter : ℕ → ℕ) (more xs : List TracedStep) (e : ℕ) → Misses ring filter xs e → Misses ring filter (more ++ xs) e
+misses-right ring filter more xs e m = record { slot = m.slot; part = m.part; low = m.low; loaded = λ i a b. step_trace-right more xs _ (m.slot i) (m.loaded i a b); none = m.none }
 
 module _ (c : Config) (start clock : ℕ) (filter : List ℕ) where
   -- whatever those words of the slot are that were not loaded, it doesn't meet the filter
@@ -258,7 +258,7 @@ module _ (c : Config) (start clock : ℕ) (filter : List ℕ) where
   -- the slots of so many times since the start don't meet it
   pub record ScanSoFar (passed : ℕ) (v w : View) : Type 0 where
     pub words : List SlotWord
-    pub more : List TrailItem
+    pub more : List TracedStep
     pub is : w ≡ with_words v words more
     pub clear : (e : ℕ) → start < e → e ≤ start + passed → Apart words e
     pub missed : (e : ℕ) → start < e → e ≤ start + passed → Misses c.ring (slice_index filter) more e
@@ -282,7 +282,7 @@ module _ (c : Config) (start clock : ℕ) (filter : List ℕ) where
 
     loads : (i : ℕ) → has_word m.words (start + 1 + passed) i ≡ true → LoadsWord c.ring (slice_index filter) (m.more ++ s.more) (start + 1 + passed) i (loaded_word m.words (start + 1 + passed) i)
     loads i h = loads-at c.ring (slice_index filter) (m.more ++ s.more) (start + 1 + passed) i (loaded_word m.words (start + 1 + passed) i)
-        (trail-left m.more s.more (Slot (slot_place c.ring (start + 1 + passed) i)) (loaded_word m.words (start + 1 + passed) i) (m.found i h))
+        (step_trace-left m.more s.more (Slot (slot_place c.ring (start + 1 + passed) i)) (loaded_word m.words (start + 1 + passed) i) (m.found i h))
 
     pub scan-next : bits ≡ 0 → ScanSoFar (passed + 1) v u
     scan-next none = record { words = m.words ++ s.words; more = m.more ++ s.more; is = scan_is; clear = λ e a b. by e a b (e == start + 1 + passed) refl; missed = λ e a b. misses e a b (e == start + 1 + passed) refl }

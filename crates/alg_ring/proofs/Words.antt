@@ -6,9 +6,9 @@ use Rattle.std.proofs.lemmas.List.Elements.{Contains-append_left, Contains-appen
 use Rattle.std.specs.Prelude.{Some}
 use Rattle.rule_base.specs.declared.layout.At.{At}
 use Rattle.rule_base.specs.declared.views.SlotWord.{SlotWord}
-use Rattle.rule_base.specs.declared.views.TrailItem.{TrailItem}
+use Rattle.rule_base.specs.declared.views.TracedStep.{TracedStep}
 use Rattle.rule_ring.specs.Slots.{has_word, loaded_word}
-use Rattle.tx_answers.specs.SlotEvidence.{InTrail}
+use Rattle.tx_answers.specs.SlotEvidence.{InStepTrace}
 
 pub has-append : (xs ys : List SlotWord) (e i : ℕ) → has_word (xs ++ ys) e i ≡ (if has_word xs e i then true else has_word ys e i)
 has-append [] ys e i = refl
@@ -36,7 +36,7 @@ front-has xs ys e i h = (
   loaded-append xs ys e i ∙ ap (λ (b : Bool). if b then loaded_word xs e i else loaded_word ys e i) h,
 )
 
--- and those behind
+-- and those after
 pub back-has : (xs ys : List SlotWord) (e i : ℕ) → (has_word xs e i ≡ true → ⊥) → (has_word (xs ++ ys) e i ≡ has_word ys e i) × (loaded_word (xs ++ ys) e i ≡ loaded_word ys e i)
 back-has xs ys e i none = (
   has-append xs ys e i ∙ ap (λ (b : Bool). if b then true else has_word ys e i) (no (has_word xs e i) none),
@@ -84,8 +84,8 @@ last-of xs e i x t j P here else_ h = by (e == t) refl (i == j) refl h
     by false a q b k = else_ k
 
 -- steps before and after
-pub trail-right : (more xs : List TrailItem) (place : At) (n : ℕ) → InTrail xs place n → InTrail (more ++ xs) place n
-trail-right more xs place n f = (f.0, Contains-append_right more xs (record { place = place; act = f.0; found = Some n }) f.1)
+pub step_trace-right : (more xs : List TracedStep) (place : At) (n : ℕ) → InStepTrace xs place n → InStepTrace (more ++ xs) place n
+step_trace-right more xs place n f = (f.0, Contains-append_right more xs (record { place = place; act = f.0; found = Some n }) f.1)
 
-pub trail-left : (xs more : List TrailItem) (place : At) (n : ℕ) → InTrail xs place n → InTrail (xs ++ more) place n
-trail-left xs more place n f = (f.0, Contains-append_left xs more (record { place = place; act = f.0; found = Some n }) f.1)
+pub step_trace-left : (xs more : List TracedStep) (place : At) (n : ℕ) → InStepTrace xs place n → InStepTrace (xs ++ more) place n
+step_trace-left xs more place n f = (f.0, Contains-append_left xs more (record { place = place; act = f.0; found = Some n }) f.1)

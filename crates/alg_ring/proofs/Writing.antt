@@ -25,8 +25,8 @@ use Rattle.tx_answers.specs.declared.answers.Write.TheVariants as writes
 use Rattle.tx_answers.specs.Answers.{HasRead, HasWritten, Quits, StartMoves}
 use Rattle.tx_answers.specs.Causes.{has_item, is_some, reads_full, writes_full}
 use Rattle.tx_answers.specs.Causes.Asked.{ForWord}
-use Rattle.tx_answers.specs.Known.{known_of, written_under, is_irrevocable, is_in, is_closing, kept_under}
-use Rattle.tx_answers.specs.KnownLaws.{grows-same}
+use Rattle.tx_answers.specs.CallerState.{known_of, written_under, is_irrevocable, is_in, is_closing, kept_under}
+use Rattle.tx_answers.specs.CallerStateLaws.{grows-same}
 use Rattle.stm_gate.specs.KeptLaws.{kept-put, member-item, length-addresses}
 use Rattle.stm_gate.specs.InnerLaws.{goes-inner}
 use Rattle.stm_gate.specs.Leaving.{left}
@@ -56,7 +56,7 @@ module _ (good : List ℕ → Type 0) (c : Config) (n a : ℕ) (l : Local) (v : 
 
   pub reads-own : (x : ℕ) → item_at a l.writes.items ≡ Some x → x < 2 ^ 64 → HasRead good c n a (reads.Value x) (known_of v o) (known_of v o)
   reads-own x own small = (
-    goes-inner v v o i.phase (record { history = refl; gate = refl; lock = refl; writer = refl; fence = refl; start = refl; rises = refl; base = refl; installs = refl; trail = ([], refl) }),
+    goes-inner v v o i.phase (record { history = refl; gate = refl; lock = refl; writer = refl; fence = refl; start = refl; rises = refl; base = refl; installs = refl; step_trace = ([], refl) }),
     quiet,
     (
       refl,

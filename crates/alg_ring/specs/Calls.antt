@@ -7,7 +7,7 @@ use Rattle.stm_model.specs.declared.config.TheConstants.{CLOCK_LIMIT}
 use Rattle.rule_base.specs.declared.entries.Entry.{Entry}
 use Rattle.rule_base.specs.declared.layout.At.TheVariants.{Lock}
 use Rattle.rule_base.specs.declared.views.Act.TheVariants.{Store}
-use Rattle.rule_base.specs.declared.views.TrailItem.{TrailItem}
+use Rattle.rule_base.specs.declared.views.TracedStep.{TracedStep}
 use Rattle.rule_base.specs.declared.views.View.{View}
 use Rattle.rule_base.specs.Bridge.{of_words}
 use Rattle.rule_base.specs.History as rules
@@ -23,14 +23,14 @@ use Rattle.tx_answers.specs.declared.answers.Commit.{Commit}
 use Rattle.tx_answers.specs.declared.answers.Read.{Read}
 use Rattle.tx_answers.specs.declared.answers.Read.TheVariants.{Value, Conflict, Full}
 use Rattle.tx_answers.specs.Answers.{HasRead, KeepsRule, Commits}
-use Rattle.tx_answers.specs.Known.{Known, known_of, is_irrevocable, wrote}
+use Rattle.tx_answers.specs.CallerState.{CallerState, known_of, is_irrevocable, wrote}
 use Rattle.stm_gate.specs.Leaving.{CanLeave, left}
 use Rattle.alg_ring.specs.Checking.{IsFilterOf}
 
 -- what is to be written back is stored, and nothing else changed
 pub record WritesBack (v w : View) : Type 0 where
-  pub more : List TrailItem
-  pub is : w ≡ record v { ring_commit = record v.ring_commit { back = [] }; steps = record v.steps { trail = more ++ v.steps.trail } }
+  pub more : List TracedStep
+  pub is : w ≡ record v { ring_commit = record v.ring_commit { back = [] }; steps = record v.steps { step_trace = more ++ v.steps.step_trace } }
 
 -- the log's items are those that are to be written back
 pub record CanWriteBack (c : Config) (log : LogState) (v : View) : Type 0 where
@@ -41,12 +41,12 @@ pub record CanWriteBack (c : Config) (log : LogState) (v : View) : Type 0 where
 
 -- a promoted attempt has stored the items in the heap
 pub record Stores (log : LogState) (v w : View) : Type 0 where
-  pub more : List TrailItem
-  pub is : w ≡ record v { attempt = record v.attempt { stores = cells_of log.items ++ v.attempt.stores }; steps = record v.steps { trail = more ++ v.steps.trail } }
+  pub more : List TracedStep
+  pub is : w ≡ record v { attempt = record v.attempt { stores = cells_of log.items ++ v.attempt.stores }; steps = record v.steps { step_trace = more ++ v.steps.step_trace } }
 
 -- the lock was freed, and nothing is left of the turn
 abbrev pub freed : View → View
-freed v = record v { lock = no_lock; ring_commit = no_turn; steps = record v.steps { trail = record { place = Lock; act = Store 0; found = None } ∷ v.steps.trail } }
+freed v = record v { lock = no_lock; ring_commit = no_turn; steps = record v.steps { step_trace = record { place = Lock; act = Store 0; found = None } ∷ v.steps.step_trace } }
 
 module _ (good : List ℕ → Type 0) (c : Config) where
   -- the attempt has its turn, and its start is the clock
@@ -58,7 +58,7 @@ module _ (good : List ℕ → Type 0) (c : Config) where
     pub next : time ≡ v.ring_commit.clock + 1
     pub limit : time ≤ CLOCK_LIMIT
     pub settled : v.ring_read.loaded ≡ false
-    pub uncalm : v.gate.calm ≡ false
+    pub not_quiescent : v.gate.quiescent ≡ false
     pub buffers : Buffers c l
     pub spared : Apart v.gate.fence (cells_of l.writes.items)
     pub wrote : l.wrote ≡ true
@@ -70,7 +70,7 @@ module _ (good : List ℕ → Type 0) (c : Config) where
   writing l v = record v { ring_commit = record v.ring_commit { writes = cells_of l.writes.items } }
 
   -- the view after the entry, of these writes, in a world that had this history
-  abbrev pub entered_at : ℕ → ℕ → List Entry → Local → List TrailItem → View → View
+  abbrev pub entered_at : ℕ → ℕ → List Entry → Local → List TracedStep → View → View
   entered_at n time before l more v = record v {
     history = record v.history {
       made = ring_entry n time (writing l v) ∷ v.history.made;
@@ -80,13 +80,13 @@ module _ (good : List ℕ → Type 0) (c : Config) where
     attempt = record { start = 0; reads = []; stores = []; entered = v.attempt.entered };
     ring_read = no_read;
     ring_commit = record { slotted = 0; writes = cells_of l.writes.items; ticked = true; clock = time; committed = true; finished = false; back = cells_of l.writes.items };
-    steps = record v.steps { rises = v.steps.rises + 1; trail = more ++ v.steps.trail };
+    steps = record v.steps { rises = v.steps.rises + 1; step_trace = more ++ v.steps.step_trace };
   }
 
   -- the entry is in the history
   pub record Enters (n time : ℕ) (l : Local) (v w : View) : Type 0 where
     pub world : World
-    pub more : List TrailItem
+    pub more : List TracedStep
     pub is : w ≡ entered_at n time world.history l more v
     pub shown : RingEnters (of_words good c.words) c n time world (writing l v) time
 
@@ -104,7 +104,7 @@ module _ (good : List ℕ → Type 0) (c : Config) where
       pub named : (known_of v (own_of l)).alg ≡ RingSw
 
     -- a call told its caller so, and left a descriptor that stands
-    pub record StandsTold (tells : Known → Known → Type 0) (l : Local) (v : View) (m : Local) (w : View) : Type 0 where
+    pub record StandsTold (tells : CallerState → CallerState → Type 0) (l : Local) (v : View) (m : Local) (w : View) : Type 0 where
       pub stands : Stands good c n m w
       pub told : tells (known_of v (own_of l)) (known_of w (own_of m))
 
@@ -118,8 +118,8 @@ module _ (good : List ℕ → Type 0) (c : Config) where
     -- it had this view before, and took the lock
     pub record TookTurn (before : View) (l : Local) (v : View) : Type 0 where
       pub has : HasWrites l before
-      pub more : List TrailItem
-      pub is : v ≡ record before { lock = fresh_lock RingSw; ring_commit = no_turn; steps = record before.steps { trail = more ++ before.steps.trail } }
+      pub more : List TracedStep
+      pub is : v ≡ record before { lock = fresh_lock RingSw; ring_commit = no_turn; steps = record before.steps { step_trace = more ++ before.steps.step_trace } }
 
     -- what `turn` tells: it has its turn, or this is the answer
     abbrev pub Turns : Option Commit → Local → View → Local → View → Type 0

@@ -9,7 +9,7 @@ use Rattle.rule_base.specs.declared.layout.TheConstants.{SLOT_WORDS}
 use Rattle.rule_base.specs.declared.views.GateView.{GateView}
 use Rattle.rule_base.specs.declared.views.RingRead.{RingRead}
 use Rattle.rule_base.specs.declared.views.SlotWord.{SlotWord}
-use Rattle.rule_base.specs.declared.views.TrailItem.{TrailItem}
+use Rattle.rule_base.specs.declared.views.TracedStep.{TracedStep}
 use Rattle.rule_base.specs.declared.views.View.{View}
 use Rattle.rule_base.specs.Bridge.{of_words}
 use Rattle.rule_base.specs.GateSteps.{granted_at}
@@ -22,15 +22,15 @@ use Rattle.rule_ring.specs.SlotFilter.{slot_filter}
 use Rattle.rule_ring.specs.Slots.{slot_place, has_word, loaded_word}
 use Rattle.steps_ring.specs.RingFindings.{FindsLook}
 use Rattle.tx_logs.specs.Filters.{meets, lowest_common}
-use Rattle.tx_answers.specs.SlotEvidence.{InTrail, FirstMet, clock_load}
+use Rattle.tx_answers.specs.SlotEvidence.{InStepTrace, FirstMet, clock_load}
 
 -- the filter has the addresses of these cells
 abbrev pub IsFilterOf : List ℕ → List Cell → Type 0
 IsFilterOf filter watched = (i : ℕ) → i < SLOT_WORDS → slice_index filter i ≡ slot_filter.word watched i
 
 -- these slot words were loaded, by these steps, and nothing else changed
-abbrev pub with_words : View → List SlotWord → List TrailItem → View
-with_words v words more = record v { ring_read = record v.ring_read { words = words }; steps = record v.steps { trail = more ++ v.steps.trail } }
+abbrev pub with_words : View → List SlotWord → List TracedStep → View
+with_words v words more = record v { ring_read = record v.ring_read { words = words }; steps = record v.steps { step_trace = more ++ v.steps.step_trace } }
 
 -- ONE SLOT
 
@@ -63,20 +63,20 @@ module _ (ring time : ℕ) (filter : List ℕ) where
   -- words of a part of the slot were loaded, up to the first that has common bits
   pub record LoadsPart (part bits : ℕ) (v w : View) : Type 0 where
     pub words : List SlotWord
-    pub more : List TrailItem
+    pub more : List TracedStep
     pub is : w ≡ with_words v (words ++ v.ring_read.words) more
     pub of : (t i : ℕ) → has_word words t i ≡ true → (t ≡ time) × (4 * part ≤ i) × (i < 4 * part + 4)
-    pub found : (i : ℕ) → has_word words time i ≡ true → InTrail more (Slot (slot_place ring time i)) (loaded_word words time i)
+    pub found : (i : ℕ) → has_word words time i ≡ true → InStepTrace more (Slot (slot_place ring time i)) (loaded_word words time i)
     pub none : bits ≡ 0 → PartMisses part words
     pub some : bits ≢ 0 → FirstCommon part bits words
 
   -- words of the slot were loaded, as far as they tell whether it meets the filter
   pub record MeetsSlot (bits : ℕ) (v w : View) : Type 0 where
     pub words : List SlotWord
-    pub more : List TrailItem
+    pub more : List TracedStep
     pub is : w ≡ with_words v (words ++ v.ring_read.words) more
     pub of : (t i : ℕ) → has_word words t i ≡ true → t ≡ time
-    pub found : (i : ℕ) → has_word words time i ≡ true → InTrail more (Slot (slot_place ring time i)) (loaded_word words time i)
+    pub found : (i : ℕ) → has_word words time i ≡ true → InStepTrace more (Slot (slot_place ring time i)) (loaded_word words time i)
     -- whatever those words are that were not loaded
     pub apart : bits ≡ 0 → (slot : ℕ → ℕ) → ((i : ℕ) → i < SLOT_WORDS → has_word words time i ≡ true → loaded_word words time i ≡ slot i) → meets (slice_index filter) slot ≡ false
     pub missed : bits ≡ 0 → (part : ℕ) × (part < 4) × PartMisses part words
@@ -96,7 +96,7 @@ pub record CanScan (start clock : ℕ) (filter : List ℕ) (v : View) : Type 0 w
   pub watched : IsFilterOf filter v.ring_read.watched
 
 module _ (c : Config) (start clock : ℕ) where
-  abbrev pub OneMeets : Cause → List ℕ → List TrailItem → Type 0
+  abbrev pub OneMeets : Cause → List ℕ → List TracedStep → Type 0
   OneMeets (causes.Filter time bits) filter more = FirstMet c.ring start clock (slice_index filter) time bits more
   OneMeets (causes.Clock had now) filter more = ⊥
   OneMeets (causes.Record index word from) filter more = ⊥
@@ -105,25 +105,25 @@ module _ (c : Config) (start clock : ℕ) where
 
   -- what the loads of the slots tell
   abbrev pub MeetsOne : Option Cause → List ℕ → View → View → Type 0
-  MeetsOne None filter v w = (words : List SlotWord) × (more : List TrailItem) × (w ≡ with_words v words more) × AllClear slot_filter w
-  MeetsOne (Some cause) filter v w = (words : List SlotWord) × (more : List TrailItem) × (w ≡ with_words v words more) × OneMeets cause filter more
+  MeetsOne None filter v w = (words : List SlotWord) × (more : List TracedStep) × (w ≡ with_words v words more) × AllClear slot_filter w
+  MeetsOne (Some cause) filter v w = (words : List SlotWord) × (more : List TracedStep) × (w ≡ with_words v words more) × OneMeets cause filter more
 
-  -- a slot meets the filter, and the ring still reached back to the start when the clock was loaded behind it; or it no longer reaches back
-  abbrev pub Refutes : Cause → List ℕ → List TrailItem → Type 0
-  Refutes (causes.Filter time bits) filter more = (later : ℕ) × (loads : List TrailItem) × (more ≡ clock_load later ∷ loads) × (later < start + c.ring) × FirstMet c.ring start clock (slice_index filter) time bits loads
+  -- a slot meets the filter, and the ring still reached back to the start when the clock was loaded after it; or it no longer reaches back
+  abbrev pub Refutes : Cause → List ℕ → List TracedStep → Type 0
+  Refutes (causes.Filter time bits) filter more = (later : ℕ) × (loads : List TracedStep) × (more ≡ clock_load later ∷ loads) × (later < start + c.ring) × FirstMet c.ring start clock (slice_index filter) time bits loads
   Refutes (causes.Clock had now) filter more = ⊥
   Refutes (causes.Record index word from) filter more = ⊥
   Refutes (causes.Moved index before after) filter more = ⊥
-  Refutes (causes.Overrun from now) filter more = (from ≡ start) × (start + c.ring ≤ now) × ((now ≡ clock) ⊎ InTrail more Clock now)
+  Refutes (causes.Overrun from now) filter more = (from ≡ start) × (start + c.ring ≤ now) × ((now ≡ clock) ⊎ InStepTrace more Clock now)
 
-  -- the clock was loaded behind the slots, or not
-  abbrev pub scanned : View → List SlotWord → Bool → List TrailItem → View
-  scanned v words sure more = record v { ring_read = record v.ring_read { words = words; sure = sure }; steps = record v.steps { trail = more ++ v.steps.trail } }
+  -- the clock was loaded after the slots, or not
+  abbrev pub scanned : View → List SlotWord → Bool → List TracedStep → View
+  scanned v words sure more = record v { ring_read = record v.ring_read { words = words; sure = sure }; steps = record v.steps { step_trace = more ++ v.steps.step_trace } }
 
-  -- what the loads of the slots and of the clock behind them tell
+  -- what the loads of the slots and of the clock after them tell
   abbrev pub Scans : Result (Unit {0}) Cause → List ℕ → View → View → Type 0
-  Scans (Ok _) filter v w = (words : List SlotWord) × (more : List TrailItem) × (w ≡ scanned v words true more) × CanRingMove slot_filter w
-  Scans (Err cause) filter v w = (words : List SlotWord) × (sure : Bool) × (more : List TrailItem) × (w ≡ scanned v words sure more) × Refutes cause filter more
+  Scans (Ok _) filter v w = (words : List SlotWord) × (more : List TracedStep) × (w ≡ scanned v words true more) × CanRingMove slot_filter w
+  Scans (Err cause) filter v w = (words : List SlotWord) × (sure : Bool) × (more : List TracedStep) × (w ≡ scanned v words sure more) × Refutes cause filter more
 
 -- THE CHECK
 
@@ -132,7 +132,7 @@ pub record CanCheck (c : Config) (start : ℕ) (filter : List ℕ) (v : View) : 
   pub start_is : v.attempt.start ≡ start
   pub front_is : v.history.front ≡ start
   pub watched : IsFilterOf filter v.ring_read.watched
-  pub uncalm : v.gate.calm ≡ false
+  pub not_quiescent : v.gate.quiescent ≡ false
   pub sole : c.callers ≡ 1 → start ≡ c.clock + v.steps.rises
 
 pub record CanCheckToGrant (c : Config) (start : ℕ) (filter : List ℕ) (v : View) : Type 0 where
@@ -144,13 +144,13 @@ pub record CanCheckToGrant (c : Config) (start : ℕ) (filter : List ℕ) (v : V
   pub sole : c.callers ≡ 1 → start ≡ c.clock + v.steps.rises
 
 -- the view after a check that passed, in a world that it saw
-abbrev pub passed_at : World → ℕ → GateView → RingRead → List TrailItem → View → View
+abbrev pub passed_at : World → ℕ → GateView → RingRead → List TracedStep → View → View
 passed_at m start gate read more v = record v {
   history = record v.history { seen = upto m.history start; front = start };
   gate = gate;
   attempt = record { start = start; reads = read_in v; stores = v.attempt.stores; entered = v.attempt.entered };
   ring_read = read;
-  steps = record v.steps { trail = more ++ v.steps.trail };
+  steps = record v.steps { step_trace = more ++ v.steps.step_trace };
 }
 
 module _ (good : List ℕ → Type 0) (c : Config) where
@@ -158,7 +158,7 @@ module _ (good : List ℕ → Type 0) (c : Config) where
   pub record Passes (gate : GateView) (start : ℕ) (v w : View) : Type 0 where
     pub world : World
     pub read : RingRead
-    pub more : List TrailItem
+    pub more : List TracedStep
     pub is : w ≡ passed_at world start gate read more v
     pub sees : RingSees (of_words good c.words) c world v start
     -- the word under way has what was read of it before
@@ -167,18 +167,18 @@ module _ (good : List ℕ → Type 0) (c : Config) where
     pub inside : read.inside ≡ true
     pub settled : read.loaded ≡ false
     pub watched : read.watched ≡ v.ring_read.watched
-    pub moves : (start ≡ v.attempt.start) ⊎ ((clock done : ℕ) × InTrail more Clock clock × InTrail more Done done × (start ≡ max v.attempt.start (min done clock)))
+    pub moves : (start ≡ v.attempt.start) ⊎ ((clock done : ℕ) × InStepTrace more Clock clock × InStepTrace more Done done × (start ≡ max v.attempt.start (min done clock)))
     -- with one caller alone it is where it was
     pub sole : c.callers ≡ 1 → start ≡ v.attempt.start
 
   -- the check failed: nothing changed but what the check itself is about
   pub record Fails (cause : Cause) (filter : List ℕ) (v w : View) : Type 0 where
     pub read : RingRead
-    pub more : List TrailItem
-    pub is : w ≡ record v { ring_read = read; steps = record v.steps { trail = more ++ v.steps.trail } }
+    pub more : List TracedStep
+    pub is : w ≡ record v { ring_read = read; steps = record v.steps { step_trace = more ++ v.steps.step_trace } }
     pub others : c.callers ≢ 1
     pub clock : ℕ
-    pub loads : List TrailItem
+    pub loads : List TracedStep
     pub parts : more ≡ loads ++ clock_load clock ∷ []
     pub refutes : Refutes c v.attempt.start clock cause filter loads
 
@@ -193,5 +193,5 @@ module _ (good : List ℕ → Type 0) (c : Config) where
 
   -- what `check_to_grant` tells
   abbrev pub ChecksToGrant : Result ℕ Cause → List ℕ → View → View → Type 0
-  ChecksToGrant (Ok start) filter v w = Passes (granted_at v.gate.time v.gate) start v w × (start ≡ v.gate.time) × ((more : List TrailItem) × (w.steps.trail ≡ more ++ v.steps.trail) × InTrail more Clock start)
+  ChecksToGrant (Ok start) filter v w = Passes (granted_at v.gate.time v.gate) start v w × (start ≡ v.gate.time) × ((more : List TracedStep) × (w.steps.step_trace ≡ more ++ v.steps.step_trace) × InStepTrace more Clock start)
   ChecksToGrant (Err cause) filter v w = Fails cause filter v w

@@ -6,7 +6,7 @@ use Rattle.rule_base.specs.declared.views.View.{View}
 use Rattle.stm_rule.specs.declared.local.Local.{Local}
 use Rattle.stm_rule.specs.declared.stm.Stm.{Stm}
 use Rattle.stm_rule.specs.Callers.{Handle}
-use Rattle.tx_answers.specs.Known.{Known}
+use Rattle.tx_answers.specs.CallerState.{CallerState}
 use Rattle.stm_gate.specs.Knowing.{known}
 use Rattle.alg_ring.specs.Calls.{HasAttempt}
 pub use Rattle.stm_gate.specs.Opening.{Opened, opened, of-view, tells-of, stands-after}
@@ -15,6 +15,6 @@ module _ {K : Type 0} (good : K → List ℕ → Type 0) (stm : Stm K) {e : Hand
   pub has-attempt : (known e).running ≡ true → (known e).alg ≡ RingSw → HasAttempt (good stm.rule) stm.config n l v
   has-attempt running alg = record {
     stands = a.stands;
-    running = ap (λ (k : Known). k.running) (sym a.knows) ∙ running;
-    named = ap (λ (k : Known). k.alg) (sym a.knows) ∙ alg;
+    running = ap (λ (k : CallerState). k.running) (sym a.knows) ∙ running;
+    named = ap (λ (k : CallerState). k.alg) (sym a.knows) ∙ alg;
   }

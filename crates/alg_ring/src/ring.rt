@@ -15,7 +15,7 @@ ghost use Rattle.stm_rule.specs.Callers.{IsOf, IsSameCaller, IsSeatOf};
 ghost use Rattle.stm_rule.specs.Kept.{IsSameSeat, view_of};
 ghost use Rattle.stm_rule.specs.RecordsKept.{Apart, cells_of};
 ghost use Rattle.tx_answers.specs.Answers.{Commits};
-ghost use Rattle.tx_answers.specs.Known.{IsRunning, is_irrevocable};
+ghost use Rattle.tx_answers.specs.CallerState.{IsRunning, is_irrevocable};
 ghost use Rattle.stm_gate.specs.Granting.{IsAlone, Grants};
 ghost use Rattle.rule_base.specs.Encodings.{fenced};
 ghost use Rattle.stm_gate.specs.Knowing.{known, number};
@@ -110,7 +110,7 @@ impl Algorithm for RingSw {
 
     /// Promotes the attempt where it is alone and its check passes. The steps of a promotion and of a check, one more,
     /// and one for each item of the write log.
-    fn become_irrevocable<K: MemRule>(desc: &mut Desc<K>, stm: &Stm<K>) -> Irrev {
+    fn try_irrevocable<K: MemRule>(desc: &mut Desc<K>, stm: &Stm<K>) -> Irrev {
         if desc.local.granted {
             return Irrev::Granted;
         }

@@ -13,7 +13,7 @@ use Rattle.rule_base.specs.declared.layout.At.TheVariants.{Clock, Lock}
 use Rattle.rule_base.specs.declared.views.Act.TheVariants.{Load, Store, Exchange}
 use Rattle.rule_base.specs.declared.views.GateView.{GateView}
 use Rattle.rule_base.specs.declared.views.LockView.{LockView}
-use Rattle.rule_base.specs.declared.views.TrailItem.{TrailItem}
+use Rattle.rule_base.specs.declared.views.TracedStep.{TracedStep}
 use Rattle.rule_base.specs.declared.views.View.{View}
 use Rattle.rule_base.specs.Bridge.{addresses, items, of_words, public_history}
 use Rattle.rule_base.specs.Encodings.{taken_lock}
@@ -27,8 +27,8 @@ use Rattle.tx_answers.specs.declared.answers.Begin.TheVariants.{Held, ClockFull}
 use Rattle.tx_answers.specs.Answers.{IsHeld, start_word}
 use Rattle.tx_answers.specs.Causes.{NamesOther}
 use Rattle.tx_answers.specs.Evidence.{Found}
-use Rattle.tx_answers.specs.Known.{Known, Grows, known_of, granted_under, kept_under, locked_under}
-use Rattle.tx_answers.specs.KnownLaws.{grows-same}
+use Rattle.tx_answers.specs.CallerState.{CallerState, Grows, known_of, granted_under, kept_under, locked_under}
+use Rattle.tx_answers.specs.CallerStateLaws.{grows-same}
 use Rattle.stm_gate.specs.Opacity.{opaque-at, later-seen}
 use Rattle.stm_gate.specs.LeavingLaws.{finds-full}
 use Rattle.stm_gate.specs.Starts.{CanBegin, StartsAt, Refuses}
@@ -85,7 +85,7 @@ module _ (good : List ℕ → Type 0) (c : Config) (n : ℕ) (a : Alg) (locks : 
   abbrev pub rule : (ℕ → ℕ) → Type 0
   rule = of_words good c.words
 
-  held-lock : (b : Alg) (x : ℕ) (v w : Known) → takes_lock b ≡ true → Found Lock x v w × NamesOther c n x → IsHeld good c n b x v w
+  held-lock : (b : Alg) (x : ℕ) (v w : CallerState) → takes_lock b ≡ true → Found Lock x v w × NamesOther c n x → IsHeld good c n b x v w
   held-lock Cgl x v w t h = h
   held-lock Serial x v w t h = h
   held-lock Tml x v w t h = absurd cc
@@ -118,7 +118,7 @@ module _ (good : List ℕ → Type 0) (c : Config) (n : ℕ) (a : Alg) (locks : 
       u : View
       u = view_after (take_lock n) t.0 v x
 
-      step : TrailItem
+      step : TracedStep
       step = record { place = Lock; act = Exchange 0 (taken_lock n); found = Some x }
 
   abbrev pub took : World → View → View
@@ -137,7 +137,7 @@ module _ (good : List ℕ → Type 0) (c : Config) (n : ℕ) (a : Alg) (locks : 
         up_to = l.3;
         front_rose = b.front;
         more = record { place = Clock; act = Load; found = Some clock } ∷ record { place = Lock; act = Exchange 0 (taken_lock n); found = Some 0 } ∷ [];
-        trail = refl;
+        step_trace = refl;
         reads_limit = refl;
         writes_limit = refl;
         fenced = refl;
@@ -217,7 +217,7 @@ module _ (good : List ℕ → Type 0) (c : Config) (n : ℕ) (a : Alg) (locks : 
       can = record { phase = can.phase; named = can.named; reopened = can.reopened; ungranted = can.ungranted; clear = record { unlocked = refl; disowned = can.clear.disowned; unwritten = can.clear.unwritten; uncommitted = can.clear.uncommitted; unentered = refl; unfixed = refl }; unentered = can.unentered; rises = can.rises };
       keeps = λ o. let h = grows-started v f.0 l.0 clock o b in record {
         made = refl;
-        grows = record { later = h.later; is = h.is; ascending = h.ascending; up_to = h.up_to; front_rose = h.front_rose; more = freed ∷ h.more; trail = ap (λ s. freed ∷ s) h.trail; reads_limit = refl; writes_limit = refl; fenced = refl };
+        grows = record { later = h.later; is = h.is; ascending = h.ascending; up_to = h.up_to; front_rose = h.front_rose; more = freed ∷ h.more; step_trace = ap (λ s. freed ∷ s) h.step_trace; reads_limit = refl; writes_limit = refl; fenced = refl };
         rises = refl;
         installs = refl;
       };
@@ -226,7 +226,7 @@ module _ (good : List ℕ → Type 0) (c : Config) (n : ℕ) (a : Alg) (locks : 
     λ o. finds-full clock v last o o high (freed ∷ record { place = Clock; act = Load; found = Some clock } ∷ record { place = Lock; act = Exchange 0 (taken_lock n); found = Some 0 } ∷ [], refl, Load, (1, omega arith, refl)),
   )
     where
-      freed : TrailItem
+      freed : TracedStep
       freed = record { place = Lock; act = Store 0; found = None }
 
       first : t ≡ took f.0 v

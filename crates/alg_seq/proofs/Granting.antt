@@ -15,17 +15,17 @@ use Rattle.rule_base.specs.StepKinds.{Tells}
 use Rattle.rule_seq.specs.CglSteps.{load_limit, LoadsLimit, fixed_lock}
 use Rattle.stm_rule.specs.declared.local.Local.{Local}
 use Rattle.stm_rule.specs.Attempts.{IsInside}
-use Rattle.tx_answers.specs.Answers.{BecomesIrrevocable}
+use Rattle.tx_answers.specs.Answers.{TriesIrrevocable}
 use Rattle.tx_answers.specs.Evidence.{Found}
-use Rattle.tx_answers.specs.Known.{known_of, kept_under, is_in, is_closing, granted_under, is_irrevocable, wrote}
-use Rattle.tx_answers.specs.KnownLaws.{grows-same}
+use Rattle.tx_answers.specs.CallerState.{known_of, kept_under, is_in, is_closing, granted_under, is_irrevocable, wrote}
+use Rattle.tx_answers.specs.CallerStateLaws.{grows-same}
 use Rattle.alg_seq.specs.Storing.{IsClocked}
 use Rattle.alg_seq.proofs.Locked.{written-plain, still-opaque}
 use Rattle.alg_seq.proofs.Keeping.{named, locks, irrevocable-by, revocable-by}
 
 -- the view after the load, by whether the clock is below its limit
 abbrev pub asked : View → ℕ → Bool → View
-asked v clock below = record v { lock = if below then fixed_lock v.lock else record v.lock { clocked = true }; steps = record v.steps { trail = record { place = Clock; act = Load; found = Some clock } ∷ v.steps.trail } }
+asked v clock below = record v { lock = if below then fixed_lock v.lock else record v.lock { clocked = true }; steps = record v.steps { step_trace = record { place = Clock; act = Load; found = Some clock } ∷ v.steps.step_trace } }
 
 pub clocked-full : (v u : View) (clock : ℕ) → CLOCK_LIMIT ≤ clock → Tells (load_limit true) LoadsLimit v clock u → IsClocked v u × ((o : Own) → Found Clock clock (known_of v o) (known_of u o))
 clocked-full v u clock high t = let path : u ≡ asked v clock false = t.2 ∙ ap (asked v clock) no in (
@@ -37,8 +37,8 @@ clocked-full v u clock high t = let path : u ≡ asked v clock false = t.2 ∙ a
     no = grind (arith, nat_tests)
 
 pub tells-granted : (good : List ℕ → Type 0) (c : Config) (n : ℕ) (l : Local) (v : View) (i : IsInside good c n l v) (serial : l.algorithm ≡ Serial) (clock : ℕ) (u : View) (o : Own) → o.committing ≡ false → l.granted ≡ false → clock < CLOCK_LIMIT
-    → Tells (load_limit true) LoadsLimit v clock u → BecomesIrrevocable good c n (known_of v o) (known_of u o)
-tells-granted good c n l v i serial clock u o settled revocable low t = subst (λ (y : View). BecomesIrrevocable good c n (known_of v o) (known_of y o)) (sym path) (record {
+    → Tells (load_limit true) LoadsLimit v clock u → TriesIrrevocable good c n (known_of v o) (known_of u o)
+tells-granted good c n l v i serial clock u o settled revocable low t = subst (λ (y : View). TriesIrrevocable good c n (known_of v o) (known_of y o)) (sym path) (record {
   continues = record {
     running = ap is_in i.phase;
     closing = ap is_closing i.phase;

@@ -11,7 +11,7 @@ use Rattle.stm_model.specs.Memories.{item_at, put}
 use Rattle.tx_logs.specs.LogStates.{LogState}
 use Rattle.rule_base.specs.declared.entries.Cell.{Cell}
 use Rattle.rule_base.specs.declared.views.LockView.{LockView}
-use Rattle.rule_base.specs.declared.views.TrailItem.{TrailItem}
+use Rattle.rule_base.specs.declared.views.TracedStep.{TracedStep}
 use Rattle.rule_base.specs.declared.views.View.{View}
 use Rattle.rule_base.specs.Bridge.{addresses, items}
 use Rattle.rule_base.specs.Encodings.{fenced}
@@ -27,18 +27,18 @@ use Rattle.tx_answers.specs.Answers.{Quits, EndsAt}
 use Rattle.rule_base.specs.declared.layout.At.TheVariants.{Clock}
 use Rattle.tx_answers.specs.Causes.{has_item, is_some, writes_full, FindsFull}
 use Rattle.tx_answers.specs.Evidence.{Found}
-use Rattle.tx_answers.specs.Known.{known_of, granted_under, kept_under, written_under, is_irrevocable, wrote}
+use Rattle.tx_answers.specs.CallerState.{known_of, granted_under, kept_under, written_under, is_irrevocable, wrote}
 use Rattle.stm_gate.specs.InnerLaws.{never-full}
 use Rattle.stm_gate.specs.KeptLaws.{member-item, length-addresses, kept-same, kept-irrevocable, kept-plain, cells-longer}
-use Rattle.stm_gate.specs.LeavingLaws.{IsUnmade, quits-left, ended-left, trail-left, found-later, finds-full}
+use Rattle.stm_gate.specs.LeavingLaws.{IsUnmade, quits-left, ended-left, step_trace-left, found-later, finds-full}
 use Rattle.stm_gate.specs.Opacity.{opaque-inside}
 use Rattle.alg_seq.specs.Storing.{GivesUp, IsClocked, HasLogged, HasPlace, MayStore}
 use Rattle.alg_seq.proofs.Undoing.{covers-more}
 use Rattle.alg_seq.proofs.Locked.{locked, keeps-by, written-plain, IsLogged, logged-refl, tells-store, still-opaque}
 
 -- the view with this lock and these steps
-abbrev pub aside : View → LockView → List TrailItem → View
-aside v k more = record v { lock = k; steps = record v.steps { trail = more ++ v.steps.trail } }
+abbrev pub aside : View → LockView → List TracedStep → View
+aside v k more = record v { lock = k; steps = record v.steps { step_trace = more ++ v.steps.step_trace } }
 
 none-of : (o : Option ℕ) → is_some o ≡ false → o ≡ None
 none-of None e = refl
@@ -97,7 +97,7 @@ module _ (good : List ℕ → Type 0) (c : Config) (n : ℕ) (l : Local) (v : Vi
       by true e f = subst (λ k. fenced l.fence k ≡ false) (let is : a ≡ b = grind (arith, nat_tests) in is) out
       by false e f = h b f
 
-  stored : (log buffer : LogState) (k : LockView) (more : List TrailItem) (a x : ℕ) (m : World) → k.taken ≡ true → k.started ≡ true → k.irrevocable ≡ l.granted → l.start < CLOCK_LIMIT
+  stored : (log buffer : LogState) (k : LockView) (more : List TracedStep) (a x : ℕ) (m : World) → k.taken ≡ true → k.started ≡ true → k.irrevocable ≡ l.granted → l.start < CLOCK_LIMIT
       → (k.irrevocable ≡ false → (log.items ≡ items k.undo) × (length log.items ≤ log.len)) → (k.irrevocable ≡ false → (b : ℕ) → touches (record { at = a; value = x } ∷ v.attempt.stores) b ≡ true → touches k.undo b ≡ true) → Inside c.words k.undo
       → (k.irrevocable ≡ false → (buffer.items ≡ put a x (items v.attempt.stores)) × (length buffer.marks ≡ l.depth)) → fenced l.fence a ≡ false
       → IsInside good c n (record l { undo = log; writes = buffer; wrote = true }) (view_after (store_heap a x) m (aside v k more) x)
@@ -179,21 +179,21 @@ module _ (good : List ℕ → Type 0) (c : Config) (n : ℕ) (l : Local) (v : Vi
     written = λ o own p. tells-store good c n a x v w o p i.phase locks own.0
         (room-by a o revocable (own.1 ∙ h.undo_len) place)
         (ap (λ (alg : Alg). kept_under alg (view_after (store_heap a x) p w x) o) (ap (λ (y : View). y.gate.algorithm) path ∙ named) ∙ (h.kept ∙ (ap (λ (y : View). if member (addresses (items y.lock.undo)) a then addresses (items y.lock.undo) else addresses (items y.lock.undo) ++ a ∷ []) k.is ∙ sym (kept-plain a (known_of v o) (ap logs_writes named) (revocable-by o ∙ rev) ∙ ap (λ (alg : Alg). if member (kept_under alg v o) a then kept_under alg v o else kept_under alg v o ++ a ∷ []) named))))
-        (subst (λ (y : View). IsLogged v y) (sym path) (record { history = refl; gate = refl; irrevocable = ap (λ (y : View). y.lock.irrevocable) flat ∙ ap (λ (y : View). y.lock.irrevocable) k.is; taken = ap (λ (y : View). y.lock.taken) flat ∙ ap (λ (y : View). y.lock.taken) k.is; writer = refl; fence = refl; start = refl; rises = refl; base = refl; installs = refl; trail = (more, refl) }))
+        (subst (λ (y : View). IsLogged v y) (sym path) (record { history = refl; gate = refl; irrevocable = ap (λ (y : View). y.lock.irrevocable) flat ∙ ap (λ (y : View). y.lock.irrevocable) k.is; taken = ap (λ (y : View). y.lock.taken) flat ∙ ap (λ (y : View). y.lock.taken) k.is; writer = refl; fence = refl; start = refl; rises = refl; base = refl; installs = refl; step_trace = (more, refl) }))
         (ap (λ (y : View). y.attempt) path) (still-opaque good c n l v o i);
   }
     where
-      more : List TrailItem
+      more : List TracedStep
       more = h.more ++ k.more
 
-      flat : w ≡ record u { lock = record u.lock { undo = w.lock.undo }; steps = record u.steps { trail = h.more ++ u.steps.trail } }
+      flat : w ≡ record u { lock = record u.lock { undo = w.lock.undo }; steps = record u.steps { step_trace = h.more ++ u.steps.step_trace } }
       flat = h.is
 
       same : record u.lock { undo = w.lock.undo } ≡ w.lock
       same = ap (λ (y : View). y.lock) (sym h.is)
 
       path : w ≡ aside v w.lock more
-      path = h.is ∙ (λ d. record (k.is d) { lock = same d; steps = record (k.is d).steps { trail = h.more ++ (k.is d).steps.trail } }) ∙ (λ d. record v { lock = w.lock; steps = record v.steps { trail = sym (append_assoc h.more k.more v.steps.trail) d } })
+      path = h.is ∙ (λ d. record (k.is d) { lock = same d; steps = record (k.is d).steps { step_trace = h.more ++ (k.is d).steps.step_trace } }) ∙ (λ d. record v { lock = w.lock; steps = record v.steps { step_trace = sym (append_assoc h.more k.more v.steps.step_trace) d } })
 
   pub unmade-clocked : (u t : View) → IsClocked v u → IsUnmade u t → IsUnmade v t
   unmade-clocked u t k m = record {
@@ -202,7 +202,7 @@ module _ (good : List ℕ → Type 0) (c : Config) (n : ℕ) (l : Local) (v : Vi
       base = m.carried.base ∙ ap (λ (y : View). y.steps.rises_at_begin) k.is;
       installs = m.carried.installs ∙ ap (λ (y : View). y.steps.installs) k.is;
       fence = m.carried.fence ∙ ap (λ (y : View). y.fence) k.is;
-      trail = (m.carried.trail.0 ++ k.more, m.carried.trail.1 ∙ (ap (λ (y : View). m.carried.trail.0 ++ y.steps.trail) k.is ∙ sym (append_assoc m.carried.trail.0 k.more v.steps.trail)));
+      step_trace = (m.carried.step_trace.0 ++ k.more, m.carried.step_trace.1 ∙ (ap (λ (y : View). m.carried.step_trace.0 ++ y.steps.step_trace) k.is ∙ sym (append_assoc m.carried.step_trace.0 k.more v.steps.step_trace)));
       unlocked = m.carried.unlocked;
       unwritten = m.carried.unwritten;
     };
@@ -221,5 +221,5 @@ module _ (good : List ℕ → Type 0) (c : Config) (n : ℕ) (l : Local) (v : Vi
 
   -- the clock that was found at its limit, as it is told after the end
   pub full-after : (clock : ℕ) (u w : View) (o : Own) → CLOCK_LIMIT ≤ clock → Found Clock clock (known_of v o) (known_of u o) → GivesUp n u w → FindsFull clock (known_of v o) (known_of w o)
-  full-after clock u w o high found g = let t = trail-left n u g.before g.unmade.carried in
-      finds-full clock v w o o high (found-later Clock clock (known_of v o) (known_of u o) (known_of w o) found t.0 (ap (λ (y : View). y.steps.trail) g.is ∙ t.1))
+  full-after clock u w o high found g = let t = step_trace-left n u g.before g.unmade.carried in
+      finds-full clock v w o o high (found-later Clock clock (known_of v o) (known_of u o) (known_of w o) found t.0 (ap (λ (y : View). y.steps.step_trace) g.is ∙ t.1))

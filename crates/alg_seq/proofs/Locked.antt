@@ -16,7 +16,7 @@ use Rattle.rule_base.specs.declared.views.GateView.{GateView}
 use Rattle.rule_base.specs.declared.views.LockView.{LockView}
 use Rattle.rule_base.specs.declared.views.Phase.TheVariants.{In}
 use Rattle.rule_base.specs.declared.views.SeenHistory.{SeenHistory}
-use Rattle.rule_base.specs.declared.views.TrailItem.{TrailItem}
+use Rattle.rule_base.specs.declared.views.TracedStep.{TracedStep}
 use Rattle.rule_base.specs.declared.views.View.{View}
 use Rattle.rule_base.specs.Bridge.{items, of_words, public_history}
 use Rattle.rule_base.specs.BridgeLemmas.{keeps-cells}
@@ -32,8 +32,8 @@ use Rattle.tx_answers.specs.declared.answers.Write.TheVariants.{Done}
 use Rattle.tx_answers.specs.Answers as answers
 use Rattle.tx_answers.specs.Answers.{kept_with, GoesOn, HasRead, HasWritten, KeepsRule, CommitsAt, EndsAt, RisesWithout}
 use Rattle.tx_answers.specs.Causes.{Asked, has_item, reads_full, writes_full}
-use Rattle.tx_answers.specs.Known.{Known, known_of, fenced_of, granted_under, locked_under, written_under, kept_under, is_in, is_closing, is_irrevocable, wrote}
-use Rattle.tx_answers.specs.KnownLaws.{grows-same}
+use Rattle.tx_answers.specs.CallerState.{CallerState, known_of, fenced_of, granted_under, locked_under, written_under, kept_under, is_in, is_closing, is_irrevocable, wrote}
+use Rattle.tx_answers.specs.CallerStateLaws.{grows-same}
 use Rattle.stm_gate.specs.InnerLaws.{start-stays}
 use Rattle.stm_gate.specs.KeptLaws.{kept-same}
 use Rattle.stm_gate.specs.Leaving.{left}
@@ -112,10 +112,10 @@ pub record IsLogged (v w : View) : Type 0 where
   pub rises : w.steps.rises ≡ v.steps.rises
   pub base : w.steps.rises_at_begin ≡ v.steps.rises_at_begin
   pub installs : w.steps.installs ≡ v.steps.installs
-  pub trail : (more : List TrailItem) × (w.steps.trail ≡ more ++ v.steps.trail)
+  pub step_trace : (more : List TracedStep) × (w.steps.step_trace ≡ more ++ v.steps.step_trace)
 
 pub logged-refl : (v : View) → IsLogged v v
-logged-refl v = record { history = refl; gate = refl; irrevocable = refl; taken = refl; writer = refl; fence = refl; start = refl; rises = refl; base = refl; installs = refl; trail = ([], refl) }
+logged-refl v = record { history = refl; gate = refl; irrevocable = refl; taken = refl; writer = refl; fence = refl; start = refl; rises = refl; base = refl; installs = refl; step_trace = ([], refl) }
 
 pub goes-on : {c : Config} {asked : Asked} → (v w : View) (o : Own) → v.gate.phase ≡ In → IsLogged v w → GoesOn c asked (known_of v o) (known_of w o)
 goes-on {c} {asked} v w o inside i = record {
@@ -123,7 +123,7 @@ goes-on {c} {asked} v w o inside i = record {
     running = ap (λ (g : GateView). is_in g.phase) i.gate ∙ ap is_in inside;
     closing = ap (λ (g : GateView). is_closing g.phase) i.gate ∙ ap is_closing inside;
     made = ap (λ (h : SeenHistory). public_history h.made) i.history;
-    grows = grows-same (known_of v o) (known_of w o) (ap (λ (h : SeenHistory). public_history h.seen) i.history) (ap (λ (h : SeenHistory). h.front) i.history) i.trail.0 i.trail.1 refl refl (ap fenced_of i.fence);
+    grows = grows-same (known_of v o) (known_of w o) (ap (λ (h : SeenHistory). public_history h.seen) i.history) (ap (λ (h : SeenHistory). h.front) i.history) i.step_trace.0 i.step_trace.1 refl refl (ap fenced_of i.fence);
     alg = ap (λ (g : GateView). g.algorithm) i.gate;
     fence = ap (λ (g : GateView). g.fence) i.gate;
     base = i.base;
@@ -140,7 +140,7 @@ goes-on {c} {asked} v w o inside i = record {
   marks = refl;
 }
 
-reads-free : (a : ℕ) (v : Known) → takes_lock v.alg ≡ true → reads_full a v ≡ false
+reads-free : (a : ℕ) (v : CallerState) → takes_lock v.alg ≡ true → reads_full a v ≡ false
 reads-free a v t = ap (λ b. b && (not (is_irrevocable v) && (not (has_item a v.log.writes) && (not (has_item a v.log.reads) && (length v.log.reads == v.reads_limit))))) (no-read-log v.alg t)
 
 module _ (good : List ℕ → Type 0) (c : Config) (n : ℕ) where
@@ -153,7 +153,7 @@ module _ (good : List ℕ → Type 0) (c : Config) (n : ℕ) where
   pub tells-read : (a x : ℕ) (l : Local) (v w : View) (o : Own) → a < c.words → IsInside good c n l v → takes_lock v.gate.algorithm ≡ true → o.committing ≡ false → Tells (load_heap a) (Loads rule c a) v x w
       → HasRead good c n a (Value x) (known_of v o) (known_of w o)
   tells-read a x l v w o low i locks settled t = subst (λ (u : View). HasRead good c n a (Value x) (known_of v o) (known_of u o)) (sym t.2) (
-    goes-on v u o i.phase (record { history = refl; gate = refl; irrevocable = refl; taken = refl; writer = refl; fence = refl; start = refl; rises = refl; base = refl; installs = refl; trail = (record { place = Heap a; act = Load; found = Some x } ∷ [], refl) }),
+    goes-on v u o i.phase (record { history = refl; gate = refl; irrevocable = refl; taken = refl; writer = refl; fence = refl; start = refl; rises = refl; base = refl; installs = refl; step_trace = (record { place = Heap a; act = Load; found = Some x } ∷ [], refl) }),
     settled,
     subst (λ (ws : List (ℕ × ℕ)). Reads (known_of v o).log a x (record { reads = items u.attempt.reads; writes = ws })) (sym (written-plain v.gate.algorithm v.gate.granted u o locks))
         (subst (λ (ws : List (ℕ × ℕ)). Reads (record { reads = items v.attempt.reads; writes = ws }) a x (record { reads = items u.attempt.reads; writes = items v.attempt.stores })) (sym (written-plain v.gate.algorithm v.gate.granted v o locks))
@@ -173,7 +173,7 @@ module _ (good : List ℕ → Type 0) (c : Config) (n : ℕ) where
       → IsLogged v w → w.attempt ≡ v.attempt → ((u : View) → u.history ≡ v.history → u.attempt.start ≡ v.attempt.start → u.attempt.reads ≡ v.attempt.reads → answers.IsOpaque good c n (known_of u o))
       → HasWritten good c n a x Done (known_of v o) (known_of (view_after (store_heap a x) m w x) o)
   tells-store a x v w o m inside locks settled room kept i same opaque = (
-    goes-on v u o inside (record { history = i.history; gate = i.gate; irrevocable = i.irrevocable; taken = i.taken; writer = i.writer; fence = i.fence; start = i.start; rises = i.rises; base = i.base; installs = i.installs; trail = (record { place = Heap a; act = Store x; found = None } ∷ i.trail.0, ap (λ t. record { place = Heap a; act = Store x; found = None } ∷ t) i.trail.1) }),
+    goes-on v u o inside (record { history = i.history; gate = i.gate; irrevocable = i.irrevocable; taken = i.taken; writer = i.writer; fence = i.fence; start = i.start; rises = i.rises; base = i.base; installs = i.installs; step_trace = (record { place = Heap a; act = Store x; found = None } ∷ i.step_trace.0, ap (λ t. record { place = Heap a; act = Store x; found = None } ∷ t) i.step_trace.1) }),
     settled,
     subst (λ (ws : List (ℕ × ℕ)). logs.Writes (known_of v o).log a x (record { reads = items u.attempt.reads; writes = ws })) (sym (written-plain w.gate.algorithm w.gate.granted u o (ap (λ (g : GateView). takes_lock g.algorithm) i.gate ∙ locks)))
         (subst (λ (ws : List (ℕ × ℕ)). logs.Writes (record { reads = items v.attempt.reads; writes = ws }) a x (record { reads = items w.attempt.reads; writes = put a x (items w.attempt.stores) })) (sym (written-plain v.gate.algorithm v.gate.granted v o locks))
@@ -197,7 +197,7 @@ module _ (good : List ℕ → Type 0) (c : Config) (n : ℕ) where
       (subst (λ (r : List Cell). Inside c.words r) (sym reads) i.reads_inside)
 
   -- an irrevocable attempt stays as it is
-  pub stays-irrevocable : (l : Local) (v : View) (o : Own) → IsInside good c n l v → o.committing ≡ false → is_irrevocable (known_of v o) ≡ true → answers.BecomesIrrevocable good c n (known_of v o) (known_of v o)
+  pub stays-irrevocable : (l : Local) (v : View) (o : Own) → IsInside good c n l v → o.committing ≡ false → is_irrevocable (known_of v o) ≡ true → answers.TriesIrrevocable good c n (known_of v o) (known_of v o)
   stays-irrevocable l v o i settled irrevocable = record {
     continues = record {
       running = ap is_in i.phase;
@@ -249,7 +249,7 @@ module _ (good : List ℕ → Type 0) (c : Config) (n : ℕ) where
   )
     where
       unmade : IsUnmade v (view_after free_lock t.0 v 0)
-      unmade = record { carried = record { named = refl; base = refl; installs = refl; fence = refl; trail = (record { place = Lock; act = Store 0; found = None } ∷ [], refl); unlocked = refl; unwritten = (locked l v locks i).unwritten }; history = refl }
+      unmade = record { carried = record { named = refl; base = refl; installs = refl; fence = refl; step_trace = (record { place = Lock; act = Store 0; found = None } ∷ [], refl); unlocked = refl; unwritten = (locked l v locks i).unwritten }; history = refl }
 
   pub tells-committed : (l : Local) (v s u : View) (o : Own) → IsInside good c n l v → takes_lock v.gate.algorithm ≡ true → l.wrote ≡ true → Tells (store_clock n (l.start + 1)) (Commits rule c n (l.start + 1)) v (l.start + 1) s → Tells free_lock Nothing s 0 u
       → CommitsAt good c n (l.start + 1) (known_of v o) (known_of (left n u) o)
@@ -265,7 +265,7 @@ module _ (good : List ℕ → Type 0) (c : Config) (n : ℕ) where
 
       made : v.steps.rises ≡ v.steps.rises_at_begin → IsMade n (l.start + 1) r.0.history v last
       made rises = record {
-        carried = record { named = refl; base = refl; installs = refl; fence = refl; trail = (record { place = Lock; act = Store 0; found = None } ∷ record { place = Clock; act = Store (l.start + 1); found = None } ∷ [], refl); unlocked = refl; unwritten = (locked l v locks i).unwritten };
+        carried = record { named = refl; base = refl; installs = refl; fence = refl; step_trace = (record { place = Lock; act = Store 0; found = None } ∷ record { place = Clock; act = Store (l.start + 1); found = None } ∷ [], refl); unlocked = refl; unwritten = (locked l v locks i).unwritten };
         history = refl;
         rises = (let one = entry-one v.gate.algorithm locks in omega arith);
       }

@@ -7,7 +7,7 @@ use Rattle.stm_model.specs.declared.alg.Alg.{Alg}
 use Rattle.stm_model.specs.declared.alg.Alg.TheVariants.{Cgl, Tml, OrecLazy, OrecEager, RingSw, Serial}
 use Rattle.stm_model.specs.declared.config.Config.{Config}
 use Rattle.rule_base.specs.declared.entries.Cell.{Cell}
-use Rattle.rule_base.specs.declared.views.TrailItem.{TrailItem}
+use Rattle.rule_base.specs.declared.views.TracedStep.{TracedStep}
 use Rattle.rule_base.specs.declared.views.View.{View}
 use Rattle.rule_base.specs.Bridge.{addresses, items}
 use Rattle.rule_base.specs.Own.{Own}
@@ -15,8 +15,8 @@ use Rattle.stm_rule.specs.declared.local.Local.{Local}
 use Rattle.stm_rule.specs.Attempts.{own_of, IsInside, IsLocked}
 use Rattle.stm_rule.specs.Attempts as attempts
 use Rattle.tx_answers.specs.Answers.{kept_rolled, IsRolled}
-use Rattle.tx_answers.specs.Known.{Known, known_of, kept_under, written_under, is_irrevocable, is_in, is_closing}
-use Rattle.tx_answers.specs.KnownLaws.{grows-same}
+use Rattle.tx_answers.specs.CallerState.{CallerState, known_of, kept_under, written_under, is_irrevocable, is_in, is_closing}
+use Rattle.tx_answers.specs.CallerStateLaws.{grows-same}
 use Rattle.tx_logs.specs.LogStates.{LogState, rolled}
 use Rattle.stm_gate.specs.Opacity.{opaque-inside}
 use Rattle.stm_gate.specs.Irrevocable.{irrevocable-of}
@@ -59,7 +59,7 @@ kept-stays OrecEager s ks ws = absurd cc
 kept-stays RingSw s ks ws = absurd cc
 
 -- AN ATTEMPT with another write log and at another depth, where this is stored, after these steps
-module _ (good : List ℕ → Type 0) (c : Config) (n : ℕ) (l : Local) (v : View) (i : IsInside good c n l v) (log : LogState) (wrote : Bool) (d : ℕ) (stores : List Cell) (more : List TrailItem) where
+module _ (good : List ℕ → Type 0) (c : Config) (n : ℕ) (l : Local) (v : View) (i : IsInside good c n l v) (log : LogState) (wrote : Bool) (d : ℕ) (stores : List Cell) (more : List TracedStep) where
   abbrev other : Local
   other = record l { writes = log; wrote = wrote; depth = d }
 
@@ -158,7 +158,7 @@ module _ (good : List ℕ → Type 0) (c : Config) (n : ℕ) (l : Local) (v : Vi
     keeps-with : (a : Alg) (g : Bool) → l.algorithm ≡ a → l.granted ≡ g → attempts.Keeps c a g l v → attempts.Keeps c a g m v
     keeps-with Cgl g e f k = locked-with (λ r. counted Cgl e (sym k.irrevocable ∙ r)) k
     keeps-with Serial g e f k = locked-with (λ r. counted Serial e (sym k.irrevocable ∙ r)) k
-    keeps-with Tml true e f k = record { granted = k.granted; calm = k.calm; holds = k.holds; clear = k.clear; clean = k.clean; dirty = k.dirty; rises = k.rises; limit = k.limit }
+    keeps-with Tml true e f k = record { granted = k.granted; quiescent = k.quiescent; holds = k.holds; clear = k.clear; clean = k.clean; dirty = k.dirty; rises = k.rises; limit = k.limit }
     keeps-with Tml false e f k = record {
       inside = k.inside;
       settled = k.settled;
@@ -170,7 +170,7 @@ module _ (good : List ℕ → Type 0) (c : Config) (n : ℕ) (l : Local) (v : Vi
       writer = k.writer;
       clean = k.clean;
       dirty = k.dirty;
-      uncalm = k.uncalm;
+      not_quiescent = k.not_quiescent;
       rises = k.rises;
       limit = k.limit;
       unbuffered = same ∙ k.unbuffered;

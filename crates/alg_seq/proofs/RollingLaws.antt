@@ -8,7 +8,7 @@ use Rattle.stm_model.specs.declared.alg.Alg.TheVariants.{Serial}
 use Rattle.stm_model.specs.declared.config.Config.{Config}
 use Rattle.stm_model.specs.Memories.{is_empty}
 use Rattle.rule_base.specs.declared.entries.Cell.{Cell}
-use Rattle.rule_base.specs.declared.views.TrailItem.{TrailItem}
+use Rattle.rule_base.specs.declared.views.TracedStep.{TracedStep}
 use Rattle.rule_base.specs.declared.views.View.{View}
 use Rattle.rule_base.specs.Bridge.{addresses, items}
 use Rattle.rule_base.specs.Encodings.{fenced}
@@ -18,11 +18,11 @@ use Rattle.stm_rule.specs.declared.local.Local.{Local}
 use Rattle.stm_rule.specs.Attempts.{own_of, IsInside, IsLocked}
 use Rattle.tx_answers.specs.Answers.{IsRolled}
 use Rattle.tx_answers.specs.Causes.{has_item}
-use Rattle.tx_answers.specs.Known.{known_of}
+use Rattle.tx_answers.specs.CallerState.{known_of}
 use Rattle.tx_logs.specs.LogStates.{LogState, rolled, firsts}
 use Rattle.stm_gate.specs.Peeling.{has-touched, no-items}
 use Rattle.stm_gate.specs.RollItems.{has-by, has-take, first-addresses, first-fewer}
-use Rattle.alg_seq.specs.Nesting.{is_sequential, HasOlds, IsTakenBack, CanStoreAgain, IsStoredAgain}
+use Rattle.alg_seq.specs.Nesting.{is_sequential, HasOlds, IsStoredBack, CanStoreAgain, IsStoredAgain}
 use Rattle.alg_seq.proofs.Keeping.{irrevocable-by}
 use Rattle.alg_seq.proofs.Locked.{locked, keeps-by, or-last, written-plain}
 use Rattle.alg_seq.proofs.NestingLaws.{inside-at, rolls-at}
@@ -76,7 +76,7 @@ module _ (good : List ℕ → Type 0) (c : Config) (n : ℕ) (l : Local) (v : Vi
     spared-at a h = k.apart rev a (stored-at a h)
 
     -- the first words are stored still
-    module _ (u : View) (back : IsTakenBack left v u) where
+    module _ (u : View) (back : IsStoredBack left v u) where
       pub may-store-again : CanStoreAgain c.words log.items u
       may-store-again = record {
         has = subst (λ (y : View). HasLock y) (sym back.is) (record { phase = i.phase; algorithm = locks; taken = k.taken });
@@ -92,15 +92,15 @@ module _ (good : List ℕ → Type 0) (c : Config) (n : ℕ) (l : Local) (v : Vi
         abbrev m : Local
         m = record l { writes = log; wrote = wrote; depth = d }
 
-        abbrev more : List TrailItem
+        abbrev more : List TracedStep
         more = again.more ++ back.more
 
         abbrev after : List Cell → View
         after stores = taken v stores more
 
         pub path : w ≡ after w.attempt.stores
-        path = again.is ∙ ((λ j. record (back.is j) { attempt = record (back.is j).attempt { stores = w.attempt.stores }; steps = record (back.is j).steps { trail = again.more ++ (back.is j).steps.trail } })
-            ∙ (λ j. record v { attempt = record v.attempt { stores = w.attempt.stores }; steps = record v.steps { trail = sym (append_assoc again.more back.more v.steps.trail) j } }))
+        path = again.is ∙ ((λ j. record (back.is j) { attempt = record (back.is j).attempt { stores = w.attempt.stores }; steps = record (back.is j).steps { step_trace = again.more ++ (back.is j).steps.step_trace } })
+            ∙ (λ j. record v { attempt = record v.attempt { stores = w.attempt.stores }; steps = record v.steps { step_trace = sym (append_assoc again.more back.more v.steps.step_trace) j } }))
 
         nothing-left : wrote ≡ false → log.items ≡ []
         nothing-left e = by log.items (sym some ∙ e)

@@ -39,12 +39,12 @@ use Rattle.tx_answers.specs.declared.answers.Commit.TheVariants.{ReadOnly}
 use Rattle.tx_answers.specs.declared.answers.Irrev.TheVariants as irrevs
 use Rattle.tx_answers.specs.declared.answers.Read.TheVariants as reads
 use Rattle.tx_answers.specs.declared.answers.Write.TheVariants as writes
-use Rattle.tx_answers.specs.Answers.{write_rise, kept_with, HasRead, HasWritten, KeepsRule, Commits, CommitsAt, Cancels, Quits, BecomesIrrevocable}
+use Rattle.tx_answers.specs.Answers.{write_rise, kept_with, HasRead, HasWritten, KeepsRule, Commits, CommitsAt, Cancels, Quits, TriesIrrevocable}
 use Rattle.tx_answers.specs.Evidence.{Found}
 use Rattle.tx_answers.specs.Causes.{reads_full, writes_full}
 use Rattle.tx_answers.specs.Causes.Asked.{ForWord}
-use Rattle.tx_answers.specs.Known.{known_of, kept_under, granted_under, locked_under, written_under, is_irrevocable, wrote, is_in, is_closing}
-use Rattle.tx_answers.specs.KnownLaws.{grows-same}
+use Rattle.tx_answers.specs.CallerState.{known_of, kept_under, granted_under, locked_under, written_under, is_irrevocable, wrote, is_in, is_closing}
+use Rattle.tx_answers.specs.CallerStateLaws.{grows-same}
 use Rattle.stm_gate.specs.InnerLaws.{goes-inner, start-stays, no-log-full}
 use Rattle.stm_gate.specs.KeptLaws.{kept-same, kept-unlogged}
 use Rattle.stm_gate.specs.Leaving.{CanLeave, left}
@@ -105,7 +105,7 @@ module _ (good : List ℕ → Type 0) (c : Config) (n : ℕ) where
     load_at a x b = record v {
       attempt = if b then record v.attempt { reads = logged v.attempt a x } else v.attempt;
       tml = if b then v.tml else record v.tml { loaded = true; from = a; value = x };
-      steps = record v.steps { trail = record { place = Heap a; act = Load; found = Some x } ∷ v.steps.trail };
+      steps = record v.steps { step_trace = record { place = Heap a; act = Load; found = Some x } ∷ v.steps.step_trace };
     }
 
     load_path : (a x : ℕ) (w : View) (b : Bool) → l.wrote ≡ b → Tells (tml_load a) (TmlLoads rule c a) v x w → w ≡ load_at a x b
@@ -114,7 +114,7 @@ module _ (good : List ℕ → Type 0) (c : Config) (n : ℕ) where
     -- a writer reads in place
     pub tells-in_place : (a x : ℕ) (w : View) → x < 2 ^ 64 → a < c.words → l.wrote ≡ true → Tells (tml_load a) (TmlLoads rule c a) v x w → HasRead good c n a (reads.Value x) (known_of v o) (known_of w o)
     tells-in_place a x w small low dirty t = subst (λ (u : View). HasRead good c n a (reads.Value x) (known_of v o) (known_of u o)) (sym (load_path a x w true dirty t)) (
-      goes-inner v u o i.phase (record { history = refl; gate = refl; lock = refl; writer = refl; fence = refl; start = refl; rises = refl; base = refl; installs = refl; trail = (_ ∷ [], refl) }),
+      goes-inner v u o i.phase (record { history = refl; gate = refl; lock = refl; writer = refl; fence = refl; start = refl; rises = refl; base = refl; installs = refl; step_trace = (_ ∷ [], refl) }),
       quiet,
       reads-here a x (logged v.attempt a x) u refl refl refl (t.1.value writes),
       small,
@@ -130,12 +130,12 @@ module _ (good : List ℕ → Type 0) (c : Config) (n : ℕ) where
         writes : v.tml.writer ≡ true
         writes = k.writer ∙ dirty
 
-    -- the view after the clock was loaded behind the word
+    -- the view after the clock was loaded after the word
     abbrev again_at : ℕ → ℕ → ℕ → Bool → View
     again_at a x clock b = record v {
       attempt = record v.attempt { reads = if b then record { at = a; value = x } ∷ v.attempt.reads else v.attempt.reads };
       tml = record v.tml { loaded = false; from = a; value = x };
-      steps = record v.steps { trail = record { place = Clock; act = Load; found = Some clock } ∷ record { place = Heap a; act = Load; found = Some x } ∷ v.steps.trail };
+      steps = record v.steps { step_trace = record { place = Clock; act = Load; found = Some clock } ∷ record { place = Heap a; act = Load; found = Some x } ∷ v.steps.step_trace };
     }
 
     again_path : (a x clock : ℕ) (s w : View) (b : Bool) → (clock == v.attempt.start) ≡ b → l.wrote ≡ false → Tells (tml_load a) (TmlLoads rule c a) v x s → Tells tml_again (FindsAgain rule c) s clock w → w ≡ again_at a x clock b
@@ -170,7 +170,7 @@ module _ (good : List ℕ → Type 0) (c : Config) (n : ℕ) where
     pub tells-read : (a x clock : ℕ) (s w : View) → x < 2 ^ 64 → a < c.words → l.wrote ≡ false → clock ≡ l.start → Tells (tml_load a) (TmlLoads rule c a) v x s → Tells tml_again (FindsAgain rule c) s clock w
         → HasRead good c n a (reads.Value x) (known_of v o) (known_of w o)
     tells-read a x clock s w small low clean same t r = subst (λ (y : View). HasRead good c n a (reads.Value x) (known_of v o) (known_of y o)) (sym (again_path a x clock s w true here clean t r)) (
-      goes-inner v u o i.phase (record { history = refl; gate = refl; lock = refl; writer = refl; fence = refl; start = refl; rises = refl; base = refl; installs = refl; trail = (_ ∷ _ ∷ [], refl) }),
+      goes-inner v u o i.phase (record { history = refl; gate = refl; lock = refl; writer = refl; fence = refl; start = refl; rises = refl; base = refl; installs = refl; step_trace = (_ ∷ _ ∷ [], refl) }),
       quiet,
       reads-here a x (record { at = a; value = x } ∷ v.attempt.reads) u refl refl (ap (λ (cs : List Cell). if touches cs a then v.attempt.reads else record { at = a; value = x } ∷ v.attempt.reads) none) (value ∙ ap (λ (cs : List Cell). over cs a (word_now v.history.seen a)) (sym none)),
       small,
@@ -205,7 +205,7 @@ module _ (good : List ℕ → Type 0) (c : Config) (n : ℕ) where
     pub tells-conflict : (a x clock : ℕ) (s u w : View) → n < c.callers → l.wrote ≡ false → clock ≢ l.start → Tells (tml_load a) (TmlLoads rule c a) v x s → Tells tml_again (FindsAgain rule c) s clock u → w ≡ left n u
         → HasRead good c n a (reads.Conflict (causes.Clock l.start clock)) (known_of v o) (known_of w o)
     tells-conflict a x clock s u w low clean apart t r is = subst (λ (y : View). HasRead good c n a (reads.Conflict (causes.Clock l.start clock)) (known_of v o) (known_of y o)) (sym (is ∙ ap (left n) (again_path a x clock s u false here clean t r))) (
-      quits-here y clean (record { carried = record { named = refl; base = refl; installs = refl; fence = refl; trail = (_ ∷ _ ∷ [], refl); unlocked = k.unlocked; unwritten = k.writer ∙ clean }; history = refl }) refl,
+      quits-here y clean (record { carried = record { named = refl; base = refl; installs = refl; fence = refl; step_trace = (_ ∷ _ ∷ [], refl); unlocked = k.unlocked; unwritten = k.writer ∙ clean }; history = refl }) refl,
       (tml, sym i.start, (λ e. apart (sym e)), found-left n Clock clock v y o o (_ ∷ _ ∷ [], refl, Load, (0, omega arith, refl))),
       others clock low clean apart shown.sole,
       (never-full a).0,
@@ -222,7 +222,7 @@ module _ (good : List ℕ → Type 0) (c : Config) (n : ℕ) where
 
     -- the view after the clock was loaded before the first write, and after the exchange
     abbrev asked_at : ℕ → View
-    asked_at clock = record v { tml = record v.tml { loaded = false }; steps = record v.steps { trail = record { place = Clock; act = Load; found = Some clock } ∷ v.steps.trail } }
+    asked_at clock = record v { tml = record v.tml { loaded = false }; steps = record v.steps { step_trace = record { place = Clock; act = Load; found = Some clock } ∷ v.steps.step_trace } }
 
     asked_path : (clock : ℕ) (s : View) → Tells tml_again (FindsAgain rule c) v clock s → s ≡ asked_at clock
     asked_path clock s r = r.2 ∙ ((λ j. record (asked_at clock) { attempt = record v.attempt { reads = if clock == v.attempt.start then (if k.settled j then record { at = v.tml.from; value = v.tml.value } ∷ v.attempt.reads else v.attempt.reads) else v.attempt.reads } }) ∙ ap (λ (rs : List Cell). record (asked_at clock) { attempt = record v.attempt { reads = rs } }) (same (clock == v.attempt.start)))
@@ -239,7 +239,7 @@ module _ (good : List ℕ → Type 0) (c : Config) (n : ℕ) where
       tml = if b then record v.tml { loaded = false; writer = true } else record v.tml { loaded = false };
       steps = record v.steps {
         rises = if b then v.steps.rises + 1 else v.steps.rises;
-        trail = record { place = Clock; act = Exchange l.start (l.start + 1); found = Some found } ∷ record { place = Clock; act = Load; found = Some clock } ∷ v.steps.trail;
+        step_trace = record { place = Clock; act = Exchange l.start (l.start + 1); found = Some found } ∷ record { place = Clock; act = Load; found = Some clock } ∷ v.steps.step_trace;
       };
     }
 
@@ -248,7 +248,7 @@ module _ (good : List ℕ → Type 0) (c : Config) (n : ℕ) where
       where
         by : (d : Bool) → record (asked_at clock) {
           tml = if d then record (asked_at clock).tml { writer = true } else (asked_at clock).tml;
-          steps = record (if d then record (asked_at clock).steps { rises = v.steps.rises + 1 } else (asked_at clock).steps) { trail = record { place = Clock; act = Exchange l.start (l.start + 1); found = Some found } ∷ (if d then record (asked_at clock).steps { rises = v.steps.rises + 1 } else (asked_at clock).steps).trail };
+          steps = record (if d then record (asked_at clock).steps { rises = v.steps.rises + 1 } else (asked_at clock).steps) { step_trace = record { place = Clock; act = Exchange l.start (l.start + 1); found = Some found } ∷ (if d then record (asked_at clock).steps { rises = v.steps.rises + 1 } else (asked_at clock).steps).step_trace };
         } ≡ tried_at clock found d
         by true = refl
         by false = refl
@@ -264,13 +264,13 @@ module _ (good : List ℕ → Type 0) (c : Config) (n : ℕ) where
       start = sym i.start;
       limit = room (let e = same in omega arith);
       settled = refl;
-      uncalm = k.uncalm;
+      not_quiescent = k.not_quiescent;
     })
 
     -- the clock was found elsewhere: before the exchange, by it, or at its limit
     pub refused-asked : (a x clock : ℕ) (s w : View) → n < c.callers → l.wrote ≡ false → clock ≢ l.start → Tells tml_again (FindsAgain rule c) v clock s → w ≡ left n s → HasWritten good c n a x (writes.Conflict (causes.Clock l.start clock)) (known_of v o) (known_of w o)
     refused-asked a x clock s w low clean apart r is = subst (λ (y : View). HasWritten good c n a x (writes.Conflict (causes.Clock l.start clock)) (known_of v o) (known_of y o)) (sym (is ∙ ap (left n) (asked_path clock s r))) (
-      quits-here y clean (record { carried = record { named = refl; base = refl; installs = refl; fence = refl; trail = (_ ∷ [], refl); unlocked = k.unlocked; unwritten = k.writer ∙ clean }; history = refl }) refl,
+      quits-here y clean (record { carried = record { named = refl; base = refl; installs = refl; fence = refl; step_trace = (_ ∷ [], refl); unlocked = k.unlocked; unwritten = k.writer ∙ clean }; history = refl }) refl,
       (tml, sym i.start, (λ e. apart (sym e)), found-left n Clock clock v y o o (_ ∷ [], refl, Load, (0, omega arith, refl))),
       others clock low clean apart r.1.sole,
       (never-full a).1,
@@ -281,7 +281,7 @@ module _ (good : List ℕ → Type 0) (c : Config) (n : ℕ) where
 
     pub refused-full : (a x clock : ℕ) (s w : View) → l.wrote ≡ false → CLOCK_LIMIT ≤ clock → Tells tml_again (FindsAgain rule c) v clock s → w ≡ left n s → HasWritten good c n a x (writes.ClockFull clock) (known_of v o) (known_of w o)
     refused-full a x clock s w clean high r is = subst (λ (y : View). HasWritten good c n a x (writes.ClockFull clock) (known_of v o) (known_of y o)) (sym (is ∙ ap (left n) (asked_path clock s r))) (
-      quits-here y clean (record { carried = record { named = refl; base = refl; installs = refl; fence = refl; trail = (_ ∷ [], refl); unlocked = k.unlocked; unwritten = k.writer ∙ clean }; history = refl }) refl,
+      quits-here y clean (record { carried = record { named = refl; base = refl; installs = refl; fence = refl; step_trace = (_ ∷ [], refl); unlocked = k.unlocked; unwritten = k.writer ∙ clean }; history = refl }) refl,
       ap asks_at_write tml,
       finds-full clock v (left n y) o o high (found-left n Clock clock v y o o (_ ∷ [], refl, Load, (0, omega arith, refl))),
       (never-full a).1,
@@ -296,7 +296,7 @@ module _ (good : List ℕ → Type 0) (c : Config) (n : ℕ) where
     pub refused-tried : (a x clock found : ℕ) (s u w : View) → n < c.callers → l.wrote ≡ false → found ≢ l.start → Tells tml_again (FindsAgain rule c) v clock s → Tells (tml_write l.start) (FindsSole c) s found u → w ≡ left n u
         → HasWritten good c n a x (writes.Conflict (causes.Clock l.start found)) (known_of v o) (known_of w o)
     refused-tried a x clock found s u w low clean apart r t is = subst (λ (y : View). HasWritten good c n a x (writes.Conflict (causes.Clock l.start found)) (known_of v o) (known_of y o)) (sym (is ∙ ap (left n) (tried_path clock found s u false (grind (arith, nat_tests)) r t))) (
-      quits-here y clean (record { carried = record { named = refl; base = refl; installs = refl; fence = refl; trail = (_ ∷ _ ∷ [], refl); unlocked = k.unlocked; unwritten = k.writer ∙ clean }; history = refl }) refl,
+      quits-here y clean (record { carried = record { named = refl; base = refl; installs = refl; fence = refl; step_trace = (_ ∷ _ ∷ [], refl); unlocked = k.unlocked; unwritten = k.writer ∙ clean }; history = refl }) refl,
       (tml, sym i.start, (λ e. apart (sym e)), found-left n Clock found v y o o (_ ∷ _ ∷ [], refl, Exchange l.start (l.start + 1), (0, omega arith, refl))),
       others found low clean apart (subst (λ (y : View). FindsSole c t.0 y found) (asked_path clock s r) t.1),
       (never-full a).1,
@@ -313,7 +313,7 @@ module _ (good : List ℕ → Type 0) (c : Config) (n : ℕ) where
     put_at a x clock found = record v {
       attempt = record v.attempt { stores = record { at = a; value = x } ∷ v.attempt.stores };
       tml = record v.tml { loaded = false; writer = true };
-      steps = record v.steps { rises = v.steps.rises + 1; trail = record { place = Heap a; act = Store x; found = None } ∷ record { place = Clock; act = Exchange l.start (l.start + 1); found = Some found } ∷ record { place = Clock; act = Load; found = Some clock } ∷ v.steps.trail };
+      steps = record v.steps { rises = v.steps.rises + 1; step_trace = record { place = Heap a; act = Store x; found = None } ∷ record { place = Clock; act = Exchange l.start (l.start + 1); found = Some found } ∷ record { place = Clock; act = Load; found = Some clock } ∷ v.steps.step_trace };
     }
 
     put_path : (a x clock found : ℕ) (s u w : View) → found ≡ l.start → Tells tml_again (FindsAgain rule c) v clock s → Tells (tml_write l.start) (FindsSole c) s found u → Tells (tml_store a x) Nothing u x w → w ≡ put_at a x clock found
@@ -353,7 +353,7 @@ module _ (good : List ℕ → Type 0) (c : Config) (n : ℕ) where
         writer = refl;
         clean = λ e. absurd cc;
         dirty = λ e f. cc;
-        uncalm = k.uncalm;
+        not_quiescent = k.not_quiescent;
         rises = (let q = clean_rises clean in omega arith);
         limit = λ e. room under;
         unbuffered = k.unbuffered;
@@ -409,7 +409,7 @@ module _ (good : List ℕ → Type 0) (c : Config) (n : ℕ) where
     -- a writer stores in place
     pub tells-stored : (a x : ℕ) (w : View) → l.wrote ≡ true → Tells (tml_store a x) Nothing v x w → HasWritten good c n a x writes.Done (known_of v o) (known_of w o)
     tells-stored a x w dirty t = subst (λ (y : View). HasWritten good c n a x writes.Done (known_of v o) (known_of y o)) (sym t.2) (
-      goes-inner v y o i.phase (record { history = refl; gate = refl; lock = refl; writer = refl; fence = refl; start = refl; rises = refl; base = refl; installs = refl; trail = (_ ∷ [], refl) }),
+      goes-inner v y o i.phase (record { history = refl; gate = refl; lock = refl; writer = refl; fence = refl; start = refl; rises = refl; base = refl; installs = refl; step_trace = (_ ∷ [], refl) }),
       quiet,
       (refl, λ b. ap (item_at b) (written-here y ∙ ap (put a x) (sym (written-here v)))),
       opaque-at good c n y o l.start i.start i.front i.legal i.below i.sees i.reads_inside,
@@ -437,7 +437,7 @@ module _ (good : List ℕ → Type 0) (c : Config) (n : ℕ) where
     may-commit t time dirty keeps = record {
       has = has-tml;
       writes = k.writer ∙ dirty;
-      uncalm = k.uncalm;
+      not_quiescent = k.not_quiescent;
       time = time ∙ ap (λ (q : ℕ). q + 2) (sym i.start);
       limit = (let q = k.limit dirty in omega arith);
       wrote = k.dirty dirty;
@@ -449,7 +449,7 @@ module _ (good : List ℕ → Type 0) (c : Config) (n : ℕ) where
     pub tells-committed : (t : ℕ) (u w : View) → t ≡ l.start + 2 → l.wrote ≡ true → Tells (tml_commit n t) (steps.Commits rule c n t) v t u → w ≡ left n u → CommitsAt good c n t (known_of v o) (known_of w o)
     tells-committed t u w time dirty a is = subst (λ (y : View). CommitsAt good c n t (known_of v o) (known_of y o)) (sym (is ∙ ap (left n) a.2))
         (commits-left n good c t a.0 v (view_after (tml_commit n t) a.0 v t) o a.1 (record {
-          carried = record { named = refl; base = refl; installs = refl; fence = refl; trail = (_ ∷ [], refl); unlocked = k.unlocked; unwritten = refl };
+          carried = record { named = refl; base = refl; installs = refl; fence = refl; step_trace = (_ ∷ [], refl); unlocked = k.unlocked; unwritten = refl };
           history = refl;
           rises = (let r : v.steps.rises ≡ v.steps.rises_at_begin + 1 = k.rises ∙ ap (λ (b : Bool). v.steps.rises_at_begin + (if b then 1 else 0)) dirty in let e : entry_rise v.gate.algorithm ≡ 2 = ap entry_rise tml in omega arith);
         }) (let q = i.start in omega arith) (let q = i.front in omega arith) (k.dirty dirty) (written-here v))
@@ -460,7 +460,7 @@ module _ (good : List ℕ → Type 0) (c : Config) (n : ℕ) where
 
     -- the grant, by whether the clock allows it
     abbrev granted_view : ℕ → Bool → View
-    granted_view clock b = record v { gate = if b then granted_at clock v.gate else v.gate; steps = record v.steps { trail = record { place = Clock; act = Load; found = Some clock } ∷ v.steps.trail } }
+    granted_view clock b = record v { gate = if b then granted_at clock v.gate else v.gate; steps = record v.steps { step_trace = record { place = Clock; act = Load; found = Some clock } ∷ v.steps.step_trace } }
 
     grant_path : (clock : ℕ) (w : View) (b : Bool) → tml_grants clock v ≡ b → Tells tml_grant (FindsSole c) v clock w → w ≡ granted_view clock b
     grant_path clock w b e t = t.2 ∙ ap (granted_view clock) e
@@ -495,7 +495,7 @@ module _ (good : List ℕ → Type 0) (c : Config) (n : ℕ) where
 
     pub grants-full : (clock : ℕ) (u w : View) → l.wrote ≡ false → CLOCK_LIMIT ≤ clock → Tells tml_grant (FindsSole c) v clock u → w ≡ left n u → Grants good c n (irrevs.ClockFull clock) (known_of v o) (known_of w o)
     grants-full clock u w clean high t is = subst (λ (y : View). Grants good c n (irrevs.ClockFull clock) (known_of v o) (known_of y o)) (sym (is ∙ ap (left n) (grant_path clock u false (full_no clock high) t))) (
-      quits-here y clean (record { carried = record { named = refl; base = refl; installs = refl; fence = refl; trail = (_ ∷ [], refl); unlocked = k.unlocked; unwritten = k.writer ∙ clean }; history = refl }) refl,
+      quits-here y clean (record { carried = record { named = refl; base = refl; installs = refl; fence = refl; step_trace = (_ ∷ [], refl); unlocked = k.unlocked; unwritten = k.writer ∙ clean }; history = refl }) refl,
       ap asks_at_grant tml,
       finds-full clock v (left n y) o o high (found-left n Clock clock v y o o (_ ∷ [], refl, Load, (0, omega arith, refl))),
     )
@@ -505,7 +505,7 @@ module _ (good : List ℕ → Type 0) (c : Config) (n : ℕ) where
 
     pub grants-moved : (clock : ℕ) (u w : View) → n < c.callers → l.wrote ≡ false → clock ≢ l.start → Tells tml_grant (FindsSole c) v clock u → w ≡ left n u → Grants good c n (irrevs.Conflict (causes.Clock l.start clock)) (known_of v o) (known_of w o)
     grants-moved clock u w low clean apart t is = subst (λ (y : View). Grants good c n (irrevs.Conflict (causes.Clock l.start clock)) (known_of v o) (known_of y o)) (sym (is ∙ ap (left n) (grant_path clock u false (moved_no clock apart) t))) (
-      quits-here y clean (record { carried = record { named = refl; base = refl; installs = refl; fence = refl; trail = (_ ∷ [], refl); unlocked = k.unlocked; unwritten = k.writer ∙ clean }; history = refl }) refl,
+      quits-here y clean (record { carried = record { named = refl; base = refl; installs = refl; fence = refl; step_trace = (_ ∷ [], refl); unlocked = k.unlocked; unwritten = k.writer ∙ clean }; history = refl }) refl,
       (tml, sym i.start, (λ e. apart (sym e)), found-left n Clock clock v y o o (_ ∷ [], refl, Load, (0, omega arith, refl))),
       others clock low clean apart t.1,
     )
@@ -514,7 +514,7 @@ module _ (good : List ℕ → Type 0) (c : Config) (n : ℕ) where
         y = granted_view clock false
 
     pub grants-so : (clock : ℕ) (w : View) → l.wrote ≡ false → clock ≡ l.start → clock < CLOCK_LIMIT → IsAlone c.callers n v → Tells tml_grant (FindsSole c) v clock w → Grants good c n irrevs.Granted (known_of v o) (known_of w o)
-    grants-so clock w clean same under a t = subst (λ (y : View). BecomesIrrevocable good c n (known_of v o) (known_of y o)) (sym (grant_path clock w true (still_yes clock same under) t)) (record {
+    grants-so clock w clean same under a t = subst (λ (y : View). TriesIrrevocable good c n (known_of v o) (known_of y o)) (sym (grant_path clock w true (still_yes clock same under) t)) (record {
       continues = record {
         running = ap is_in i.phase;
         closing = ap is_closing i.phase;
@@ -564,7 +564,7 @@ module _ (good : List ℕ → Type 0) (c : Config) (n : ℕ) where
       granted = sym (ap (λ (q : Alg). closes_gate q && true) (sym i.named ∙ tml));
       keeps = subst (λ (q : Alg). Rules.Keeps c q true m y) (sym (sym i.named ∙ tml)) (record {
         granted = refl;
-        calm = refl;
+        quiescent = refl;
         holds = held;
         clear = record { unlocked = k.unlocked; disowned = i.disowned (ap has_records (sym i.named ∙ tml)); unwritten = k.writer ∙ clean; uncommitted = k.uncommitted; unentered = i.unentered; unfixed = k.unfixed };
         clean = k.clean;
@@ -592,7 +592,7 @@ module _ (good : List ℕ → Type 0) (c : Config) (n : ℕ) (v : View) (can : C
     history = if b then record v.history { seen = m.history; front = clock } else v.history;
     attempt = if b then record { start = clock; reads = []; stores = []; entered = false } else v.attempt;
     tml = if b then fresh_tml else v.tml;
-    steps = record v.steps { trail = record { place = Clock; act = Load; found = Some clock } ∷ v.steps.trail };
+    steps = record v.steps { step_trace = record { place = Clock; act = Load; found = Some clock } ∷ v.steps.step_trace };
   }
 
   begun_path : (clock : ℕ) (w : View) (b : Bool) → (clock % 2 == 0) ≡ b → (t : Tells tml_begin (FindsBegin (of_words good c.words) c) v clock w) → w ≡ begun_at t.0 clock b
@@ -641,7 +641,7 @@ module _ (good : List ℕ → Type 0) (c : Config) (n : ℕ) (v : View) (can : C
         writer = refl;
         clean = λ e. refl;
         dirty = λ e. absurd cc;
-        uncalm = t.1.uncalm can.reopened;
+        not_quiescent = t.1.not_quiescent can.reopened;
         rises = (let r = can.rises in omega arith);
         limit = λ e. absurd cc;
         unbuffered = refl;
@@ -653,7 +653,7 @@ module _ (good : List ℕ → Type 0) (c : Config) (n : ℕ) (v : View) (can : C
     fence = refl;
     rises = can.rises;
     starts = λ o fresh. record {
-      keeps = record { made = refl; grows = (let q = later-seen t.0.history v.history.front clock b.below b.front in record { later = q.0; is = subst (λ (h : List Entry). public_history t.0.history ≡ public_history h ++ q.0) (sym b.seen) q.1; ascending = q.2; up_to = q.3; front_rose = b.front; more = record { place = Clock; act = Load; found = Some clock } ∷ []; trail = refl; reads_limit = refl; writes_limit = refl; fenced = refl }); rises = refl; installs = refl };
+      keeps = record { made = refl; grows = (let q = later-seen t.0.history v.history.front clock b.below b.front in record { later = q.0; is = subst (λ (h : List Entry). public_history t.0.history ≡ public_history h ++ q.0) (sym b.seen) q.1; ascending = q.2; up_to = q.3; front_rose = b.front; more = record { place = Clock; act = Load; found = Some clock } ∷ []; step_trace = refl; reads_limit = refl; writes_limit = refl; fenced = refl }); rises = refl; installs = refl };
       found = (_ ∷ [], refl, Load, (0, omega arith, refl));
       is = refl;
       fresh = b.front;

@@ -12,7 +12,7 @@ use Rattle.stm_rule.specs.declared.stm.Stm.{Stm}
 use Rattle.stm_rule.specs.Attempts.{IsInside, own_of}
 use Rattle.stm_rule.specs.Callers.{Handle}
 use Rattle.stm_rule.specs.StandLemmas.{inside-of}
-use Rattle.tx_answers.specs.Known.{Known, is_irrevocable}
+use Rattle.tx_answers.specs.CallerState.{CallerState, is_irrevocable}
 use Rattle.stm_gate.specs.Knowing.{known}
 use Rattle.stm_gate.specs.Opening.{Opened}
 use Rattle.stm_gate.specs.PromotingLaws.{revocable-tml}
@@ -28,10 +28,10 @@ pub record Revocable (good : List ℕ → Type 0) (c : Config) (n : ℕ) (l : Lo
 
 module _ {K : Type 0} (good : K → List ℕ → Type 0) (stm : Stm K) {e : Handle K} {who : Who K} {v : View} {n : ℕ} {l : Local} (a : Opened good stm e who v n l) (runs : (known e).running ≡ true) (tml : (known e).alg ≡ Tml) where
   pub inside : IsInside (good stm.rule) stm.config n l v
-  inside = inside-of (good stm.rule) stm.config n l v (in-of v.gate.phase (ap (λ (k : Known). k.running) (sym a.knows) ∙ runs)) a.stands
+  inside = inside-of (good stm.rule) stm.config n l v (in-of v.gate.phase (ap (λ (k : CallerState). k.running) (sym a.knows) ∙ runs)) a.stands
 
   pub named : v.gate.algorithm ≡ Tml
-  named = ap (λ (k : Known). k.alg) (sym a.knows) ∙ tml
+  named = ap (λ (k : CallerState). k.alg) (sym a.knows) ∙ tml
 
   -- it was not promoted
   pub plain : l.granted ≡ false → InTml (good stm.rule) stm.config n l v (own_of l)

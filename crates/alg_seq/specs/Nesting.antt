@@ -2,7 +2,7 @@
 use Rattle.std.specs.Prelude.{ℕ, ◌≡◌, ◌++◌, Bool, true, false, List, take}
 use Rattle.stm_model.specs.declared.alg.Alg.{Alg}
 use Rattle.stm_model.specs.declared.alg.Alg.TheVariants.{Cgl, Tml, OrecLazy, OrecEager, RingSw, Serial}
-use Rattle.rule_base.specs.declared.views.TrailItem.{TrailItem}
+use Rattle.rule_base.specs.declared.views.TracedStep.{TracedStep}
 use Rattle.rule_base.specs.declared.views.View.{View}
 use Rattle.rule_base.specs.Bridge.{addresses, items}
 use Rattle.rule_base.specs.Encodings.{fenced}
@@ -29,9 +29,9 @@ pub record HasOlds (words : ℕ) (us ws : List (ℕ × ℕ)) (v : View) : Type 0
   pub within : Inside words v.lock.undo
 
 -- of the words stored the first so many are left
-pub record IsTakenBack (left : ℕ) (v w : View) : Type 0 where
-  pub more : List TrailItem
-  pub is : w ≡ record v { attempt = record v.attempt { stores = w.attempt.stores }; steps = record v.steps { trail = more ++ v.steps.trail } }
+pub record IsStoredBack (left : ℕ) (v w : View) : Type 0 where
+  pub more : List TracedStep
+  pub is : w ≡ record v { attempt = record v.attempt { stores = w.attempt.stores }; steps = record v.steps { step_trace = more ++ v.steps.step_trace } }
   pub stores : items w.attempt.stores ≡ take left (items v.attempt.stores)
 
 -- the words of these items, and no others, are stored, and each may be stored again
@@ -45,6 +45,6 @@ pub record CanStoreAgain (words : ℕ) (ws : List (ℕ × ℕ)) (v : View) : Typ
 
 -- they have these values
 pub record IsStoredAgain (ws : List (ℕ × ℕ)) (v w : View) : Type 0 where
-  pub more : List TrailItem
-  pub is : w ≡ record v { attempt = record v.attempt { stores = w.attempt.stores }; steps = record v.steps { trail = more ++ v.steps.trail } }
+  pub more : List TracedStep
+  pub is : w ≡ record v { attempt = record v.attempt { stores = w.attempt.stores }; steps = record v.steps { step_trace = more ++ v.steps.step_trace } }
   pub stores : items w.attempt.stores ≡ ws

@@ -3,7 +3,7 @@ use Rattle.std.specs.Prelude.{ℕ, ◌≡◌, ◌<◌, ◌≤◌, ◌^◌, ◌++
 use Rattle.stm_model.specs.declared.config.TheConstants.{CLOCK_LIMIT}
 use Rattle.stm_model.specs.Memories.{item_at, put}
 use Rattle.rule_base.specs.declared.layout.At.TheVariants.{Clock}
-use Rattle.rule_base.specs.declared.views.TrailItem.{TrailItem}
+use Rattle.rule_base.specs.declared.views.TracedStep.{TracedStep}
 use Rattle.rule_base.specs.Bridge.{addresses, items}
 use Rattle.tx_logs.specs.LogStates.{LogState}
 use Rattle.tx_answers.specs.Evidence.{Found}
@@ -21,7 +21,7 @@ use Rattle.stm_gate.specs.LeavingLaws.{IsUnmade}
 use Rattle.tx_answers.specs.declared.answers.Write.{Write}
 use Rattle.tx_answers.specs.declared.answers.Write.TheVariants.{Done}
 use Rattle.tx_answers.specs.Answers.{HasWritten}
-use Rattle.tx_answers.specs.Known.{known_of}
+use Rattle.tx_answers.specs.CallerState.{known_of}
 
 -- caller n ended the attempt and left no trace but its steps
 pub record GivesUp (n : ℕ) (v w : View) : Type 0 where
@@ -33,8 +33,8 @@ pub record GivesUp (n : ℕ) (v w : View) : Type 0 where
 
 -- the clock was loaded, or nothing was done
 pub record IsClocked (v w : View) : Type 0 where
-  pub more : List TrailItem
-  pub is : w ≡ record v { lock = record v.lock { clocked = w.lock.clocked }; steps = record v.steps { trail = more ++ v.steps.trail } }
+  pub more : List TracedStep
+  pub is : w ≡ record v { lock = record v.lock { clocked = w.lock.clocked }; steps = record v.steps { step_trace = more ++ v.steps.step_trace } }
 
 -- the attempt may have its entry, or the clock was loaded at its limit
 abbrev pub HasClock : Result (Unit {0}) ℕ → Local → View → View → Type 0
@@ -47,12 +47,12 @@ pub record HasLogged (words a x : ℕ) (l : Local) (v : View) (m : Local) (w : V
   pub undo_len : m.undo.len ≡ l.undo.len
   pub writes_len : m.writes.len ≡ l.writes.len
   pub marks : m.writes.marks ≡ l.writes.marks
-  pub more : List TrailItem
-  pub is : w ≡ record v { lock = record v.lock { undo = w.lock.undo }; steps = record v.steps { trail = more ++ v.steps.trail } }
+  pub more : List TracedStep
+  pub is : w ≡ record v { lock = record v.lock { undo = w.lock.undo }; steps = record v.steps { step_trace = more ++ v.steps.step_trace } }
   pub undone : m.undo.items ≡ items w.lock.undo
   pub logged : touches w.lock.undo a ≡ true
   pub within : Inside words w.lock.undo
-  -- what it had it keeps, and an address that is new comes behind the others
+  -- what it had it keeps, and an address that is new comes after the others
   pub covers : (b : ℕ) → touches v.lock.undo b ≡ true → touches w.lock.undo b ≡ true
   pub kept : addresses (items w.lock.undo) ≡ (if member (addresses (items v.lock.undo)) a then addresses (items v.lock.undo) else addresses (items v.lock.undo) ++ a ∷ [])
   pub most : length m.undo.items ≤ m.undo.len

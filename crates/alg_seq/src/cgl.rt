@@ -70,7 +70,7 @@ impl Algorithm for Cgl {
     }
 
     /// An attempt is irrevocable from its begin on: no step.
-    fn become_irrevocable<K: MemRule>(desc: &mut Desc<K>, stm: &Stm<K>) -> Irrev {
+    fn try_irrevocable<K: MemRule>(desc: &mut Desc<K>, stm: &Stm<K>) -> Irrev {
         let _number = desc.number;
         let _ = stm;
         Irrev::Granted

@@ -8,9 +8,9 @@ ghost use Rattle.stm_model.specs.declared.alg.Alg.TheVariants.{Serial};
 ghost use Rattle.stm_rule.specs.Callers.{IsOf, IsSameCaller, IsSeatOf};
 ghost use Rattle.stm_rule.specs.Kept.{IsSameSeat, view_of};
 ghost use Rattle.tx_answers.specs.Answers.{Rolls};
-ghost use Rattle.tx_answers.specs.Known.{IsRunning, is_irrevocable};
+ghost use Rattle.tx_answers.specs.CallerState.{IsRunning, is_irrevocable};
 ghost use Rattle.stm_gate.specs.Knowing.{known, number};
-ghost use Rattle.alg_seq.specs.Nesting.{HasOlds, IsTakenBack, CanStoreAgain, IsStoredAgain};
+ghost use Rattle.alg_seq.specs.Nesting.{HasOlds, IsStoredBack, CanStoreAgain, IsStoredAgain};
 
 use stm_model::rule::MemRule;
 use stm_rule::desc::Desc;
@@ -33,7 +33,7 @@ pub(crate) fn roll_in_place<K: MemRule>(desc: &mut Desc<K>, stm: &Stm<K>, depth:
 {
     let caller = desc.number;
     let left = desc.local.writes.count_at(depth);
-    take_back(
+    store_back(
         &mut desc.seat,
         stm,
         caller,
@@ -50,7 +50,7 @@ pub(crate) fn roll_in_place<K: MemRule>(desc: &mut Desc<K>, stm: &Stm<K>, depth:
 
 /// Stores the old values back of all words that the attempt has stored but the first `left`, the last first. Their items
 /// stay in the undo log. One step for each.
-pub fn take_back<K: MemRule>(
+pub fn store_back<K: MemRule>(
     seat: &mut Token<K>,
     stm: &Stm<K>,
     caller: usize,
@@ -61,7 +61,7 @@ pub fn take_back<K: MemRule>(
     requires seat { IsSeatOf stm.now caller seat.old }
     requires olds { HasOlds stm.now.config.words undo.now.items writes.now.items (view_of seat.old) }
     ensures same { IsSameSeat seat.old seat.new × (seat.new.me.0 ≡ record seat.old.me.0 { view = view_of seat.new }) }
-    ensures back { IsTakenBack left (view_of seat.old) (view_of seat.new) }
+    ensures back { IsStoredBack left (view_of seat.old) (view_of seat.new) }
     ensures steps { TakesAtMost (length writes.now.items - left) (view_of seat.old) (view_of seat.new) }
 {
     let mut count = writes.count();
@@ -69,7 +69,7 @@ pub fn take_back<K: MemRule>(
         count -= 1;
         let (a, _) = writes.item(count);
         if let Some(x) = undo.find(a) {
-            stm.take_back(seat, caller, a, x);
+            stm.store_back(seat, caller, a, x);
         }
     }
 }

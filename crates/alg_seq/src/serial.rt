@@ -11,7 +11,7 @@ ghost use Rattle.stm_rule.specs.Kept.{IsSameSeat, view_of};
 ghost use Rattle.rule_base.specs.Encodings.{fenced};
 ghost use Rattle.alg_seq.specs.Storing.{GivesUp, KeepsOld, HasClock, HasLogged, HasPlace};
 
-use crate::nesting::{roll_in_place, take_back};
+use crate::nesting::{roll_in_place, store_back};
 use alg_calls::algorithm::Algorithm;
 use stm_gate::leave::leave;
 use stm_model::alg::Alg;
@@ -84,20 +84,20 @@ impl Algorithm for Serial {
         }
         let caller = desc.number;
         let time = desc.local.start;
-        roll_back(&mut desc.seat, &mut desc.local, stm, caller);
+        abort(&mut desc.seat, &mut desc.local, stm, caller);
         Cancel::Cancelled { time }
     }
 
     /// Loads the clock, which must be below its limit, and empties the undo log. One step; none where the attempt
     /// is irrevocable already.
-    fn become_irrevocable<K: MemRule>(desc: &mut Desc<K>, stm: &Stm<K>) -> Irrev {
+    fn try_irrevocable<K: MemRule>(desc: &mut Desc<K>, stm: &Stm<K>) -> Irrev {
         if desc.local.granted {
             return Irrev::Granted;
         }
         let caller = desc.number;
         let clock = stm.load_limit(&mut desc.seat, caller, true);
         if clock >= CLOCK_LIMIT {
-            roll_back(&mut desc.seat, &mut desc.local, stm, caller);
+            abort(&mut desc.seat, &mut desc.local, stm, caller);
             return Irrev::ClockFull { clock };
         }
         desc.local.undo.clear();
@@ -143,11 +143,11 @@ fn keep_old<K: MemRule>(
     }
     if !has_place(&local.undo, a) {
         let limit = local.undo.len();
-        roll_back(seat, local, stm, caller);
+        abort(seat, local, stm, caller);
         return Err(Write::Full { limit });
     }
     if let Err(clock) = below_limit(seat, local, stm, caller) {
-        roll_back(seat, local, stm, caller);
+        abort(seat, local, stm, caller);
         return Err(Write::ClockFull { clock });
     }
     log_old(seat, local, stm, caller, a, x);
@@ -220,7 +220,7 @@ fn log_old<K: MemRule>(
 /// Stores the old values back, frees the lock, and ends the attempt.
 #[cold]
 #[inline(never)]
-fn roll_back<K: MemRule>(seat: &mut Token<K>, local: &mut Local, stm: &Stm<K>, caller: usize)
+fn abort<K: MemRule>(seat: &mut Token<K>, local: &mut Local, stm: &Stm<K>, caller: usize)
     requires seat { IsSeatOf stm.now caller seat.old }
     requires caller { caller < stm.now.config.callers }
     requires attempt { IsInside (K.good stm.now.rule) stm.now.config caller local.old (view_of seat.old) }
@@ -231,7 +231,7 @@ fn roll_back<K: MemRule>(seat: &mut Token<K>, local: &mut Local, stm: &Stm<K>, c
     ensures gives_up { GivesUp caller (view_of seat.old) (view_of seat.new) }
     ensures steps { TakesAtMost (2 + local.old.undo.len) (view_of seat.old) (view_of seat.new) }
 {
-    take_back(seat, stm, caller, &local.undo, &local.writes, 0);
+    store_back(seat, stm, caller, &local.undo, &local.writes, 0);
     stm.free_lock(seat, caller);
     leave(seat, local, stm, caller);
 }

@@ -6,13 +6,13 @@ use Rattle.stm_rule.specs.Closings.{Ended}
 use Rattle.stm_text.specs.declared.parse.Mode.TheVariants.{Run}
 use Rattle.stm_check.specs.declared.reading.TheConstants.{MAX_REPORT}
 use Rattle.stm_check.specs.Checks.{IsYes}
-use Rattle.stm_check.specs.Texts.{BehindIsConfirmed}
+use Rattle.stm_check.specs.Texts.{AfterIsConfirmed}
 use Rattle.bench_core.specs.declared.status.Status.TheVariants.{Ok as Done}
 use Rattle.bench_core.specs.Checks.{SaidOfCheck}
 use Rattle.bench_core.specs.Messages.{yes_line}
 use Rattle.bench_core.specs.Outcomes.{SaidOf, RanToEnd}
 
-pub run-confirmed : BehindIsConfirmed → (policy : Policy) (text : List ℕ) (closed : Option Ended) (said : List ℕ) → SaidOf Run policy text Done closed said → length said ≤ MAX_REPORT → SaidOfCheck (text ++ said) Done yes_line
+pub run-confirmed : AfterIsConfirmed → (policy : Policy) (text : List ℕ) (closed : Option Ended) (said : List ℕ) → SaidOf Run policy text Done closed said → length said ≤ MAX_REPORT → SaidOfCheck (text ++ said) Done yes_line
 run-confirmed behind policy text None said was le = absurd was.run
 run-confirmed behind policy text (Some closed) said was le =
     let ran : RanToEnd policy was.workload closed said = was.run in

@@ -5,9 +5,9 @@ use Rattle.std.specs.Borrow.{Bor}
 use Rattle.stm_profile.specs.declared.policy.Policy.{Policy}
 use Rattle.stm_rule.specs.Closings.{Ended}
 use Rattle.stm_text.specs.declared.parse.Mode.TheVariants.{Run}
-use Rattle.stm_words.specs.declared.command.Command.{Command}
-use Rattle.stm_words.specs.declared.command.Command.TheVariants as commands
-use Rattle.stm_words.specs.Asking.{Asks, texts_of}
+use Rattle.stm_cli.specs.declared.command.Command.{Command}
+use Rattle.stm_cli.specs.declared.command.Command.TheVariants as commands
+use Rattle.stm_cli.specs.Asking.{Asks, texts_of}
 use Rattle.bench_core.specs.declared.status.Status.TheVariants.{Ok as Done}
 use Rattle.bench_core.specs.Headline.{RanRight, ReadAndRan, Headline}
 use Rattle.bench_core.specs.Outcomes.{HasRead, RanToEnd, SaidOf, SaysFor, Wrote, kept, most_read}

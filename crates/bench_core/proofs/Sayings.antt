@@ -4,9 +4,9 @@ use Rattle.std.specs.Prelude.{Result, Ok, Err, IfOk}
 use Rattle.std.specs.Borrow.{Bor}
 use Rattle.stm_profile.specs.declared.policy.Policy.{Policy}
 use Rattle.stm_rule.specs.Closings.{Ended}
-use Rattle.stm_words.specs.declared.command.Command.{Command}
-use Rattle.stm_words.specs.declared.command.Command.TheVariants as commands
-use Rattle.stm_words.specs.Asking.{Asks, AskOnce, texts_of}
+use Rattle.stm_cli.specs.declared.command.Command.{Command}
+use Rattle.stm_cli.specs.declared.command.Command.TheVariants as commands
+use Rattle.stm_cli.specs.Asking.{Asks, AskOnce, texts_of}
 use Rattle.stm_script.specs.declared.workload.Workload.{Workload}
 use Rattle.stm_text.specs.declared.parse.Mode.{Mode}
 use Rattle.stm_text.specs.declared.parse.Mode.TheVariants.{Run}

@@ -9,6 +9,6 @@ use Rattle.bench_core.specs.Checks.{SaidOfCheck}
 use Rattle.bench_core.specs.Messages.{yes_line}
 use Rattle.bench_core.specs.Outcomes.{SaidOf}
 
--- of a workload's text, and behind it what `run` said at status 0 of it, `check` says yes, where that isn't too long
+-- of a workload's text, and after it what `run` said at status 0 of it, `check` says yes, where that isn't too long
 abbrev pub RunIsConfirmed : Type 0
 RunIsConfirmed = (policy : Policy) (text : List ℕ) (closed : Option Ended) (said : List ℕ) → SaidOf Run policy text Done closed said → length said ≤ MAX_REPORT → SaidOfCheck (text ++ said) Done yes_line

@@ -30,8 +30,8 @@ use Rattle.stm_io.specs.Ends.{IsText, Gained}
 use Rattle.stm_driver.specs.Along.{GoesAlong}
 use Rattle.stm_driver.specs.Runs.{AreInstalls, IsHistory}
 use Rattle.stm_rule.specs.Closings.{Ended}
-use Rattle.stm_words.specs.declared.command.Command.TheVariants as commands
-use Rattle.stm_words.specs.Asking.{Asks, texts_of}
+use Rattle.stm_cli.specs.declared.command.Command.TheVariants as commands
+use Rattle.stm_cli.specs.Asking.{Asks, texts_of}
 use Rattle.bench_core.specs.declared.status.Status.TheVariants.{Ok as Done}
 use Rattle.bench_core.specs.Outcomes.{IsOutcome}
 

@@ -21,9 +21,9 @@ use Rattle.stm_trace.specs.declared.line.Line.{Line}
 use Rattle.stm_trace.specs.Texts.{trace_bytes}
 use Rattle.stm_gen.specs.Generated.{generated}
 use Rattle.stm_gen.specs.Summaries.{summary_bytes, summary_for, summary_of}
-use Rattle.stm_words.specs.declared.command.Command.{Command}
-use Rattle.stm_words.specs.declared.command.Command.TheVariants as commands
-use Rattle.stm_words.specs.Asking.{Asks, texts_of}
+use Rattle.stm_cli.specs.declared.command.Command.{Command}
+use Rattle.stm_cli.specs.declared.command.Command.TheVariants as commands
+use Rattle.stm_cli.specs.Asking.{Asks, texts_of}
 
 -- the run went to its end, and what is said is a report that replays the workload and shows the closed memory's history; its numbers are words of the machine
 pub record RanToEnd (policy : Policy) (w : Workload) (closed : Ended) (said : List ℕ) : Type 0 where

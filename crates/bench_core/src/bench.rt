@@ -11,6 +11,9 @@ use std::alloc::Global;
 use std::sync::Wait;
 use std::thread::Threads;
 use stm_check::checking::MOST_CHECKED;
+use stm_cli::command::Command;
+use stm_cli::laws::words_ask_once;
+use stm_cli::reading::read_words;
 use stm_faults::workload::workload_fault;
 use stm_io::ends::{Failed, Sink, Source};
 use stm_io::whole::{ReadError, put_all, read_all};
@@ -18,9 +21,6 @@ use stm_model::memory::Memory;
 use stm_profile::policy::Policy;
 use stm_rule::ending::Closed;
 use stm_text::parse::{Mode, ParseError, parse};
-use stm_words::command::Command;
-use stm_words::laws::words_ask_once;
-use stm_words::reading::read_words;
 use stm_worker::turnstile::Turnstile;
 
 /// How many bytes of a text are read: one more than a workload's text may have.

@@ -4,7 +4,7 @@ ghost use Rattle.bench_core.specs.Outcomes.{SaidOfMade, SaidOfRun};
 ghost use Rattle.stm_gen.specs.declared.generate.TheConstants.{MOST_TRANSACTIONS};
 ghost use Rattle.stm_profile.specs.declared.policy.Policy.{Policy};
 ghost use Rattle.stm_model.specs.declared.config.TheConstants.{MAX_CALLERS};
-ghost use Rattle.stm_text.specs.Built.{IsBuilt};
+ghost use Rattle.stm_text.specs.Parsed.{IsParsed};
 ghost use Rattle.stm_text.specs.declared.parse.Mode.TheVariants.{Run, Step};
 
 use crate::messages;
@@ -13,7 +13,7 @@ use crate::status::Status;
 use std::alloc::Global;
 use std::sync::Wait;
 use std::thread::Threads;
-use stm_driver::outcome::Outcome;
+use stm_driver::outcome::RunOutcome;
 use stm_gen::generate::generate;
 use stm_gen::laws::summary_is_counted;
 use stm_gen::summary::Summary;
@@ -44,25 +44,25 @@ pub(crate) fn report<R: Threads + Wait + Sync, G: Turnstile + Sync>(
     workload: Workload,
     turnstile: &G,
 ) -> Result<Saying, Memory>
-    requires { IsBuilt Run workload }
+    requires { IsParsed Run workload }
     ensures { IfOk result (λ s. SaidOfRun Run policy workload s.status s.closed s.text.items) }
 {
     let callers = workload.header.callers;
     let outcome = run_workload(rt, alloc, workload, policy, turnstile)?;
     match outcome {
-        Outcome::ToEnd { report, closed } => Ok(Saying {
+        RunOutcome::ToEnd { report, closed } => Ok(Saying {
             status: Status::Ok,
             text: report_text_by(rt, alloc, &report, callers)?,
             closed: Some(closed),
             why: None,
         }),
-        Outcome::ToLimit { clock, closed } => Ok(Saying {
+        RunOutcome::ToLimit { clock, closed } => Ok(Saying {
             status: Status::ClockFull { clock },
             text: messages::clock_full(alloc, clock)?,
             closed: Some(closed),
             why: None,
         }),
-        Outcome::OutOfMemory { closed: _ } => Err(Memory),
+        RunOutcome::OutOfMemory { closed: _ } => Err(Memory),
     }
 }
 
@@ -72,12 +72,12 @@ pub(crate) fn trace<R: Threads + Wait + Sync>(
     alloc: Global,
     workload: Workload,
 ) -> Result<Saying, Memory>
-    requires { IsBuilt Step workload }
+    requires { IsParsed Step workload }
     ensures { (policy : Policy) → IfOk result (λ s. SaidOfRun Step policy workload s.status s.closed s.text.items) }
 {
     let (lines, outcome) = step_workload(rt, alloc, workload)?;
     match outcome {
-        Outcome::ToEnd { report, closed } => Ok(Saying {
+        RunOutcome::ToEnd { report, closed } => Ok(Saying {
             status: Status::Ok,
             text: behind(
                 trace_text(alloc, lines.as_slice())?,
@@ -86,7 +86,7 @@ pub(crate) fn trace<R: Threads + Wait + Sync>(
             closed: Some(closed),
             why: None,
         }),
-        Outcome::ToLimit { clock, closed } => Ok(Saying {
+        RunOutcome::ToLimit { clock, closed } => Ok(Saying {
             status: Status::ClockFull { clock },
             text: behind(
                 trace_text(alloc, lines.as_slice())?,
@@ -95,7 +95,7 @@ pub(crate) fn trace<R: Threads + Wait + Sync>(
             closed: Some(closed),
             why: None,
         }),
-        Outcome::OutOfMemory { closed: _ } => Err(Memory),
+        RunOutcome::OutOfMemory { closed: _ } => Err(Memory),
     }
 }
 
@@ -116,14 +116,14 @@ pub(crate) fn summarize<R: Threads + Wait + Sync, G: Turnstile + Sync>(
     let workload = generate(alloc, transactions, callers, seed)?;
     let outcome = run_workload(rt, alloc, workload, Policy::Fixed, turnstile)?;
     match outcome {
-        Outcome::ToEnd { report, closed } => Ok(Saying {
+        RunOutcome::ToEnd { report, closed } => Ok(Saying {
             status: Status::Ok,
             text: summary_text(alloc, &Summary::of(&report))?,
             closed: Some(closed),
             why: None,
         }),
-        Outcome::ToLimit { .. } => unreachable!(),
-        Outcome::OutOfMemory { closed: _ } => Err(Memory),
+        RunOutcome::ToLimit { .. } => unreachable!(),
+        RunOutcome::OutOfMemory { closed: _ } => Err(Memory),
     }
 }
 

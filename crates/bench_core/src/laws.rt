@@ -2,7 +2,7 @@
 ghost use Rattle.bench_core.specs.Confirming.{RunIsConfirmed};
 ghost use Rattle.bench_core.specs.Headline.{Headline};
 
-use stm_check::laws::behind_is_confirmed;
+use stm_check::laws::after_is_confirmed;
 use stm_io::ends::{Sink, Source};
 
 /// Of a workload's text, and after it what `run` wrote of it at status 0, `check` says yes, where what was written isn't
@@ -10,7 +10,7 @@ use stm_io::ends::{Sink, Source};
 pub fn run_is_confirmed()
     ensures { RunIsConfirmed }
 {
-    behind_is_confirmed();
+    after_is_confirmed();
 }
 
 /// What `bench` promises of `run` at status 0 is the headline.

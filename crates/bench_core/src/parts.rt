@@ -1,7 +1,7 @@
 //! A workload, taken apart for its run, and what the run came to.
 ghost use Rattle.std.specs.Prelude.{ℕ, IfOk};
 ghost use Rattle.stm_driver.specs.Runs.{HasRun, HasStepped};
-ghost use Rattle.stm_text.specs.Built.{IsBuilt};
+ghost use Rattle.stm_text.specs.Parsed.{IsParsed};
 ghost use Rattle.stm_profile.specs.Policies.{ruling};
 ghost use Rattle.stm_text.specs.declared.parse.Mode.TheVariants.{Run, Step};
 
@@ -9,7 +9,7 @@ use std::alloc::Global;
 use std::sync::Wait;
 use std::thread::Threads;
 use stm_driver::laws::regions_are_kept;
-use stm_driver::outcome::Outcome;
+use stm_driver::outcome::RunOutcome;
 use stm_driver::parting::{CallerItems, part};
 use stm_driver::preparing::{Prepared, prepare};
 use stm_driver::run::run;
@@ -37,14 +37,14 @@ impl Parts {
     ghost use Rattle.std.specs.Prelude.{IfOk};
     ghost use Rattle.stm_script.specs.declared.workload.Workload.{Workload};
     ghost use Rattle.stm_driver.specs.Preparings.{IsReadyFor};
-    ghost use Rattle.stm_text.specs.Built.{IsBuilt};
+    ghost use Rattle.stm_text.specs.Parsed.{IsParsed};
     ghost use Rattle.stm_text.specs.declared.parse.Mode.{Mode};
     ghost use Rattle.tx_regions.specs.Regions.{AllWellFormed};
     ghost use Rattle.bench_core.specs.Apart.{AreParts};
 
     /// Takes a workload apart.
     fn of(alloc: Global, workload: Workload) -> Result<Parts, Memory>
-        requires { (mode : Mode) × IsBuilt mode workload }
+        requires { (mode : Mode) × IsParsed mode workload }
         ensures { IfOk result (AreParts workload) }
     {
         let Workload {
@@ -72,8 +72,8 @@ impl Parts {
         alloc: Global,
         policy: Policy,
     ) -> Result<Prepared<'a, Regions>, Memory>
-        requires { (mode : Mode) × (w : Workload) × IsBuilt mode w × AreParts w self.now }
-        ensures { IfOk result (λ p. (mode : Mode) (w : Workload) → IsBuilt mode w → AreParts w self.now → IsReadyFor (AllWellFormed p.stm.rule) mode policy w p) }
+        requires { (mode : Mode) × (w : Workload) × IsParsed mode w × AreParts w self.now }
+        ensures { IfOk result (λ p. (mode : Mode) (w : Workload) → IsParsed mode w → AreParts w self.now → IsReadyFor (AllWellFormed p.stm.rule) mode policy w p) }
     {
         regions_are_kept();
         let rule = self.header.regions(alloc)?;
@@ -99,8 +99,8 @@ pub(crate) fn run_workload<R: Threads + Wait + Sync, G: Turnstile + Sync>(
     workload: Workload,
     policy: Policy,
     turnstile: &G,
-) -> Result<Outcome, Memory>
-    requires { IsBuilt Run workload }
+) -> Result<RunOutcome, Memory>
+    requires { IsParsed Run workload }
     ensures { IfOk result (HasRun (ruling policy workload.header.policy) workload) }
 {
     let parts = Parts::of(alloc, workload)?;
@@ -114,8 +114,8 @@ pub(crate) fn step_workload<R: Threads + Wait + Sync>(
     rt: &R,
     alloc: Global,
     workload: Workload,
-) -> Result<(Vec<Line>, Outcome), Memory>
-    requires { IsBuilt Step workload }
+) -> Result<(Vec<Line>, RunOutcome), Memory>
+    requires { IsParsed Step workload }
     ensures { IfOk result (λ r. HasStepped workload r.0.items r.1) }
 {
     let parts = Parts::of(alloc, workload)?;

@@ -2,7 +2,7 @@
 use std::io;
 use std::io::{ErrorKind, Read, Write};
 
-/// A reader of one byte a call, of which one fails. Behind its bytes it reads none.
+/// A reader of one byte a call, of which one fails. After its bytes it reads none.
 #[derive(Drop)]
 pub(crate) struct Dribble {
     pub(crate) bytes: Vec<u8>,

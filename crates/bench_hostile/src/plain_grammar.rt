@@ -22,70 +22,70 @@ const ALGORITHMS: [&str; 6] = ["CGL", "TML", "OrecLazy", "OrecEager", "RingSW", 
 
 /// Among which lines a line stands.
 #[derive(Clone, Copy, Drop, Debug, PartialEq, Eq)]
-pub(crate) enum Place {
+pub(crate) enum LineGroup {
     Header,
     Items,
     Script,
     Schedule,
-    /// Behind `done`.
+    /// After `done`.
     End,
 }
 
 /// The lines after the header: where each may stand, its first word, whether it needs structures, and a letter for
 /// each word that follows: a caller, an address, a number, a stripe, a key, turns, or (`A`) an algorithm.
-pub(crate) const FORMS: &[(Place, &str, bool, &str)] = &[
-    (Place::Items, "tx", false, "c"),
-    (Place::Items, "switch", false, "cA"),
-    (Place::Items, "schedule", false, ""),
-    (Place::Items, "done", false, ""),
-    (Place::Schedule, "go", false, "ct"),
-    (Place::Schedule, "done", false, ""),
-    (Place::Script, "end", false, ""),
-    (Place::Script, "read", false, "a"),
-    (Place::Script, "write", false, "an"),
-    (Place::Script, "add", false, "an"),
-    (Place::Script, "move", false, "aan"),
-    (Place::Script, "irrev", false, ""),
-    (Place::Script, "emit", false, "a"),
-    (Place::Script, "cancel", false, ""),
-    (Place::Script, "count", true, "sn"),
-    (Place::Script, "total", true, ""),
-    (Place::Script, "ladd", true, "k"),
-    (Place::Script, "ldel", true, "k"),
-    (Place::Script, "lhas", true, "k"),
-    (Place::Script, "llen", true, ""),
-    (Place::Script, "hadd", true, "k"),
-    (Place::Script, "hdel", true, "k"),
-    (Place::Script, "hhas", true, "k"),
-    (Place::Script, "tadd", true, "k"),
-    (Place::Script, "tdel", true, "k"),
-    (Place::Script, "thas", true, "k"),
-    (Place::Script, "tmin", true, ""),
+pub(crate) const FORMS: &[(LineGroup, &str, bool, &str)] = &[
+    (LineGroup::Items, "tx", false, "c"),
+    (LineGroup::Items, "switch", false, "cA"),
+    (LineGroup::Items, "schedule", false, ""),
+    (LineGroup::Items, "done", false, ""),
+    (LineGroup::Schedule, "go", false, "ct"),
+    (LineGroup::Schedule, "done", false, ""),
+    (LineGroup::Script, "end", false, ""),
+    (LineGroup::Script, "read", false, "a"),
+    (LineGroup::Script, "write", false, "an"),
+    (LineGroup::Script, "add", false, "an"),
+    (LineGroup::Script, "move", false, "aan"),
+    (LineGroup::Script, "irrev", false, ""),
+    (LineGroup::Script, "emit", false, "a"),
+    (LineGroup::Script, "cancel", false, ""),
+    (LineGroup::Script, "count", true, "sn"),
+    (LineGroup::Script, "total", true, ""),
+    (LineGroup::Script, "ladd", true, "k"),
+    (LineGroup::Script, "ldel", true, "k"),
+    (LineGroup::Script, "lhas", true, "k"),
+    (LineGroup::Script, "llen", true, ""),
+    (LineGroup::Script, "hadd", true, "k"),
+    (LineGroup::Script, "hdel", true, "k"),
+    (LineGroup::Script, "hhas", true, "k"),
+    (LineGroup::Script, "tadd", true, "k"),
+    (LineGroup::Script, "tdel", true, "k"),
+    (LineGroup::Script, "thas", true, "k"),
+    (LineGroup::Script, "tmin", true, ""),
 ];
 
 /// The lines that version 2 has besides, or in place of those of that word: as [`FORMS`], with the kind of the region
 /// in place of whether structures are needed. `r` is the number of a region, `p` a stripe of it, `l` the length of a log.
-const FORMS_TWO: &[(Place, &str, &str, &str)] = &[
-    (Place::Items, "reserve", "", "cll"),
-    (Place::Script, "count", "counter", "rpn"),
-    (Place::Script, "total", "counter", "r"),
-    (Place::Script, "ladd", "list", "rk"),
-    (Place::Script, "ldel", "list", "rk"),
-    (Place::Script, "lhas", "list", "rk"),
-    (Place::Script, "llen", "list", "r"),
-    (Place::Script, "hadd", "hash", "rk"),
-    (Place::Script, "hdel", "hash", "rk"),
-    (Place::Script, "hhas", "hash", "rk"),
-    (Place::Script, "tadd", "tree", "rk"),
-    (Place::Script, "tdel", "tree", "rk"),
-    (Place::Script, "thas", "tree", "rk"),
-    (Place::Script, "tmin", "tree", "r"),
-    (Place::Script, "qput", "queue", "rk"),
-    (Place::Script, "qget", "queue", "r"),
-    (Place::Script, "mput", "summap", "rkn"),
-    (Place::Script, "mdel", "summap", "rk"),
-    (Place::Script, "mget", "summap", "rk"),
-    (Place::Script, "msum", "summap", "rkk"),
+const FORMS_TWO: &[(LineGroup, &str, &str, &str)] = &[
+    (LineGroup::Items, "reserve", "", "cll"),
+    (LineGroup::Script, "count", "counter", "rpn"),
+    (LineGroup::Script, "total", "counter", "r"),
+    (LineGroup::Script, "ladd", "list", "rk"),
+    (LineGroup::Script, "ldel", "list", "rk"),
+    (LineGroup::Script, "lhas", "list", "rk"),
+    (LineGroup::Script, "llen", "list", "r"),
+    (LineGroup::Script, "hadd", "hash", "rk"),
+    (LineGroup::Script, "hdel", "hash", "rk"),
+    (LineGroup::Script, "hhas", "hash", "rk"),
+    (LineGroup::Script, "tadd", "tree", "rk"),
+    (LineGroup::Script, "tdel", "tree", "rk"),
+    (LineGroup::Script, "thas", "tree", "rk"),
+    (LineGroup::Script, "tmin", "tree", "r"),
+    (LineGroup::Script, "qput", "queue", "rk"),
+    (LineGroup::Script, "qget", "queue", "r"),
+    (LineGroup::Script, "mput", "summap", "rkn"),
+    (LineGroup::Script, "mdel", "summap", "rk"),
+    (LineGroup::Script, "mget", "summap", "rk"),
+    (LineGroup::Script, "msum", "summap", "rkk"),
 ];
 
 /// The kinds of regions: the greatest size, and the words of a region of so many: so many for each, and some besides.
@@ -116,7 +116,7 @@ struct Reader {
     regions: Vec<Region>,
     /// Whether a schedule is allowed.
     is_step: bool,
-    place: Place,
+    place: LineGroup,
     /// The number of the next line.
     line: usize,
     words: u64,
@@ -144,7 +144,7 @@ pub(crate) fn first_fault(
         count: 0,
         regions: Vec::new(alloc),
         is_step,
-        place: Place::Header,
+        place: LineGroup::Header,
         line: 1,
         words: 0,
         callers: 0,
@@ -156,7 +156,7 @@ pub(crate) fn first_fault(
     };
     let mut line = Vec::new(alloc);
     for byte in text {
-        if reader.place == Place::End {
+        if reader.place == LineGroup::End {
             return Ok(Some((reader.line, 11)));
         }
         if *byte != b'\n' {
@@ -170,7 +170,7 @@ pub(crate) fn first_fault(
         reader.line = reader.line.saturating_add(1);
         line.clear();
     }
-    if reader.place == Place::End {
+    if reader.place == LineGroup::End {
         return Ok(None);
     }
     let code = if has_bad_byte(line.as_slice()) { 2 } else { 3 };
@@ -219,9 +219,11 @@ impl Reader {
             return 4;
         }
         match (self.place, words) {
-            (Place::Header, words) if self.is_two && self.line >= 10 => self.layout_fault(words),
-            (Place::Header, [name, value]) => self.header_fault(name, value),
-            (Place::Header, _) => 4,
+            (LineGroup::Header, words) if self.is_two && self.line >= 10 => self.layout_fault(
+                words,
+            ),
+            (LineGroup::Header, [name, value]) => self.header_fault(name, value),
+            (LineGroup::Header, _) => 4,
             (_, [name, operands @ ..]) => self.line_fault(name, operands),
             (_, []) => 4,
         }
@@ -300,7 +302,7 @@ impl Reader {
 
     /// The region of a line without a fault.
     fn region_of(&self, words: &[&str]) -> Option<Region> {
-        let (["region", name, at, size], Place::Header) = (words, self.place) else {
+        let (["region", name, at, size], LineGroup::Header) = (words, self.place) else {
             return None;
         };
         let kind = KINDS.iter().position(|kind| kind.0 == *name)?;
@@ -373,7 +375,7 @@ impl Reader {
             return 9;
         }
         let is_item = name == "tx" || name == "switch" || name == "reserve";
-        let is_operation = self.place == Place::Script && name != "end";
+        let is_operation = self.place == LineGroup::Script && name != "end";
         if (is_item && self.items >= 65536) || (is_operation && self.operations >= 4096) {
             return 10;
         }
@@ -432,44 +434,44 @@ impl Reader {
         let last = words.last().copied().unwrap_or("");
         let n = number(last).unwrap_or(0);
         match self.place {
-            Place::Header => match name {
+            LineGroup::Header => match name {
                 "stm" => self.is_two = last == "2",
                 "regions" => self.count = n,
-                "policy" => self.place = Place::Items,
+                "policy" => self.place = LineGroup::Items,
                 "words" => self.words = n,
                 "callers" => self.callers = n,
                 "structs" => {
                     self.structs = last == "on";
-                    self.place = Place::Items;
+                    self.place = LineGroup::Items;
                 }
                 _ => {}
             },
-            Place::Items => self.go_on_past_item(name),
-            Place::Script => {
+            LineGroup::Items => self.go_on_past_item(name),
+            LineGroup::Script => {
                 self.operations = self.operations.saturating_add(1);
                 self.asked = self.asked || name == "irrev";
                 if name == "end" {
-                    self.place = Place::Items;
+                    self.place = LineGroup::Items;
                 }
             }
-            Place::Schedule => {
+            LineGroup::Schedule => {
                 self.turns = self.turns.saturating_add(n);
                 if name == "done" {
-                    self.place = Place::End;
+                    self.place = LineGroup::End;
                 }
             }
-            Place::End => {}
+            LineGroup::End => {}
         }
     }
 
     fn go_on_past_item(&mut self, name: &str) {
         match name {
-            "schedule" => self.place = Place::Schedule,
-            "done" => self.place = Place::End,
+            "schedule" => self.place = LineGroup::Schedule,
+            "done" => self.place = LineGroup::End,
             _ => self.items = self.items.saturating_add(1),
         }
         if name == "tx" {
-            self.place = Place::Script;
+            self.place = LineGroup::Script;
             self.operations = 0;
             self.asked = false;
         }

@@ -1,5 +1,5 @@
 //! Texts that are drawn line by line, right or wrong: the parser finds what the slow reading of the grammar finds.
-use crate::plain_grammar::{FORMS, Place, first_fault};
+use crate::plain_grammar::{FORMS, LineGroup, first_fault};
 use rand_core::SeedableRng;
 use rand_core::utils::NextWord;
 use rand_pcg::Pcg32;
@@ -86,9 +86,9 @@ fn put_operand(draws: &mut Pcg32, kind: u8, text: &mut String) -> Result<(), Fai
 fn put_line(
     alloc: Global,
     draws: &mut Pcg32,
-    place: Place,
+    place: LineGroup,
     text: &mut String,
-) -> Result<Place, Fail> {
+) -> Result<LineGroup, Fail> {
     let anywhere = happens(draws, 30);
     let mut forms = Vec::new(alloc);
     for (there, name, _, kinds) in FORMS {
@@ -108,12 +108,12 @@ fn put_line(
 }
 
 /// The place after a line of this name.
-fn behind(place: Place, name: &str) -> Place {
+fn behind(place: LineGroup, name: &str) -> LineGroup {
     match (place, name) {
-        (Place::Items, "tx") => Place::Script,
-        (Place::Script, "end") => Place::Items,
-        (Place::Items, "schedule") => Place::Schedule,
-        (Place::Items, "done") | (Place::Schedule, "done") => Place::End,
+        (LineGroup::Items, "tx") => LineGroup::Script,
+        (LineGroup::Script, "end") => LineGroup::Items,
+        (LineGroup::Items, "schedule") => LineGroup::Schedule,
+        (LineGroup::Items, "done") | (LineGroup::Schedule, "done") => LineGroup::End,
         _ => place,
     }
 }
@@ -125,9 +125,9 @@ fn random_text(alloc: Global, draws: &mut Pcg32) -> Result<String, Fail> {
         text.push_str(draw(draws, front, all, 60))?;
         text.push_str("\n")?;
     }
-    let mut place = Place::Items;
+    let mut place = LineGroup::Items;
     for _ in 0..30 {
-        if place != Place::End || happens(draws, 20) {
+        if place != LineGroup::End || happens(draws, 20) {
             place = put_line(alloc, draws, place, &mut text)?;
         }
     }

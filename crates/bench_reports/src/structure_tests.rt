@@ -101,7 +101,7 @@ fn first_keys(count: u32) -> [bool; 64] {
 }
 
 #[test]
-fn has_no_room_behind_the_last_cell(rt: HostRuntime) -> Result<(), Fail> {
+fn has_no_room_after_the_last_cell(rt: HostRuntime) -> Result<(), Fail> {
     for (set, (letter, room)) in ROOMS.iter().enumerate() {
         let text = overfilling(rt.alloc(), letter, *room)?;
         let words = ["stm_bench", "run"];

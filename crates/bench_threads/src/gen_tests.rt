@@ -56,7 +56,7 @@ impl Turnstile for Passed {
     }
 }
 
-/// Behind the opening one, caller 0 has four transactions and caller 1 four.
+/// After the opening one, caller 0 has four transactions and caller 1 four.
 #[test]
 fn each_transaction_passes(rt: HostRuntime) -> Result<(), Fail> {
     let passed = Passed {

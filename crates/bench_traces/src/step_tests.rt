@@ -149,8 +149,8 @@ fn installs_each(
     from: &str,
     first: u64,
 ) -> Result<(), Fail> {
-    for (to, _, behind_one, behind_two) in ALGS {
-        let second = if first == 1 { *behind_one } else { *behind_two };
+    for (to, _, after_one, after_two) in ALGS {
+        let second = if first == 1 { *after_one } else { *after_two };
         let changes = format!(in alloc; "alg {from} / callers 2")?;
         let body = format!(in alloc;
             "tx 0 {{add 3 1}} / switch 0 {to} / tx 0 {{add 3 1}} / tx 1 {{read 3}} / tx 1 {{read 3}} / schedule / go 0 3 / go 1 2 / go 0 2 / go 1 1 / go 0 5"
@@ -175,7 +175,7 @@ fn installs_each_after_each(rt: HostRuntime) -> Result<(), Fail> {
 /// Caller 1 commits in the middle of each of caller 0's first 16 attempts, so that the next one asks to be
 /// irrevocable before it reads.
 #[test]
-fn asks_to_be_irrevocable_behind_16_conflicts(rt: HostRuntime) -> Result<(), Fail> {
+fn asks_to_be_irrevocable_after_16_conflicts(rt: HostRuntime) -> Result<(), Fail> {
     let alloc = rt.alloc();
     let items = " / tx 1 {write 1 0}".repeat(alloc, 16)?;
     let turns = " / go 0 2 / go 1 3 / go 0 1".repeat(alloc, 16)?;

@@ -32,9 +32,9 @@ impl Transaction<AnyMem> for Increment {
 
     type Output = (u64, u64, u64);
 
-    ghost fits = { λ it rule words. 2 < words };
+    ghost precondition = { λ it rule words. 2 < words };
 
-    ghost tells = { λ it rule words r log. Unit {0} };
+    ghost postcondition = { λ it rule words r log. Unit {0} };
 
     fn run<A: Access>(&self, _: &AnyMem, memory: &mut A) -> Result<(u64, u64, u64), Stop> {
         let count = memory.read(0)?;

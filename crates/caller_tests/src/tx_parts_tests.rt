@@ -35,11 +35,11 @@ impl Part<AnyMem> for Mix {
 
     type Output = ();
 
-    ghost fits = { λ it rule words. 15 < words };
+    ghost precondition = { λ it rule words. 15 < words };
 
     ghost depth = { λ it. 0 };
 
-    ghost tells = { λ it rule words came before after. Unit {0} };
+    ghost postcondition = { λ it rule words came before after. Unit {0} };
 
     fn run<N: Nesting>(&self, _: &AnyMem, memory: &mut N) -> Result<Option<()>, Stop> {
         let at = self.at % WORDS;
@@ -147,9 +147,9 @@ impl<R: Wait> Job<R, AnyMem> for Nests {
 
     type Output = usize;
 
-    ghost needs = { λ job rule words. 15 < words };
+    ghost precondition = { λ job rule words. 15 < words };
 
-    ghost tells = { λ job rule words caller answer before after. Unit {0} };
+    ghost postcondition = { λ job rule words caller answer before after. Unit {0} };
 
     fn work(&self, caller: &mut Caller<'_, R, AnyMem>) -> usize {
         let number = caller.number();
@@ -205,11 +205,11 @@ impl Part<AnyMem> for Put {
 
     type Output = ();
 
-    ghost fits = { λ it rule words. it.at < words };
+    ghost precondition = { λ it rule words. it.at < words };
 
     ghost depth = { λ it. 0 };
 
-    ghost tells = { λ it rule words came before after. Unit {0} };
+    ghost postcondition = { λ it rule words came before after. Unit {0} };
 
     fn run<N: Nesting>(&self, _: &AnyMem, memory: &mut N) -> Result<Option<()>, Stop> {
         let found = memory.read(self.at)?;
@@ -230,11 +230,11 @@ impl Part<AnyMem> for Draw {
 
     type Output = ();
 
-    ghost fits = { λ it rule words. it.at < words };
+    ghost precondition = { λ it rule words. it.at < words };
 
     ghost depth = { λ it. 0 };
 
-    ghost tells = { λ it rule words came before after. Unit {0} };
+    ghost postcondition = { λ it rule words came before after. Unit {0} };
 
     fn run<N: Nesting>(&self, _: &AnyMem, memory: &mut N) -> Result<Option<()>, Stop> {
         let found = memory.read(self.at)?;
@@ -291,9 +291,9 @@ impl<R: Wait> Job<R, AnyMem> for Transfers {
 
     type Output = usize;
 
-    ghost needs = { λ job rule words. 3 < words };
+    ghost precondition = { λ job rule words. 3 < words };
 
-    ghost tells = { λ job rule words caller answer before after. Unit {0} };
+    ghost postcondition = { λ job rule words caller answer before after. Unit {0} };
 
     fn work(&self, caller: &mut Caller<'_, R, AnyMem>) -> usize {
         let number = caller.number();
@@ -337,11 +337,11 @@ impl Part<AnyMem> for Take {
 
     type Output = u64;
 
-    ghost fits = { λ it rule words. it.at < words };
+    ghost precondition = { λ it rule words. it.at < words };
 
     ghost depth = { λ it. 0 };
 
-    ghost tells = { λ it rule words came before after. Unit {0} };
+    ghost postcondition = { λ it rule words came before after. Unit {0} };
 
     fn run<N: Nesting>(&self, _: &AnyMem, memory: &mut N) -> Result<Option<u64>, Stop> {
         let found = memory.read(self.at)?;
@@ -364,9 +364,9 @@ impl<R: Wait> Job<R, AnyMem> for Await {
 
     type Output = bool;
 
-    ghost needs = { λ job rule words. 1 < words };
+    ghost precondition = { λ job rule words. 1 < words };
 
-    ghost tells = { λ job rule words caller answer before after. Unit {0} };
+    ghost postcondition = { λ job rule words caller answer before after. Unit {0} };
 
     fn work(&self, caller: &mut Caller<'_, R, AnyMem>) -> bool {
         let alloc = self.alloc;

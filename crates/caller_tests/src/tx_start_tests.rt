@@ -17,9 +17,9 @@ impl Transaction<AnyMem> for Add {
 
     type Output = u64;
 
-    ghost fits = { λ it rule words. 0 < words };
+    ghost precondition = { λ it rule words. 0 < words };
 
-    ghost tells = { λ it rule words came log. Unit {0} };
+    ghost postcondition = { λ it rule words came log. Unit {0} };
 
     fn run<A: Access>(&self, _: &AnyMem, memory: &mut A) -> Result<u64, Stop> {
         let count = memory.read(0)?;
@@ -35,9 +35,9 @@ impl<R: Wait> Job<R, AnyMem> for Count {
 
     type Output = usize;
 
-    ghost needs = { λ job rule words. 0 < words };
+    ghost precondition = { λ job rule words. 0 < words };
 
-    ghost tells = { λ job rule words caller answer before after. Unit {0} };
+    ghost postcondition = { λ job rule words caller answer before after. Unit {0} };
 
     fn work(&self, caller: &mut Caller<'_, R, AnyMem>) -> usize {
         caller.repeat(500, &|_| Add)

@@ -23,9 +23,9 @@ impl Transaction<AnyMem> for Put {
 
     type Output = Option<()>;
 
-    ghost fits = { λ it rule words. 0 < words };
+    ghost precondition = { λ it rule words. 0 < words };
 
-    ghost tells = { λ it rule words came log. IfNone came (log.writes ≡ []) };
+    ghost postcondition = { λ it rule words came log. IfNone came (log.writes ≡ []) };
 
     fn run<A: Access>(&self, _: &AnyMem, memory: &mut A) -> Result<Option<()>, Stop> {
         if memory.read(0)? != 0 {
@@ -45,9 +45,9 @@ impl Transaction<AnyMem> for Take {
 
     type Output = Option<u64>;
 
-    ghost fits = { λ it rule words. 0 < words };
+    ghost precondition = { λ it rule words. 0 < words };
 
-    ghost tells = { λ it rule words came log. IfNone came (log.writes ≡ []) };
+    ghost postcondition = { λ it rule words came log. IfNone came (log.writes ≡ []) };
 
     fn run<A: Access>(&self, _: &AnyMem, memory: &mut A) -> Result<Option<u64>, Stop> {
         let value = memory.read(0)?;
@@ -67,9 +67,9 @@ impl<R: Wait> Job<R, AnyMem> for Hand {
 
     type Output = bool;
 
-    ghost needs = { λ job rule words. 0 < words };
+    ghost precondition = { λ job rule words. 0 < words };
 
-    ghost tells = { λ job rule words caller answer before after. Unit {0} };
+    ghost postcondition = { λ job rule words caller answer before after. Unit {0} };
 
     fn work(&self, caller: &mut Caller<'_, R, AnyMem>) -> bool {
         for i in 0..VALUES {

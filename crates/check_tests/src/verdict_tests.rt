@@ -6,7 +6,7 @@ use stm_check::reading::read_report;
 use stm_check::replay::replay;
 use stm_check::verdict::Verdict;
 use stm_model::memory::Memory;
-use stm_text::laws::built_workloads_fit;
+use stm_text::laws::parsed_workloads_fit;
 use stm_text::parse::{Mode, ParseError, parse};
 
 /// Two transactions that add and one that reads: 20 lines.
@@ -126,7 +126,7 @@ fn check_short(alloc: Global, text: &[u8]) -> Result<Finding, Memory> {
 
 /// What a report of this workload comes to.
 fn verdict(alloc: Global, workload: &str, report: &[u8]) -> Result<Verdict, ParseError> {
-    built_workloads_fit();
+    parsed_workloads_fit();
     let workload = parse(alloc, workload.as_bytes(), Mode::Run)?;
     let report = read_report(alloc, report)?;
     match replay(alloc, &workload, &report) {

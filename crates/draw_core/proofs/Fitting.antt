@@ -13,14 +13,14 @@ use Rattle.stm_trace.specs.declared.line.Line.TheVariants.{Of, Finish}
 use Rattle.stm_trace.specs.declared.said.Said.{Said}
 use Rattle.stm_trace.specs.declared.said.Said.TheVariants.{TryBegin, Reply, Stopped, TryCancel, TryIrrevocable, TryCommit, TryClose, Looked, Installed, Reserved, Idle, Dropped, Reopened}
 use Rattle.stm_trace.specs.Fits.{Path, Scheduled, Winding, Finishing, IsWhole, IsCut, AreOverBelow, first_place, first_places, place_of, says}
-use Rattle.stm_trace.specs.Places.{Place, after}
+use Rattle.stm_trace.specs.Places.{CallerProgress, after}
 use Rattle.stm_trace.specs.Turns.{MaySay, MayWind, MayFinish}
 use Rattle.draw_core.specs.Statements.{IsOfMemory, LinesFit, IsTraceOf, StepIsDrawn}
 use Rattle.draw_core.proofs.Tracing.{trace-is-drawn}
 
 -- what may be said is of an operation on the memory
 
-may-say : (at : Place) (said : Said) → MaySay at said → IsOfMemory said
+may-say : (at : CallerProgress) (said : Said) → MaySay at said → IsOfMemory said
 may-say at (TryBegin b) m = tt
 may-say at (Reply op reply) m = m.1
 may-say at (Stopped op stop) m = m.1
@@ -35,7 +35,7 @@ may-say at Idle m = tt
 may-say at Dropped m = tt
 may-say at Reopened m = tt
 
-may-wind : (at : Place) (said : Said) → MayWind at said → IsOfMemory said
+may-wind : (at : CallerProgress) (said : Said) → MayWind at said → IsOfMemory said
 may-wind at (TryBegin b) m = tt
 may-wind at (Reply op reply) m = m.2.1
 may-wind at (Stopped op stop) m = m.2.1
@@ -50,7 +50,7 @@ may-wind at Idle m = tt
 may-wind at Dropped m = tt
 may-wind at Reopened m = tt
 
-may-finish : (at : Place) (said : Said) → MayFinish at said → IsOfMemory said
+may-finish : (at : CallerProgress) (said : Said) → MayFinish at said → IsOfMemory said
 may-finish at (TryBegin b) m = tt
 may-finish at (Reply op reply) m = m.1
 may-finish at (Stopped op stop) m = m.1
@@ -66,12 +66,12 @@ may-finish at Dropped m = tt
 may-finish at Reopened m = tt
 
 -- a path's lines fit, and it leaves as many places
-pub record Fitting (places : List Place) (lines : List Line) (last : List Place) : Type 0 where
+pub record Fitting (places : List CallerProgress) (lines : List Line) (last : List CallerProgress) : Type 0 where
   pub fit : LinesFit lines
   pub same : length last ≡ length places
 
-module _ (h : Header) (may : Place → Said → Type 0) (of-memory : (at : Place) (said : Said) → may at said → IsOfMemory said) where
-  path-fits : (places : List Place) (lines : List Line) (last : List Place) → length places ≤ MAX_CALLERS → Path h may places lines last → Fitting places lines last
+module _ (h : Header) (may : CallerProgress → Said → Type 0) (of-memory : (at : CallerProgress) (said : Said) → may at said → IsOfMemory said) where
+  path-fits : (places : List CallerProgress) (lines : List Line) (last : List CallerProgress) → length places ≤ MAX_CALLERS → Path h may places lines last → Fitting places lines last
   path-fits places [] last few p = record { fit = tt; same = ap length (sym p) }
   path-fits places (Of n said ∷ lines) last few p =
       let same : length (says places n said) ≡ length places = length-set places n (after (place_of places n) said) in
@@ -85,18 +85,18 @@ append-fits [] ys f g = g
 append-fits (Of n said ∷ xs) ys f g = (f.0, f.1, append-fits xs ys f.2 g)
 append-fits (Finish ∷ xs) ys f g = append-fits xs ys f g
 
-module _ (h : Header) (start : List Place) (few : length start ≤ MAX_CALLERS) (schedule : List Go) where
-  scheduled-fits : (lines : List Line) (now : List Place) → Scheduled h start schedule lines now → LinesFit lines
+module _ (h : Header) (start : List CallerProgress) (few : length start ≤ MAX_CALLERS) (schedule : List Go) where
+  scheduled-fits : (lines : List Line) (now : List CallerProgress) → Scheduled h start schedule lines now → LinesFit lines
   scheduled-fits lines now s = (path-fits h MaySay may-say start lines now few s.path).fit
 
-  winding-fits : (lines : List Line) (now : List Place) → Winding h start schedule lines now → Fitting start lines now
+  winding-fits : (lines : List Line) (now : List CallerProgress) → Winding h start schedule lines now → Fitting start lines now
   winding-fits lines now w =
       let first = path-fits h MaySay may-say start w.first w.middle few w.played in
       let same = first.same in
       let second = path-fits h MayWind may-wind w.middle w.second now (omega (arith, same, few)) w.path in
       record { fit = subst LinesFit (sym w.parts) (append-fits w.first (Finish ∷ w.second) first.fit second.fit); same = second.same ∙ first.same }
 
-  finishing-fits : (lines : List Line) (now : List Place) → Finishing h start schedule lines now → LinesFit lines
+  finishing-fits : (lines : List Line) (now : List CallerProgress) → Finishing h start schedule lines now → LinesFit lines
   finishing-fits lines now f =
       let first = winding-fits f.first f.middle f.wound in
       let same = first.same in
@@ -106,7 +106,7 @@ module _ (h : Header) (start : List Place) (few : length start ≤ MAX_CALLERS) 
   whole-fits : (lines : List Line) (rows : List Row) → IsWhole h start schedule lines rows → LinesFit lines
   whole-fits lines rows w = finishing-fits lines w.now w.finished
 
-  reached-fits : (lines : List Line) (caller : ℕ) (now : List Place) → Scheduled h start schedule lines now ⊎ (Finishing h start schedule lines now × AreOverBelow caller now) → LinesFit lines
+  reached-fits : (lines : List Line) (caller : ℕ) (now : List CallerProgress) → Scheduled h start schedule lines now ⊎ (Finishing h start schedule lines now × AreOverBelow caller now) → LinesFit lines
   reached-fits lines caller now (inl s) = scheduled-fits lines now s
   reached-fits lines caller now (inr f) = finishing-fits lines now f.0
 

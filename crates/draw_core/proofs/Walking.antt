@@ -41,7 +41,7 @@ set-from items n (suc k) (b ∷ cs) c =
 pub set-stand : (items : List Item) (k : ℕ) (cs : List Cursor) (c : Cursor) → slice_set (stands_of items 0 cs) k (stand_of items k c) ≡ stands_of items 0 (slice_set cs k c)
 set-stand items k cs c = ap (λ (m : ℕ). slice_set (stands_of items 0 cs) k (stand_of items m c)) (let e : k ≡ 0 + k = omega arith in e) ∙ set-from items 0 k cs c
 
--- each looks on from an item, or behind the last one
+-- each looks on from an item, or after the last one
 
 pub within-at : (items : List Item) (k : ℕ) (cs : List Cursor) (d : Cursor) → AreWithin items cs → k < length cs → (slice_index_or cs k d).item ≤ length items
 within-at items k [] d a lt = absurd (omega arith)

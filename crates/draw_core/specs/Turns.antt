@@ -90,7 +90,7 @@ given_up at = record at { attempt = None }
 abbrev pub granted : Stand → Stand
 granted at = if is_next Irrev (next_of at.attempt) then done at else at
 
--- where the caller stands behind a line that does this, if it may
+-- where the caller stands after a line that does this, if it may
 abbrev pub after : Stand → Turn → Option Stand
 after at Begins = begun at.attempt at.scripts
 after at (Does like) = if is_next like (next_of at.attempt) then Some (done at) else None

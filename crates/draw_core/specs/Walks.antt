@@ -32,7 +32,7 @@ abbrev pub turned : Version → List Stand → ℕ → Said → Option Stand →
 turned version stands n said None = None
 turned version stands n said (Some at) = Some (record { line = Of n said; deed = deed_of version (told_by (stand_at stands n) (turn_of said)) }, slice_set stands n at)
 
--- the line with what it tells of, and where the callers stand behind it; none where it may not come
+-- the line with what it tells of, and where the callers stand after it; none where it may not come
 abbrev pub goes : Version → List Stand → Line → Option (Step × List Stand)
 goes version stands (Of n said) = if ltb n (length stands) then turned version stands n said (after (stand_at stands n) (turn_of said)) else None
 goes version stands Finish = Some (bare Finish, stands)

@@ -3,7 +3,7 @@ use Rattle.std.specs.Prelude.{ℕ, ◌≡◌, ◌+◌, ◌-◌, ◌^◌, min, Bo
 use Rattle.stm_script.specs.declared.workload.Workload.{Workload}
 use Rattle.stm_text.specs.declared.parse.Mode.TheVariants.{Step as Stepwise}
 use Rattle.stm_text.specs.Grammar.{workload_of}
-use Rattle.stm_text.specs.Parting.{to_done, behind_done, lines_to_done}
+use Rattle.stm_text.specs.Parting.{to_done, after_done, lines_to_done}
 use Rattle.stm_trace.specs.declared.line.Line.{Line}
 use Rattle.draw_core.specs.declared.reading.TheConstants.{MOST_DRAWN}
 use Rattle.draw_core.specs.declared.step.Step.{Step}
@@ -35,7 +35,7 @@ both (Err fault) above trace = Err fault.0
 abbrev pub steps_of : List ℕ → Result (List Step) ℕ
 steps_of text =
     if ltb MOST_DRAWN (length text) then Err 0 else
-    (if has_workload text then both (workload_of Stepwise (to_done text)) (lines_to_done text) (trace_of (behind_done text)) else trace_alone (trace_of text))
+    (if has_workload text then both (workload_of Stepwise (to_done text)) (lines_to_done text) (trace_of (after_done text)) else trace_alone (trace_of text))
 
 -- an error names the first line at fault; want of memory is free
 abbrev pub IsStepsFault : StepsError → Result (List Step) ℕ → Type 0

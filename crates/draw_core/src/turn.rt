@@ -19,7 +19,7 @@ pub enum Turn {
     Grants,
     /// The transaction ends at the next operation, a cancel.
     Cancels,
-    /// The transaction ends behind its last operation.
+    /// The transaction ends after its last operation.
     Commits,
     /// The attempt ends.
     Fails,

@@ -63,7 +63,7 @@ fn first_cursors(alloc: Global, callers: usize) -> Result<Vec<Cursor>, AllocErro
     Ok(vec![in alloc; first; callers]?)
 }
 
-/// The operation that a line tells of, and its caller's cursor behind it. None where the line may not come there.
+/// The operation that a line tells of, and its caller's cursor after it. None where the line may not come there.
 fn step_of(version: Version, items: &[Item], cursors: &mut [Cursor], line: Line) -> Option<Step>
     requires { AreWithin items.now cursors.old }
     ensures is { MatchOption result (goes version (stands_of items.now 0 cursors.old) line ≡ None) (λ s. goes version (stands_of items.now 0 cursors.old) line ≡ Some (s, stands_of items.now 0 cursors.new)) }

@@ -27,9 +27,9 @@ impl Transaction<Bank> for Open {
 
     type Output = bool;
 
-    ghost fits = { λ it bank words. words ≡ 9 };
+    ghost precondition = { λ it bank words. words ≡ 9 };
 
-    ghost tells = { λ it bank words opened log. DoesOver IsBalanced words opened_in nothing opened log };
+    ghost postcondition = { λ it bank words opened log. DoesOver IsBalanced words opened_in nothing opened log };
 
     fn run<A: Access>(&self, _: &Bank, memory: &mut A) -> Result<bool, Stop> {
         let (paid, _) = read_two(memory, 8, 0)?;
@@ -57,9 +57,9 @@ impl Transaction<Bank> for Transfer {
 
     type Output = bool;
 
-    ghost fits = { λ it bank words. (words ≡ 9) × (it.from < 8) × (it.to < 8) × (it.from ≢ it.to) };
+    ghost precondition = { λ it bank words. (words ≡ 9) × (it.from < 8) × (it.to < 8) × (it.from ≢ it.to) };
 
-    ghost tells = { λ it bank words moved log. DoesOver IsBalanced words (moved_in it) nothing moved log };
+    ghost postcondition = { λ it bank words moved log. DoesOver IsBalanced words (moved_in it) nothing moved log };
 
     fn run<A: Access>(&self, _: &Bank, memory: &mut A) -> Result<bool, Stop> {
         let (payer, payee) = read_two(memory, self.from, self.to)?;
@@ -90,9 +90,9 @@ impl Transaction<Bank> for Audit {
 
     type Output = u64;
 
-    ghost fits = { λ it bank words. words ≡ 9 };
+    ghost precondition = { λ it bank words. words ≡ 9 };
 
-    ghost tells = { λ it bank words sum log. DoesOver IsBalanced words (λ m. unchanged (sum_in 0 8 m) m) nothing sum log × IsPaid sum };
+    ghost postcondition = { λ it bank words sum log. DoesOver IsBalanced words (λ m. unchanged (sum_in 0 8 m) m) nothing sum log × IsPaid sum };
 
     fn run<A: Access>(&self, _: &Bank, memory: &mut A) -> Result<u64, Stop> {
         let sum = read_sum(memory, 0..8)?;

@@ -29,9 +29,9 @@ impl<R: Wait> Job<R, Bank> for Day {
 
     type Output = u64;
 
-    ghost needs = { λ day bank words. words ≡ 9 };
+    ghost precondition = { λ day bank words. words ≡ 9 };
 
-    ghost tells = { λ day bank words caller found before after. IsPaid found };
+    ghost postcondition = { λ day bank words caller found before after. IsPaid found };
 
     fn work(&self, caller: &mut Caller<'_, R, Bank>) -> u64 {
         if caller.number() != 0 {

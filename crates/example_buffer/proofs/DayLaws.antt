@@ -6,7 +6,7 @@ use Rattle.nekchhaul.specs.Histories.{Entry, memory_at}
 use Rattle.nekchhaul.specs.Logs.{Log, Reads, Keeps, IsExplained}
 use Rattle.nekchhaul.specs.Memories.{overlay, Explains}
 use Rattle.nekchhaul.specs.Handles.{BeginsHistory}
-use Rattle.nekchhaul.specs.Known.{Known, Grows, no_log}
+use Rattle.nekchhaul.specs.CallerState.{CallerState, Grows, no_log}
 use Rattle.nekchhaul.specs.Attempts.{TookEffect}
 use Rattle.nekchhaul.specs.Moments.{Happened}
 use Rattle.nekchhaul.specs.MomentLaws.{happened}
@@ -46,7 +46,7 @@ filled x (a ∷ b ∷ c ∷ d ∷ e ∷ m) len = absurd (omega (arith, len))
 pub filling-good : (x : ℕ) (m : List ℕ) → x ≤ 2 → m ≡ filling x → IsFilling m
 filling-good x m few is = subst IsFilling (sym is) (refl, few)
 
-seen-whole : (when : ℕ → Type 0) (u w : Known) (history : List Entry) (sight : Sight) → ((at : ℕ) → u.front ≤ at → at ≤ w.front → when at) → Happened IsFilling CONFIG (Saw sight) u w history → SeenWhole when history sight
+seen-whole : (when : ℕ → Type 0) (u w : CallerState) (history : List Entry) (sight : Sight) → ((at : ℕ) → u.front ≤ at → at ≤ w.front → when at) → Happened IsFilling CONFIG (Saw sight) u w history → SeenWhole when history sight
 seen-whole when u w history sight due h =
     let m : List ℕ = memory_at h.at history (filling 0) in
     let ends = h.told.1 m h.read in
@@ -58,7 +58,7 @@ seen-whole when u w history sight due h =
     }
 
 -- a look that took effect has its moment
-pub seen : (when : ℕ → Type 0) (config : Config) (n : ℕ) (o : Option Sight) (u w k : Known) (history : List Entry) → config ≡ CONFIG → ((at : ℕ) → u.front ≤ at → at ≤ w.front → when at)
+pub seen : (when : ℕ → Type 0) (config : Config) (n : ℕ) (o : Option Sight) (u w k : CallerState) (history : List Entry) → config ≡ CONFIG → ((at : ℕ) → u.front ≤ at → at ≤ w.front → when at)
     → IfSome o (λ sight. TookEffect IsFilling config n (Saw sight) u.front u w) → Grows w k → BeginsHistory k.seen k.front history → IfSome o (SeenWhole when history)
 seen when config n None u w k history of due took grows begun = tt
 seen when config n (Some sight) u w k history of due took grows begun =

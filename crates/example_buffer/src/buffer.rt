@@ -30,9 +30,9 @@ impl Transaction<Buffer> for Look {
 
     type Output = Sight;
 
-    ghost fits = { λ it buffer words. words ≡ 4 };
+    ghost precondition = { λ it buffer words. words ≡ 4 };
 
-    ghost tells = { λ it buffer words sight log. Saw sight log };
+    ghost postcondition = { λ it buffer words sight log. Saw sight log };
 
     fn run<A: Access>(&self, _: &Buffer, memory: &mut A) -> Result<Sight, Stop> {
         let first = memory.read(0)?;

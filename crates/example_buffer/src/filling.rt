@@ -3,7 +3,7 @@ ghost use Rattle.std.specs.Prelude.{◌≡◌, ◌≤◌, ℕ, [], true, false};
 ghost use Rattle.nekchhaul.specs.Encodings.{fenced};
 ghost use Rattle.nekchhaul.specs.Handles.{IsOf, IsSameCaller};
 ghost use Rattle.nekchhaul.specs.Fences.{is_within};
-ghost use Rattle.nekchhaul.specs.Known.{IsIdle};
+ghost use Rattle.nekchhaul.specs.CallerState.{IsIdle};
 ghost use Rattle.nekchhaul.specs.Descs.{known};
 ghost use Rattle.example_buffer.specs.Fillings.{writes_of};
 

@@ -10,11 +10,11 @@ use Rattle.nekchhaul.specs.Alg.{Alg}
 use Rattle.nekchhaul.specs.Histories.{IsLegal, made_by, memory_at, memory_after}
 use Rattle.nekchhaul.specs.HistoryLaws.{Within, memory_at-all}
 use Rattle.nekchhaul.specs.Closings.{Ended}
-use Rattle.nekchhaul.specs.Known.{Known}
+use Rattle.nekchhaul.specs.CallerState.{CallerState}
 use Rattle.nekchhaul.specs.Queues.{IsQueue, QueueFits, contents, count, front, values_from}
 use Rattle.nekchhaul.specs.QueueStatements.{PutsLast, GetsFirst, ZerosAreEmpty}
 use Rattle.nekchhaul.specs.Answer.{Answer}
-use Rattle.nekchhaul.specs.Outcome.{Outcome}
+use Rattle.nekchhaul.specs.ClosedMemory.{ClosedMemory}
 use Rattle.nekchhaul.specs.Stories.{IsStory}
 use Rattle.example_jobs.specs.declared.hands.Hand.{Hand}
 use Rattle.example_jobs.specs.declared.plan.Plan.{Plan}
@@ -24,10 +24,10 @@ use Rattle.example_jobs.proofs.CountLaws.{one_if, worth, worth_in, merge-worth, 
 use Rattle.example_jobs.proofs.OrderLaws.{legal-steps, Deeds, orders}
 
 -- what a caller is told in a memory of so many words
-abbrev pub TellsIn : ℕ → Plan → ℕ → Hand → Known → Known → Type 0
+abbrev pub TellsIn : ℕ → Plan → ℕ → Hand → CallerState → CallerState → Type 0
 TellsIn words plan n hand before after = (hand.gave ≤ quota plan n) × HasDone (queue_of plan) words (given_by plan n hand) hand.took.items before.made after.made
 
-abbrev pub Tells : Plan → ℕ → Hand → Known → Known → Type 0
+abbrev pub Tells : Plan → ℕ → Hand → CallerState → CallerState → Type 0
 Tells plan = TellsIn (plan.room + 2) plan
 
 length-given : (plan : Plan) (n : ℕ) (hs : List (Answer Hand)) → length (given_from plan n hs) ≡ length hs
@@ -46,7 +46,7 @@ told-deeds alg plan e n hand s =
     let all : did.0 ≡ made_by n e.history = sym (did.1 ∙ ap (λ l. l ++ did.0) s.fresh) ∙ s.made in
     subst (λ es. AreDeeds (queue_of plan) (plan.room + 2) es (given_by plan n hand) hand.took.items) all did.2
 
-abbrev pub hands : Outcome Hand → List (Answer Hand)
+abbrev pub hands : ClosedMemory Hand → List (Answer Hand)
 hands day = day.answers.items
 
 sum-by-hands : (hs : List (Answer Hand)) → sum_taken hs ≡ worth_in (λ y. y) (map taken_by hs)
@@ -57,7 +57,7 @@ sum-by-hands (a ∷ hs) =
     let right = sum_by-cons (λ (xs : List ℕ). sum xs) (taken_by a) (map taken_by hs) in
     omega (arith, more, left, right)
 
-module _ (alg : Alg) (plan : Plan) (day : Outcome Hand) where
+module _ (alg : Alg) (plan : Plan) (day : ClosedMemory Hand) where
   -- each caller has its story, and there are no others
   abbrev pub Stories : Type 0
   Stories = (i : ℕ) (a : Answer Hand) → i < plan.producers + plan.workers → IsStory alg (Tells plan i) day.closed i (get_or (hands day) i a).value
@@ -121,7 +121,7 @@ module _ (alg : Alg) (plan : Plan) (day : Outcome Hand) where
         once = λ job. once job o.given o.taken (left_in plan day) (merge-worth (λ y. one_if (y == job)) o.given (given_in plan day) o.each_given) (merge-worth (λ y. one_if (y == job)) o.taken (taken_in day) o.each_taken) order own;
       }
 
-module _ (plan : Plan) (day : Outcome Hand) where
+module _ (plan : Plan) (day : ClosedMemory Hand) where
   -- where all was given and nothing waits, what was taken comes to what all jobs come to
   taken-all : (f : ℕ → ℕ) → IsDay plan day → IsWhole plan day → count (queue_of plan) day.words.items ≡ 0 → ((i : ℕ) (a : Answer Hand) → i < plan.producers → (get_or (hands day) i a).value.gave ≡ plan.each)
       → worth_in f (taken_in day) ≡ worth f (range_with_len 1 (plan.producers * plan.each))

@@ -10,8 +10,8 @@ use Rattle.nekchhaul.specs.Memories.{is_empty}
 use Rattle.std.proofs.lemmas.List.{length-replicate}
 use Rattle.nekchhaul.specs.Commit.TheVariants.{Committed, ReadOnly}
 use Rattle.nekchhaul.specs.Answers.{Commits, entry}
-use Rattle.nekchhaul.specs.Known.{Known, no_log, zeros}
-use Rattle.nekchhaul.specs.KnownLaws.{carries-refl}
+use Rattle.nekchhaul.specs.CallerState.{CallerState, no_log, zeros}
+use Rattle.nekchhaul.specs.CallerStateLaws.{carries-refl}
 use Rattle.nekchhaul.specs.Attempts.{TookEffect}
 use Rattle.nekchhaul.specs.MomentLaws.{happened}
 use Rattle.nekchhaul.specs.Moments.{Happened}
@@ -59,7 +59,7 @@ no-more : (b : Bool) (n : ℕ) → n ≡ n + (if b then 0 else 1) → not b ≡ 
 no-more true n e = refl
 no-more false n e = absurd (omega arith)
 
-module _ {A : Type 0} (good : List ℕ → Type 0) (c : Config) (n : ℕ) (effect : List ℕ → Effect A) (reply : A) (u w : Known) where
+module _ {A : Type 0} (good : List ℕ → Type 0) (c : Config) (n : ℕ) (effect : List ℕ → Effect A) (reply : A) (u w : CallerState) where
   -- a transaction of this effect took effect
   abbrev Came : Type 0
   Came = TookEffect good c n (λ log. DoesOver good c.words effect no_log reply log) u.front u w
@@ -94,7 +94,7 @@ module _ {A : Type 0} (good : List ℕ → Type 0) (c : Config) (n : ℕ) (effec
           let made : w.made ≡ u.made = k.0.made ∙ t.made in
           inr (made, (m, sym does.replied, sym does.wrote ∙ no-more (is_empty h.log.writes) (length u.made) (sym (ap length made) ∙ h.made)))
 
-module _ (q : Queue) (c : Config) (n : ℕ) (u w : Known) where
+module _ (q : Queue) (c : Config) (n : ℕ) (u w : CallerState) where
   -- what a put and a get did
   pub gave : (job : ℕ) → job < 2 ^ 32 → Came (IsQueue q) c n (put_in q job) Added u w → HasDone q c.words (job ∷ []) [] u.made w.made
   gave job small t = by (came (IsQueue q) c n (put_in q job) Added u w t)

@@ -7,7 +7,7 @@ use Rattle.nekchhaul.specs.Histories.{Entry, Ascending, made_by, memory_at, memo
 use Rattle.nekchhaul.specs.HistoryLaws.{memory_at-early, memory_at-past, memory_at-first}
 use Rattle.nekchhaul.specs.Memories.{overlay, Explains}
 use Rattle.nekchhaul.specs.Overlays.{overlay-length}
-use Rattle.nekchhaul.specs.Known.{no_log}
+use Rattle.nekchhaul.specs.CallerState.{no_log}
 use Rattle.nekchhaul.specs.Effects.{Does}
 use Rattle.nekchhaul.specs.Put.TheVariants.{Added, NoRoom}
 use Rattle.nekchhaul.specs.Queue.{Queue}

@@ -4,7 +4,7 @@ use Rattle.std.specs.List.{range_with_len}
 use Rattle.nekchhaul.specs.Queue.{Queue}
 use Rattle.nekchhaul.specs.Queues.{contents}
 use Rattle.nekchhaul.specs.Answer.{Answer}
-use Rattle.nekchhaul.specs.Outcome.{Outcome}
+use Rattle.nekchhaul.specs.ClosedMemory.{ClosedMemory}
 use Rattle.example_jobs.specs.declared.hands.Hand.{Hand}
 use Rattle.example_jobs.specs.declared.plan.Plan.{Plan}
 
@@ -38,10 +38,10 @@ abbrev pub taken_by : Answer Hand → List ℕ
 taken_by a = a.value.took.items
 
 -- what each of the callers gave, and what each took
-abbrev pub given_in : Plan → Outcome Hand → List (List ℕ)
+abbrev pub given_in : Plan → ClosedMemory Hand → List (List ℕ)
 given_in plan day = given_from plan 0 day.answers.items
 
-abbrev pub taken_in : Outcome Hand → List (List ℕ)
+abbrev pub taken_in : ClosedMemory Hand → List (List ℕ)
 taken_in day = map taken_by day.answers.items
 
 -- the numbers of the jobs that were taken, added up
@@ -49,11 +49,11 @@ abbrev pub sum_taken : List (Answer Hand) → ℕ
 sum_taken hands = sum_by (λ (a : Answer Hand). sum (taken_by a)) hands
 
 -- what waits in the queue at the end
-abbrev pub left_in : Plan → Outcome Hand → List ℕ
+abbrev pub left_in : Plan → ClosedMemory Hand → List ℕ
 left_in plan day = contents (queue_of plan) day.words.items
 
 -- all words are there, and an answer of each caller
-abbrev pub IsWhole : Plan → Outcome Hand → Type 0
+abbrev pub IsWhole : Plan → ClosedMemory Hand → Type 0
 IsWhole plan day = (length day.words.items ≡ plan.room + 2) × (length day.answers.items ≡ plan.producers + plan.workers)
 
 -- the items of all the lists in one order, in which those of each list stand in its own
@@ -69,7 +69,7 @@ abbrev pub times_in : ℕ → List (List ℕ) → ℕ
 times_in x lists = sum_by (λ xs. times x xs) lists
 
 -- The jobs were given in one order, in which each producer's stand in its own, and taken in one order, in which each worker's stand in its own. Those that were taken are the first of those that were given; the others wait. No job was taken twice, or taken and waits.
-pub record IsDay (plan : Plan) (day : Outcome Hand) : Type 0 where
+pub record IsDay (plan : Plan) (day : ClosedMemory Hand) : Type 0 where
   pub given : List ℕ
   pub each_given : IsMerge given (given_in plan day)
   pub taken : List ℕ
@@ -79,5 +79,5 @@ pub record IsDay (plan : Plan) (day : Outcome Hand) : Type 0 where
   pub once : (job : ℕ) → times_in job (taken_in day) + times job (left_in plan day) ≤ 1
 
 -- each of the jobs was taken once, and nothing else was taken
-abbrev pub EachTakenOnce : Plan → Outcome Hand → Type 0
+abbrev pub EachTakenOnce : Plan → ClosedMemory Hand → Type 0
 EachTakenOnce plan day = (job : ℕ) → times_in job (taken_in day) ≡ times job (range_with_len 1 (plan.producers * plan.each))

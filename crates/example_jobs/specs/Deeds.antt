@@ -2,7 +2,7 @@
 use Rattle.std.specs.Prelude.{ℕ, ◌≡◌, ◌<◌, ◌^◌, ◌⊎◌, List, [], ◌∷◌, ◌++◌, Option, Some, None}
 use Rattle.nekchhaul.specs.Histories.{Entry}
 use Rattle.nekchhaul.specs.Logs.{Log}
-use Rattle.nekchhaul.specs.Known.{no_log}
+use Rattle.nekchhaul.specs.CallerState.{no_log}
 use Rattle.nekchhaul.specs.Effects.{DoesOver}
 use Rattle.nekchhaul.specs.Put.TheVariants.{Added}
 use Rattle.nekchhaul.specs.Queue.{Queue}

@@ -7,7 +7,7 @@ use crate::hands::{Hand, Shift};
 use crate::jobs::Jobs;
 use crate::plan::Plan;
 use nekchhaul::queue::{Queue, contents_change, queues_are_apart};
-use nekchhaul::{Alg, Answer, NewError, Outcome, sizes, with_memory};
+use nekchhaul::{Alg, Answer, ClosedMemory, NewError, sizes, with_memory};
 use std::alloc::Global;
 use std::sync::Wait;
 use std::thread::Threads;
@@ -21,7 +21,7 @@ pub fn work_off<R: Threads + Wait + Sync>(
     alloc: Global,
     alg: Alg,
     plan: Plan,
-) -> Result<Outcome<Hand>, NewError>
+) -> Result<ClosedMemory<Hand>, NewError>
     requires plan { IsPlan plan }
     ensures whole { IfOk result (IsWhole plan) }
     ensures day { IfOk result (IsDay plan) }
@@ -40,7 +40,7 @@ pub fn work_off<R: Threads + Wait + Sync>(
 }
 
 /// Whether all jobs were given, and none waits any more: then each was taken once.
-pub fn is_done(plan: &Plan, day: &Outcome<Hand>) -> bool
+pub fn is_done(plan: &Plan, day: &ClosedMemory<Hand>) -> bool
     requires plan { IsPlan plan.now }
     requires whole { IsWhole plan.now day.now }
     requires day { IsDay plan.now day.now }

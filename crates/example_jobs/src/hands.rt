@@ -38,10 +38,10 @@ impl<R: Wait> Job<R, Jobs> for Shift {
 
     type Output = Hand;
 
-    ghost needs = { λ shift jobs words. QueueFits jobs.waiting words × IsPlan shift.plan };
+    ghost precondition = { λ shift jobs words. QueueFits jobs.waiting words × IsPlan shift.plan };
 
     // it gave the first of its jobs, no more than there are, and took the jobs that it lists
-    ghost tells = { λ shift jobs words caller hand before after. (hand.gave ≤ quota shift.plan caller) × HasDone jobs.waiting words (given_by shift.plan caller hand) hand.took.items before.made after.made };
+    ghost postcondition = { λ shift jobs words caller hand before after. (hand.gave ≤ quota shift.plan caller) × HasDone jobs.waiting words (given_by shift.plan caller hand) hand.took.items before.made after.made };
 
     fn work(&self, caller: &mut Caller<'_, R, Jobs>) -> Hand {
         let number = caller.number();
@@ -60,7 +60,7 @@ impl<R: Wait> Job<R, Jobs> for Shift {
 
 /// Gives so many jobs from `first` on. Answers how many it gave.
 fn give_all<R: Wait>(caller: &mut Caller<'_, R, Jobs>, first: u32, count: u32) -> u32
-    requires fits { QueueFits caller.old.stm.now.rule.waiting caller.old.stm.now.config.words }
+    requires precondition { QueueFits caller.old.stm.now.rule.waiting caller.old.stm.now.config.words }
     requires numbers { first + count < 2 ^ 32 }
     ensures worked { HasWorked caller.old.desc caller.new.desc }
     ensures count { result ≤ count }
@@ -76,7 +76,7 @@ fn give_all<R: Wait>(caller: &mut Caller<'_, R, Jobs>, first: u32, count: u32) -
 
 /// Gives a job, as soon as there is room. Answers whether it did.
 fn give<R: Wait>(caller: &mut Caller<'_, R, Jobs>, job: u32) -> bool
-    requires fits { QueueFits caller.old.stm.now.rule.waiting caller.old.stm.now.config.words }
+    requires precondition { QueueFits caller.old.stm.now.rule.waiting caller.old.stm.now.config.words }
     ensures worked { HasWorked caller.old.desc caller.new.desc }
     ensures same { caller.new.stm ≡ caller.old.stm }
     ensures gave { HasDone caller.old.stm.now.rule.waiting caller.old.stm.now.config.words (if result then job ∷ [] else []) [] (known caller.old.desc).made (known caller.new.desc).made }
@@ -95,7 +95,7 @@ fn give<R: Wait>(caller: &mut Caller<'_, R, Jobs>, job: u32) -> bool
 /// Takes so many jobs, whichever come, and lists them. It takes none where it is refused memory for the list: then not all
 /// jobs are taken, and producers may lose their patience.
 fn take_share<R: Wait>(caller: &mut Caller<'_, R, Jobs>, alloc: Global, share: usize) -> Vec<u32>
-    requires fits { QueueFits caller.old.stm.now.rule.waiting caller.old.stm.now.config.words }
+    requires precondition { QueueFits caller.old.stm.now.rule.waiting caller.old.stm.now.config.words }
     ensures worked { HasWorked caller.old.desc caller.new.desc }
     ensures took { HasDone caller.old.stm.now.rule.waiting caller.old.stm.now.config.words [] result.items (known caller.old.desc).made (known caller.new.desc).made }
 {
@@ -113,7 +113,7 @@ fn take_share<R: Wait>(caller: &mut Caller<'_, R, Jobs>, alloc: Global, share: u
 
 /// Takes a job, as soon as there is one.
 fn take<R: Wait>(caller: &mut Caller<'_, R, Jobs>) -> Option<u32>
-    requires fits { QueueFits caller.old.stm.now.rule.waiting caller.old.stm.now.config.words }
+    requires precondition { QueueFits caller.old.stm.now.rule.waiting caller.old.stm.now.config.words }
     ensures worked { HasWorked caller.old.desc caller.new.desc }
     ensures same { caller.new.stm ≡ caller.old.stm }
     ensures took { HasDone caller.old.stm.now.rule.waiting caller.old.stm.now.config.words [] (listed result) (known caller.old.desc).made (known caller.new.desc).made }

@@ -22,16 +22,16 @@ pub struct Give {
 }
 
 impl Transaction<Jobs> for Give {
-    ghost use Rattle.nekchhaul.specs.Known.{no_log};
+    ghost use Rattle.nekchhaul.specs.CallerState.{no_log};
     ghost use Rattle.nekchhaul.specs.Effects.{DoesOver};
     ghost use Rattle.nekchhaul.specs.Queues.{IsQueue, QueueFits, put_in};
 
     type Output = Put;
 
-    ghost fits = { λ it jobs words. QueueFits jobs.waiting words };
+    ghost precondition = { λ it jobs words. QueueFits jobs.waiting words };
 
     // the job joined the queue, and the answer says whether there was room
-    ghost tells = { λ it jobs words came log. DoesOver (IsQueue jobs.waiting) words (put_in jobs.waiting it.job) no_log came log };
+    ghost postcondition = { λ it jobs words came log. DoesOver (IsQueue jobs.waiting) words (put_in jobs.waiting it.job) no_log came log };
 
     fn run<A: Access>(&self, jobs: &Jobs, memory: &mut A) -> Result<Put, Stop> {
         jobs.waiting.put(memory, self.job)
@@ -43,16 +43,16 @@ impl Transaction<Jobs> for Give {
 pub struct Take;
 
 impl Transaction<Jobs> for Take {
-    ghost use Rattle.nekchhaul.specs.Known.{no_log};
+    ghost use Rattle.nekchhaul.specs.CallerState.{no_log};
     ghost use Rattle.nekchhaul.specs.Effects.{DoesOver};
     ghost use Rattle.nekchhaul.specs.Queues.{IsQueue, QueueFits, got_in};
 
     type Output = Option<u32>;
 
-    ghost fits = { λ it jobs words. QueueFits jobs.waiting words };
+    ghost precondition = { λ it jobs words. QueueFits jobs.waiting words };
 
     // the job left the queue, and the answer is this job
-    ghost tells = { λ it jobs words came log. DoesOver (IsQueue jobs.waiting) words (got_in jobs.waiting) no_log came log };
+    ghost postcondition = { λ it jobs words came log. DoesOver (IsQueue jobs.waiting) words (got_in jobs.waiting) no_log came log };
 
     fn run<A: Access>(&self, jobs: &Jobs, memory: &mut A) -> Result<Option<u32>, Stop> {
         jobs.waiting.get(memory)

@@ -28,7 +28,7 @@ impl<R: Wait> Job<R, Mailbox> for Clerks {
     /// The messages that the caller received, in its order.
     type Output = Vec<u32>;
 
-    ghost needs = { λ job mailbox words. Fits mailbox words };
+    ghost precondition = { λ job mailbox words. Fits mailbox words };
 
     fn work(&self, caller: &mut Caller<'_, R, Mailbox>) -> Vec<u32> {
         match caller.number() {
@@ -41,7 +41,7 @@ impl<R: Wait> Job<R, Mailbox> for Clerks {
 
 /// Posts the messages from `first` on, of which each third is urgent.
 fn post_all<R: Wait>(caller: &mut Caller<'_, R, Mailbox>, alloc: Global, first: u32) -> Vec<u32>
-    requires fits { Fits caller.old.stm.now.rule caller.old.stm.now.config.words }
+    requires precondition { Fits caller.old.stm.now.rule caller.old.stm.now.config.words }
     requires numbers { first ≤ 300 }
     ensures worked { HasWorked caller.old.desc caller.new.desc }
 {
@@ -53,7 +53,7 @@ fn post_all<R: Wait>(caller: &mut Caller<'_, R, Mailbox>, alloc: Global, first: 
 
 /// Posts a message, as soon as there is room.
 fn post<R: Wait>(caller: &mut Caller<'_, R, Mailbox>, alloc: Global, urgent: bool, message: u32)
-    requires fits { Fits caller.old.stm.now.rule caller.old.stm.now.config.words }
+    requires precondition { Fits caller.old.stm.now.rule caller.old.stm.now.config.words }
     ensures worked { HasWorked caller.old.desc caller.new.desc }
     ensures same { caller.new.stm ≡ caller.old.stm }
 {
@@ -69,7 +69,7 @@ fn post<R: Wait>(caller: &mut Caller<'_, R, Mailbox>, alloc: Global, urgent: boo
 
 /// Receives so many messages, and lists them. It receives none where it is refused memory for the list.
 fn receive_all<R: Wait>(caller: &mut Caller<'_, R, Mailbox>, alloc: Global) -> Vec<u32>
-    requires fits { Fits caller.old.stm.now.rule caller.old.stm.now.config.words }
+    requires precondition { Fits caller.old.stm.now.rule caller.old.stm.now.config.words }
     ensures worked { HasWorked caller.old.desc caller.new.desc }
 {
     let Ok(mut received) = Vec::with_capacity(alloc, EACH as usize) else {
@@ -86,7 +86,7 @@ fn receive_all<R: Wait>(caller: &mut Caller<'_, R, Mailbox>, alloc: Global) -> V
 
 /// Takes an urgent message, or else another, or waits for one.
 fn receive<R: Wait>(caller: &mut Caller<'_, R, Mailbox>, alloc: Global) -> Option<u32>
-    requires fits { Fits caller.old.stm.now.rule caller.old.stm.now.config.words }
+    requires precondition { Fits caller.old.stm.now.rule caller.old.stm.now.config.words }
     ensures worked { HasWorked caller.old.desc caller.new.desc }
     ensures same { caller.new.stm ≡ caller.old.stm }
 {

@@ -7,7 +7,7 @@ use crate::clerks::{Clerks, MESSAGES};
 use mailbox::laws::messages_come_in_order;
 use mailbox::mail::Mailbox;
 use nekchhaul::queue::queues_are_apart;
-use nekchhaul::{Alg, NewError, Outcome, sizes, with_memory};
+use nekchhaul::{Alg, ClosedMemory, NewError, sizes, with_memory};
 use std::alloc::Global;
 use std::sync::Wait;
 use std::thread::Threads;
@@ -23,7 +23,7 @@ pub fn run<R: Threads + Wait + Sync>(
     rt: &R,
     alloc: Global,
     alg: Alg,
-) -> Result<Outcome<Vec<u32>>, NewError>
+) -> Result<ClosedMemory<Vec<u32>>, NewError>
     ensures mailbox { IfOk result (λ came. IsMailbox MAILBOX came.words.items) }
     ensures count { IfOk result (λ came. length came.words.items ≡ 20) }
 {
@@ -34,7 +34,7 @@ pub fn run<R: Threads + Wait + Sync>(
 }
 
 /// Whether each message that was posted was received once, and nothing else.
-pub fn each_came_once(came: &Outcome<Vec<u32>>) -> bool {
+pub fn each_came_once(came: &ClosedMemory<Vec<u32>>) -> bool {
     let mut seen = [false; MESSAGES as usize];
     for answer in &came.answers {
         if !mark(&mut seen, &answer.value) {

@@ -14,7 +14,7 @@ use Rattle.nekchhaul.specs.Insert.TheVariants.{Added, Present}
 use Rattle.nekchhaul.specs.Effects.{Does, DoesOver, unchanged}
 use Rattle.nekchhaul.specs.Keys.{has, free_from}
 use Rattle.nekchhaul.specs.Trees.{IsTree, keys, tag, inserted_by, inserted_in}
-use Rattle.nekchhaul.specs.Known.{Known, Grows, no_log}
+use Rattle.nekchhaul.specs.CallerState.{CallerState, Grows, no_log}
 use Rattle.nekchhaul.specs.Attempts.{TookEffect}
 use Rattle.nekchhaul.specs.Moments.{Happened}
 use Rattle.nekchhaul.specs.MomentLaws.{happened}
@@ -35,7 +35,7 @@ wrote-added key m e = wrote-by key m (has key (keys HALL m)) (free_from (tag HAL
 abbrev pub Tells : ℕ → Insert → Log → Type 0
 Tells seat came log = DoesOver (IsTree HALL) 31 (inserted_in HALL seat) no_log came log
 
-answered : (when : ℕ → Type 0) (seat : ℕ) (u w : Known) (history : List Entry) (came : Insert) → ((at : ℕ) → u.front ≤ at → at ≤ w.front → when at) → Happened (IsTree HALL) CONFIG (Tells seat came) u w history → Answered when history seat came
+answered : (when : ℕ → Type 0) (seat : ℕ) (u w : CallerState) (history : List Entry) (came : Insert) → ((at : ℕ) → u.front ≤ at → at ≤ w.front → when at) → Happened (IsTree HALL) CONFIG (Tells seat came) u w history → Answered when history seat came
 answered when seat u w history came due h =
     let m : List ℕ = hall_at h.at history in
     let long = length-memory_at h.at history free_hall ∙ length-replicate {A = ℕ} 31 0 in
@@ -50,7 +50,7 @@ answered when seat u w history came due h =
     }
 
 -- a wish that took effect has its moment
-moment : (config : Config) (rule : Seats) (n seat : ℕ) (came : Insert) (u w k : Known) (history : List Entry) → config ≡ CONFIG → rule ≡ record { taken = HALL }
+moment : (config : Config) (rule : Seats) (n seat : ℕ) (came : Insert) (u w k : CallerState) (history : List Entry) → config ≡ CONFIG → rule ≡ record { taken = HALL }
     → TookEffect (IsTree rule.taken) config n (λ log. DoesOver (IsTree rule.taken) config.words (inserted_in rule.taken seat) no_log came log) u.front u w → Grows w k → BeginsHistory k.seen k.front history → Happened (IsTree HALL) CONFIG (Tells seat came) u w history
 moment config rule n seat came u w k history of under took grows begun =
     let here = subst (λ (r : Seats). TookEffect (IsTree r.taken) config n (λ log. DoesOver (IsTree r.taken) config.words (inserted_in r.taken seat) no_log came log) u.front u w) under took in
@@ -66,7 +66,7 @@ takes-by key m false None false w = absurd cc
 takes-by key m false (Some cell) true w = absurd cc
 takes-by key m false (Some cell) false w = refl
 
-counted : (seat : ℕ) (u w : Known) (history : List Entry) (came : Insert) → Happened (IsTree HALL) CONFIG (Tells seat came) u w history → length w.made ≡ length u.made + seats_taken (Some came)
+counted : (seat : ℕ) (u w : CallerState) (history : List Entry) (came : Insert) → Happened (IsTree HALL) CONFIG (Tells seat came) u w history → length w.made ≡ length u.made + seats_taken (Some came)
 counted seat u w history came h =
     let m : List ℕ = hall_at h.at history in
     let long = length-memory_at h.at history free_hall ∙ length-replicate {A = ℕ} 31 0 in
@@ -75,7 +75,7 @@ counted seat u w history came h =
     h.made ∙ ap (λ k. length u.made + k) (takes ∙ ap (λ r. seats_taken (Some r)) (sym does.replied))
 
 -- what came of a wish, and how many entries its caller made by it
-pub wished : (when : ℕ → Type 0) (config : Config) (rule : Seats) (n seat : ℕ) (o : Option Insert) (u w k : Known) (history : List Entry) → config ≡ CONFIG → rule ≡ record { taken = HALL } → ((at : ℕ) → u.front ≤ at → at ≤ w.front → when at)
+pub wished : (when : ℕ → Type 0) (config : Config) (rule : Seats) (n seat : ℕ) (o : Option Insert) (u w k : CallerState) (history : List Entry) → config ≡ CONFIG → rule ≡ record { taken = HALL } → ((at : ℕ) → u.front ≤ at → at ≤ w.front → when at)
     → IfSome o (λ came. TookEffect (IsTree rule.taken) config n (λ log. DoesOver (IsTree rule.taken) config.words (inserted_in rule.taken seat) no_log came log) u.front u w) → IfNone o (w.made ≡ u.made) → Grows w k → BeginsHistory k.seen k.front history
     → IfSome o (Answered when history seat) × (length w.made ≡ length u.made + seats_taken o)
 wished when config rule n seat None u w k history of under due took none grows begun = (tt, ap length none ∙ (omega arith))

@@ -22,16 +22,16 @@ pub struct Take {
 }
 
 impl Transaction<Seats> for Take {
-    ghost use Rattle.nekchhaul.specs.Known.{no_log};
+    ghost use Rattle.nekchhaul.specs.CallerState.{no_log};
     ghost use Rattle.nekchhaul.specs.Effects.{DoesOver};
     ghost use Rattle.nekchhaul.specs.Trees.{IsTree, TreeFits, inserted_in};
 
     type Output = Insert;
 
-    ghost fits = { λ it seats words. TreeFits seats.taken words };
+    ghost precondition = { λ it seats words. TreeFits seats.taken words };
 
     // the seat joined the set, and the answer says whether it was free
-    ghost tells = { λ it seats words came log. DoesOver (IsTree seats.taken) words (inserted_in seats.taken it.seat) no_log came log };
+    ghost postcondition = { λ it seats words came log. DoesOver (IsTree seats.taken) words (inserted_in seats.taken it.seat) no_log came log };
 
     fn run<A: Access>(&self, seats: &Seats, memory: &mut A) -> Result<Insert, Stop> {
         seats.taken.insert(memory, self.seat)

@@ -4,7 +4,7 @@ use Rattle.std.specs.Prelude.{Option, Some, None, IsSome}
 use Rattle.nekchhaul.specs.Logs.{Log, Reads, Writes}
 use Rattle.nekchhaul.specs.Memories.{overlay, Explains}
 use Rattle.nekchhaul.specs.Overlays.{reads-see, writes-see, overlay-same}
-use Rattle.nekchhaul.specs.Known.{no_log}
+use Rattle.nekchhaul.specs.CallerState.{no_log}
 use Rattle.nekchhaul.specs.Laying.{EitherTells, Comes, ReadsMore}
 use Rattle.nekchhaul.specs.LayingLaws.{explains-front}
 use Rattle.nekchhaul.specs.PartOutcome.TheVariants.{Done, GaveWay, NoRoom}

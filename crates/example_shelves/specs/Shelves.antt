@@ -34,6 +34,6 @@ abbrev pub Lands : ℕ → ℕ → Option ℕ → List ℕ → List ℕ → Type
 Lands shelf room (Some s) m n = (s ≡ shelf) × (slice_index (taken m) shelf < room) × (n ≡ put_on shelf (taken m))
 Lands shelf room None m n = room ≤ slice_index (taken m) shelf
 
--- so it is of every memory that explains what was read, under what was written before and behind
+-- so it is of every memory that explains what was read, under what was written before and after
 abbrev pub Told : ℕ → (List ℕ → List ℕ → Type 0) → Log → Log → Type 0
 Told words P l k = (m : List ℕ) → length m ≡ words → Explains m k.reads → P (overlay m l.writes) (overlay m k.writes)

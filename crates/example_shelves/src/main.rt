@@ -21,7 +21,7 @@ impl<R: Wait> Job<R, AnyMem> for Work {
 
     type Output = usize;
 
-    ghost needs = { λ job rule words. 3 < words };
+    ghost precondition = { λ job rule words. 3 < words };
 
     fn work(&self, caller: &mut Caller<'_, R, AnyMem>) -> usize {
         caller.run(&Fill);

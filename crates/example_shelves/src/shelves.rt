@@ -15,9 +15,9 @@ impl Transaction<AnyMem> for Fill {
 
     type Output = ();
 
-    ghost fits = { λ it rule words. 0 < words };
+    ghost precondition = { λ it rule words. 0 < words };
 
-    ghost tells = { λ it rule words came log. Unit {0} };
+    ghost postcondition = { λ it rule words came log. Unit {0} };
 
     fn run<A: Access>(&self, _: &AnyMem, memory: &mut A) -> Result<(), Stop> {
         memory.write(0, 5)?;
@@ -38,11 +38,11 @@ impl Part<AnyMem> for OnShelf {
 
     type Output = usize;
 
-    ghost fits = { λ it rule words. (0 < words) × (it.shelf < words) };
+    ghost precondition = { λ it rule words. (0 < words) × (it.shelf < words) };
 
     ghost depth = { λ it. 0 };
 
-    ghost tells = { λ it rule words shelf before after. Told words (Lands it.shelf it.room shelf) before after };
+    ghost postcondition = { λ it rule words shelf before after. Told words (Lands it.shelf it.room shelf) before after };
 
     fn run<N: Nesting>(&self, _: &AnyMem, memory: &mut N) -> Result<Option<usize>, Stop> {
         let pile = memory.read(0)?;
@@ -77,14 +77,14 @@ pub struct Store {
 
 impl Transaction<AnyMem> for Store {
     ghost use Rattle.std.specs.Prelude.{◌<◌};
-    ghost use Rattle.nekchhaul.specs.Known.{no_log};
+    ghost use Rattle.nekchhaul.specs.CallerState.{no_log};
     ghost use Rattle.example_shelves.specs.Shelves.{Told, IsStored};
 
     type Output = Stored;
 
-    ghost fits = { λ it rule words. 3 < words };
+    ghost precondition = { λ it rule words. 3 < words };
 
-    ghost tells = { λ it rule words came log. Told words (IsStored came) no_log log };
+    ghost postcondition = { λ it rule words came log. Told words (IsStored came) no_log log };
 
     fn run<A: Access>(&self, rule: &AnyMem, memory: &mut A) -> Result<Stored, Stop> {
         if memory.read(0)? == 0 {

@@ -7,7 +7,7 @@ ghost use Rattle.example_stock.specs.Stocks.{IsStocked};
 mod stock;
 
 use crate::stock::{Fill, Inventory, Order, Supply, totals};
-use nekchhaul::{ALGORITHMS, Alg, Caller, Job, NewError, Outcome, sizes, with_memory};
+use nekchhaul::{ALGORITHMS, Alg, Caller, ClosedMemory, Job, NewError, sizes, with_memory};
 use std::alloc::Global;
 use std::process::ExitCode;
 use std::sync::Wait;
@@ -23,7 +23,7 @@ impl<R: Wait> Job<R, Inventory> for Trade {
 
     type Output = usize;
 
-    ghost needs = { λ job inventory words. words ≡ 64 };
+    ghost precondition = { λ job inventory words. words ≡ 64 };
 
     fn work(&self, caller: &mut Caller<'_, R, Inventory>) -> usize {
         if caller.number() == 0 {
@@ -68,7 +68,7 @@ fn run<R: Threads + Wait + Sync>(
     rt: &R,
     alloc: Global,
     alg: Alg,
-) -> Result<Outcome<usize>, NewError>
+) -> Result<ClosedMemory<usize>, NewError>
     ensures stocked { IfOk result (λ came. IsStocked came.words.items) }
     ensures count { IfOk result (λ came. length came.words.items ≡ 64) }
 {

@@ -32,9 +32,9 @@ impl Transaction<Inventory> for Supply {
 
     type Output = u64;
 
-    ghost fits = { λ it inventory words. (words ≡ 64) × (it.item < 16) };
+    ghost precondition = { λ it inventory words. (words ≡ 64) × (it.item < 16) };
 
-    ghost tells = { λ it inventory words amount log. DoesOver IsStocked words (supplied_in it) nothing amount log };
+    ghost postcondition = { λ it inventory words amount log. DoesOver IsStocked words (supplied_in it) nothing amount log };
 
     fn run<A: Access>(&self, _: &Inventory, memory: &mut A) -> Result<u64, Stop> {
         let (supplied, stock) = read_two(memory, self.item, 16 + self.item)?;
@@ -68,7 +68,7 @@ pub struct Fill {
 }
 
 impl Fill {
-    /// The stock behind it, and how many of it are reserved: as before, where there are too few for it.
+    /// The stock after it, and how many of it are reserved: as before, where there are too few for it.
     fn filled(&self, stock: u64, reserved: u64) -> (u64, u64)
         requires { reserved ≤ stock }
         ensures is { result ≡ filled self.now.order self.now.amount stock reserved }
@@ -90,12 +90,12 @@ impl Transaction<Inventory> for Fill {
     ghost use Rattle.nekchhaul.specs.FreshLaws.{nothing};
     ghost use Rattle.example_stock.specs.Stocks.{IsStocked, filled_in};
 
-    /// The stock behind it, and how many of it are reserved.
+    /// The stock after it, and how many of it are reserved.
     type Output = (u64, u64);
 
-    ghost fits = { λ it inventory words. (words ≡ 64) × (it.item < 16) };
+    ghost precondition = { λ it inventory words. (words ≡ 64) × (it.item < 16) };
 
-    ghost tells = { λ it inventory words left log. DoesOver IsStocked words (filled_in it) nothing left log };
+    ghost postcondition = { λ it inventory words left log. DoesOver IsStocked words (filled_in it) nothing left log };
 
     fn run<A: Access>(&self, _: &Inventory, memory: &mut A) -> Result<(u64, u64), Stop> {
         let item = self.item;

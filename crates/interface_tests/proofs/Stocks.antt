@@ -9,14 +9,14 @@ use Rattle.stm_model.specs.Overlays.{reads-see, writes-see}
 use Rattle.tx_answers.specs.declared.answers.Cancel.{Cancel}
 use Rattle.tx_answers.specs.declared.answers.Cancel.TheVariants.{Cancelled, Irrevocable}
 use Rattle.tx_answers.specs.Answers.{Cancels}
-use Rattle.tx_answers.specs.Known.{Known, IsIdle, is_irrevocable, no_log}
+use Rattle.tx_answers.specs.CallerState.{CallerState, IsIdle, is_irrevocable, no_log}
 
 -- an attempt that goes on as it was can still be cancelled
-pub still-revocable : (v w : Known) → w.alg ≡ v.alg → w.granted ≡ v.granted → w.log ≡ v.log → is_irrevocable v ≡ false → is_irrevocable w ≡ false
+pub still-revocable : (v w : CallerState) → w.alg ≡ v.alg → w.granted ≡ v.granted → w.log ≡ v.log → is_irrevocable v ≡ false → is_irrevocable w ≡ false
 still-revocable v w alg granted log revocable = let is : is_irrevocable w ≡ is_irrevocable v = cc in is ∙ revocable
 
 -- and is over once it was
-pub cancels-idle : (good : List ℕ → Type 0) (c : Config) (n : ℕ) (r : Cancel) (v w : Known) → is_irrevocable v ≡ false → Cancels good c n r v w → IsIdle w
+pub cancels-idle : (good : List ℕ → Type 0) (c : Config) (n : ℕ) (r : Cancel) (v w : CallerState) → is_irrevocable v ≡ false → Cancels good c n r v w → IsIdle w
 cancels-idle good c n (Cancelled time) v w revocable h = h.0.ends.idle
 cancels-idle good c n Irrevocable v w revocable h = absurd (let no : false ≡ true = sym revocable ∙ h.1 in cc)
 

@@ -1,8 +1,8 @@
 //! What no clause says: that a note is learnt, and that an access over an attempt comes to something, on one thread. The
-//! other calls of an attempt, on marks and on ranges are among the scripts of member_scripts.
+//! other calls of an attempt, on marks and on ranges are among the scripts of caller_scripts.
 ghost use Rattle.std.specs.Prelude.{◌≡◌, ◌<◌, None, true, false};
 ghost use Rattle.stm_rule.specs.Callers.{IsOf, AllOpened};
-ghost use Rattle.tx_answers.specs.Known.{IsIdle};
+ghost use Rattle.tx_answers.specs.CallerState.{IsIdle};
 ghost use Rattle.stm_tx.specs.Descs.{known};
 
 use std::alloc::Global;

@@ -1,7 +1,7 @@
 //! What no clause says: that a read of OrecEager tells a word that was stored and taken back while it was under way.
 ghost use Rattle.std.specs.Prelude.{◌≡◌, ◌<◌, false};
 ghost use Rattle.stm_rule.specs.Callers.{IsOf, AllOpened};
-ghost use Rattle.tx_answers.specs.Known.{IsIdle};
+ghost use Rattle.tx_answers.specs.CallerState.{IsIdle};
 ghost use Rattle.stm_tx.specs.Descs.{known};
 
 use crate::calls_tests::switch;

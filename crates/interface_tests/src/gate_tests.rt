@@ -2,7 +2,7 @@
 //! on one thread.
 ghost use Rattle.std.specs.Prelude.{◌≡◌, ◌<◌, false};
 ghost use Rattle.stm_rule.specs.Callers.{IsOf, AllOpened};
-ghost use Rattle.tx_answers.specs.Known.{IsIdle};
+ghost use Rattle.tx_answers.specs.CallerState.{IsIdle};
 ghost use Rattle.stm_tx.specs.Descs.{known};
 
 use std::alloc::Global;

@@ -1,4 +1,4 @@
-//! Tests of the one interface, stm_tx, a file a subject: what the scripts of member_scripts, whose callers make whole
+//! Tests of the one interface, stm_tx, a file a subject: what the scripts of caller_scripts, whose callers make whole
 //! calls alone, can't show.
 #![tactic(auto)]
 

@@ -2,7 +2,7 @@
 //! pieces.
 ghost use Rattle.std.specs.Prelude.{◌≡◌, ◌<◌, true, false};
 ghost use Rattle.stm_rule.specs.Callers.{IsOf, IsSameCaller};
-ghost use Rattle.tx_answers.specs.Known.{IsIdle, IsRunning, no_log};
+ghost use Rattle.tx_answers.specs.CallerState.{IsIdle, IsRunning, no_log};
 ghost use Rattle.stm_tx.specs.Descs.{known};
 
 use std::alloc::Global;

@@ -1,7 +1,7 @@
 //! A part of a transaction that is taken back, as a program of a library's user has it.
 ghost use Rattle.std.specs.Prelude.{◌≡◌, ◌<◌, IsSome, true, false};
 ghost use Rattle.stm_rule.specs.Callers.{IsOf, IsSameCaller, AllOpened};
-ghost use Rattle.tx_answers.specs.Known.{IsIdle, IsRunning};
+ghost use Rattle.tx_answers.specs.CallerState.{IsIdle, IsRunning};
 ghost use Rattle.stm_tx.specs.Descs.{known};
 
 use crate::calls_tests::{PAIR, switch};

@@ -2,7 +2,7 @@
 ghost use Rattle.std.specs.Prelude.{◌≡◌, ◌<◌, true, false};
 ghost use Rattle.stm_model.specs.declared.alg.Alg.TheVariants.{RingSw};
 ghost use Rattle.stm_rule.specs.Callers.{IsOf, IsSameCaller, AllOpened};
-ghost use Rattle.tx_answers.specs.Known.{IsIdle, IsRunning, is_irrevocable, wrote};
+ghost use Rattle.tx_answers.specs.CallerState.{IsIdle, IsRunning, is_irrevocable, wrote};
 ghost use Rattle.stm_tx.specs.Descs.{known};
 
 use crate::calls_tests::{PAIR, switch};

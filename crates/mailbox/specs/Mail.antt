@@ -4,7 +4,7 @@ use Rattle.tx_queue.specs.declared.queue.Queue.{Queue}
 use Rattle.tx_queue.specs.Queues.{IsQueue, contents}
 use Rattle.mailbox.specs.declared.mail.Mailbox.{Mailbox}
 
--- the urgent messages lie first, and the others behind them
+-- the urgent messages lie first, and the others after them
 abbrev pub queue_of : Mailbox → Bool → Queue
 queue_of mailbox urgent = record { at = if urgent then 0 else mailbox.cells + 2; cells = mailbox.cells }
 

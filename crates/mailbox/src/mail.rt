@@ -27,7 +27,7 @@ impl Mailbox {
 
     /// The queue of the urgent messages, or of the others.
     pub fn queue(&self, urgent: bool) -> Queue
-        requires fits { self.now.cells + 2 < 2 ^ 64 }
+        requires precondition { self.now.cells + 2 < 2 ^ 64 }
         ensures { result ≡ queue_of self.now urgent }
     {
         if urgent {
@@ -51,11 +51,11 @@ impl Part<Mailbox> for Post {
 
     type Output = ();
 
-    ghost fits = { λ it mailbox words. Fits mailbox words };
+    ghost precondition = { λ it mailbox words. Fits mailbox words };
 
     ghost depth = { λ it. 0 };
 
-    ghost tells = { λ it mailbox words came before after. Told (IsMailbox mailbox) words (Posts mailbox it.urgent it.message came) before after };
+    ghost postcondition = { λ it mailbox words came before after. Told (IsMailbox mailbox) words (Posts mailbox it.urgent it.message came) before after };
 
     fn run<N: Nesting>(&self, mailbox: &Mailbox, memory: &mut N) -> Result<Option<()>, Stop> {
         contents_change();
@@ -79,11 +79,11 @@ impl Part<Mailbox> for Take {
 
     type Output = u32;
 
-    ghost fits = { λ it mailbox words. Fits mailbox words };
+    ghost precondition = { λ it mailbox words. Fits mailbox words };
 
     ghost depth = { λ it. 0 };
 
-    ghost tells = { λ it mailbox words came before after. Told (IsMailbox mailbox) words (Takes mailbox it.urgent came) before after };
+    ghost postcondition = { λ it mailbox words came before after. Told (IsMailbox mailbox) words (Takes mailbox it.urgent came) before after };
 
     fn run<N: Nesting>(&self, mailbox: &Mailbox, memory: &mut N) -> Result<Option<u32>, Stop> {
         contents_change();

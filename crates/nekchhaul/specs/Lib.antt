@@ -12,8 +12,8 @@ pub use Rattle.tx_answers.specs.Answers
 pub use Rattle.rule_base.specs.Encodings
 pub use Rattle.tx_answers.specs.Causes
 pub use Rattle.tx_answers.specs.Fences
-pub use Rattle.tx_answers.specs.Known
-pub use Rattle.tx_answers.specs.KnownLaws
+pub use Rattle.tx_answers.specs.CallerState
+pub use Rattle.tx_answers.specs.CallerStateLaws
 pub use Rattle.tx_answers.specs.declared.answers.Commit
 pub use Rattle.stm_tx.specs.Descs
 pub use Rattle.tx_atomic.specs.Attempts
@@ -45,4 +45,4 @@ pub use Rattle.tx_start.specs.Stories
 pub use Rattle.tx_start.specs.StoryLaws
 pub use Rattle.tx_transaction.specs.WordLaws
 pub use Rattle.tx_start.specs.declared.memory.Answer
-pub use Rattle.tx_start.specs.declared.memory.Outcome
+pub use Rattle.tx_start.specs.declared.memory.ClosedMemory

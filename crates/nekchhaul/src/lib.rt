@@ -34,7 +34,7 @@ pub use tx_places::places::Places;
 pub use tx_places::word::{Short, Word};
 pub use tx_start::caller::Caller;
 pub use tx_start::job::Job;
-pub use tx_start::memory::{Answer, Outcome, with_memory};
+pub use tx_start::memory::{Answer, ClosedMemory, with_memory};
 pub use tx_start::sizes::sizes;
 pub use tx_start::times::{Times, with_transaction};
 pub use tx_start::update::Update;

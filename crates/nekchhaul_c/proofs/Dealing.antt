@@ -3,7 +3,7 @@ use Rattle.std.proofs.Common.{ℕ, zero, suc, ◌≡◌, ◌<◌, ◌≤◌, ◌
 use Rattle.std.specs.Prelude.{Option, Some, None, is_some, MatchOption}
 use Rattle.std.proofs.lemmas.List.{get_or-map, length-map}
 use Rattle.std.proofs.Math.Seq.{map-set_same}
-use Rattle.tx_checked.specs.declared.member.Member.{Member}
+use Rattle.tx_checked.specs.declared.checked_caller.CheckedCaller.{CheckedCaller}
 use Rattle.nekchhaul_c.specs.declared.handle.Handle.{Handle}
 use Rattle.nekchhaul_c.specs.Opens.{insides, NoneHeld}
 
@@ -22,7 +22,7 @@ first-of P n x xs all = let here : n + 0 ≡ n = omega arith in subst (λ k. P k
 pub rest-of : {X : Type 0} (P : ℕ → X → Type 0) (n : ℕ) (x : X) (xs : List X) → ((i : ℕ) (d : X) → i < length (x ∷ xs) → P (n + i) (get_or (x ∷ xs) i d)) → (i : ℕ) (d : X) → i < length xs → P (suc n + i) (get_or xs i d)
 rest-of P n x xs all i d lt = let next : n + suc i ≡ suc n + i = omega arith in subst (λ k. P k (get_or xs i d)) next (all (suc i) d (omega (arith, lt)))
 
--- one more, behind which all are there
+-- one more, after which all are there
 pub dealt-more : {X : Type 0} (P : ℕ → X → Type 0) (n : ℕ) (xs : List X) (x : X) → n < length xs → P n x → ((k : ℕ) (d : X) → suc n ≤ k → k < length xs → P k (get_or xs k d))
     → (k : ℕ) (d : X) → n ≤ k → k < length (set xs n x) → P k (get_or (set xs n x) k d)
 dealt-more P n [] x low p rest k d le lt = absurd (omega (arith, low))
@@ -31,7 +31,7 @@ dealt-more P zero (y ∷ ys) x low p rest (suc k) d le lt = rest (suc k) d (omeg
 dealt-more P (suc n) (y ∷ ys) x low p rest zero d le lt = absurd (omega (arith, le))
 dealt-more P (suc n) (y ∷ ys) x low p rest (suc k) d le lt = dealt-more (λ j. P (suc j)) n ys x (omega (arith, low)) p (λ j e h l. rest (suc j) e (omega (arith, h)) (omega (arith, l))) k d (omega (arith, le)) (omega (arith, lt))
 
-abbrev inside-of : Handle → Option Member
+abbrev inside-of : Handle → Option CheckedCaller
 inside-of h = h.inside
 
 -- handles that hold the same
@@ -41,13 +41,13 @@ inside-at hs ks i h k e lt =
     let two = length-map ks inside-of in
     let many = ap length e in
     let within : i < length ks = omega (arith, lt, one, two, many) in
-    sym (get_or-map inside-of hs i h None lt) ∙ (ap (λ (l : List (Option Member)). get_or l i None) e ∙ get_or-map inside-of ks i k None within)
+    sym (get_or-map inside-of hs i h None lt) ∙ (ap (λ (l : List (Option CheckedCaller)). get_or l i None) e ∙ get_or-map inside-of ks i k None within)
 
 -- one that holds the same again
 pub held-again : (hs : List Handle) (i : ℕ) (h k : Handle) → k.inside ≡ (get_or hs i h).inside → insides (set hs i k) ≡ insides hs
 held-again hs i h k e = map-set_same inside-of hs i k h e
 
-none-held : (o : Option Member) → false ≡ is_some o → o ≡ None
+none-held : (o : Option CheckedCaller) → false ≡ is_some o → o ≡ None
 none-held None e = refl
 none-held (Some m) e = absurd (let no : false ≡ true = e in cc)
 

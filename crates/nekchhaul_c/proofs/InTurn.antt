@@ -1,18 +1,18 @@
--- One read more behind those that were made.
+-- One read more after those that were made.
 use Rattle.std.specs.Prelude.{slice_index}
 use Rattle.std.proofs.Common.{get_or-set_other, ℕ, zero, suc, ◌≡◌, ◌≢◌, ◌<◌, ◌≤◌, ◌+◌, ◌∙◌, List, [], ◌∷◌, ◌++◌, length, take, get_or, set, refl, sym, ap, subst, arith}
 use Rattle.std.specs.Prelude.{Result, Ok, Err}
 use Rattle.tx_answers.specs.declared.answers.Read.{Read}
 use Rattle.tx_answers.specs.declared.answers.Read.TheVariants.{Value}
-use Rattle.tx_checked.specs.declared.member.Member.{Member}
+use Rattle.tx_checked.specs.declared.checked_caller.CheckedCaller.{CheckedCaller}
 use Rattle.tx_checked.specs.declared.misuse.Misuse.{Misuse}
 use Rattle.tx_checked.specs.declared.misuse.Misuse.TheVariants as wrong
-use Rattle.tx_checked.specs.Members.{IsSameMember}
+use Rattle.tx_checked.specs.CheckedCallers.{IsSameCheckedCaller}
 use Rattle.nekchhaul_c.specs.Codes.{misuse_code, read_code}
 use Rattle.nekchhaul_c.specs.Reads.{ReadTells, ReadsInTurn, ReadManySays}
 
-pub one-more : (at xs : List ℕ) (a x : ℕ) (m k n : Member) → ReadsInTurn at xs m k → ReadTells a (Ok (Value x)) k n → ReadsInTurn (at ++ a ∷ []) (xs ++ x ∷ []) m n
-one-more [] [] a x m k n same h = (n, subst (λ (q : Member). ReadTells a (Ok (Value x)) q n) same h, refl)
+pub one-more : (at xs : List ℕ) (a x : ℕ) (m k n : CheckedCaller) → ReadsInTurn at xs m k → ReadTells a (Ok (Value x)) k n → ReadsInTurn (at ++ a ∷ []) (xs ++ x ∷ []) m n
+one-more [] [] a x m k n same h = (n, subst (λ (q : CheckedCaller). ReadTells a (Ok (Value x)) q n) same h, refl)
 one-more [] (y ∷ xs) a x m k n wrong h = absurd wrong
 one-more (b ∷ at) [] a x m k n wrong h = absurd wrong
 one-more (b ∷ at) (y ∷ xs) a x m k n r h = (r.0, r.1, one-more at xs a x r.0 k n r.2 h)
@@ -28,16 +28,16 @@ take-set n [] x lt = absurd (omega arith)
 take-set zero (y ∷ xs) x lt = refl
 take-set (suc n) (y ∷ xs) x lt = ap (λ l. y ∷ l) (take-set n xs x (omega (arith, lt)))
 
-pub read-more : (n : ℕ) (at xs : List ℕ) (x : ℕ) (m k o : Member) → n < length at → n < length xs → ReadsInTurn (take n at) (take n xs) m k → ReadTells (get_or at n 0) (Ok (Value x)) k o → ReadsInTurn (take (n + 1) at) (take (n + 1) (set xs n x)) m o
+pub read-more : (n : ℕ) (at xs : List ℕ) (x : ℕ) (m k o : CheckedCaller) → n < length at → n < length xs → ReadsInTurn (take n at) (take n xs) m k → ReadTells (get_or at n 0) (Ok (Value x)) k o → ReadsInTurn (take (n + 1) at) (take (n + 1) (set xs n x)) m o
 read-more n at xs x m k o low room r h =
     let next : suc n ≡ n + 1 = omega arith in
     subst (λ j. ReadsInTurn (take j at) (take j (set xs n x)) m o) next
     (subst (λ l. ReadsInTurn l (take (suc n) (set xs n x)) m o) (sym (take-more n at low))
     (subst (λ l. ReadsInTurn (take n at ++ get_or at n 0 ∷ []) l m o) (sym (take-set n xs x room)) (one-more (take n at) (take n xs) (get_or at n 0) x m k o r h)))
 
-pub same-after : (a : ℕ) (r : Result Read Misuse) (m k n : Member) → IsSameMember m k → ReadTells a r k n → IsSameMember m n
+pub same-after : (a : ℕ) (r : Result Read Misuse) (m k n : CheckedCaller) → IsSameCheckedCaller m k → ReadTells a r k n → IsSameCheckedCaller m n
 same-after a (Ok answer) m k n s h = record { stm = h.1.stm ∙ s.stm; caller = record { table = h.1.caller.table ∙ s.caller.table; who = h.1.caller.who ∙ s.caller.who } }
-same-after a (Err e) m k n s h = subst (IsSameMember m) (sym h.1) s
+same-after a (Err e) m k n s h = subst (IsSameCheckedCaller m) (sym h.1) s
 
 -- the places from n on are as they were
 abbrev pub IsKeptFrom : ℕ → List ℕ → List ℕ → Type 0
@@ -46,7 +46,7 @@ IsKeptFrom n old xs = (i : ℕ) → n ≤ i → slice_index xs i ≡ slice_index
 pub kept-more : (n x : ℕ) (old xs : List ℕ) → IsKeptFrom n old xs → IsKeptFrom (n + 1) old (set xs n x)
 kept-more n x old xs h = λ i le. let ne : i ≢ n = omega (arith, le) in rw get_or-set_other (h i (omega (arith, le)))
 
-pub stopped : (n : ℕ) (at old xs : List ℕ) (status : ℕ) (r : Result Read Misuse) (m k o : Member) → n < length at → length at ≤ length old → length xs ≡ length old → IsKeptFrom n old xs → IsSameMember m k → ReadsInTurn (take n at) (take n xs) m k → ReadTells (get_or at n 0) r k o
+pub stopped : (n : ℕ) (at old xs : List ℕ) (status : ℕ) (r : Result Read Misuse) (m k o : CheckedCaller) → n < length at → length at ≤ length old → length xs ≡ length old → IsKeptFrom n old xs → IsSameCheckedCaller m k → ReadsInTurn (take n at) (take n xs) m k → ReadTells (get_or at n 0) r k o
     → status ≡ read_code r → status ≢ 0 → ReadManySays at old xs status m o
 stopped n at old xs status r m k o low room long kept same read tells number high = record {
   same = same-after (get_or at n 0) r m k o same tells;

@@ -8,25 +8,25 @@ use Rattle.std.specs.declared.alloc.Global.{Global}
 use Rattle.std_alloc.specs.declared.boxed.Box.{Box}
 use Rattle.stm_model.specs.declared.alg.Alg.{Alg}
 use Rattle.stm_model.specs.declared.config.Config.{Config}
-use Rattle.tx_checked.specs.declared.member.Member.{Member}
+use Rattle.tx_checked.specs.declared.checked_caller.CheckedCaller.{CheckedCaller}
 use Rattle.tx_checked.specs.declared.opening.OpenError.{OpenError}
 use Rattle.tx_checked.specs.Ready.{IsNew, IsOpenError}
 
-abbrev pub insides : List Handle → List (Option Member)
+abbrev pub insides : List Handle → List (Option CheckedCaller)
 insides hs = map (λ (h : Handle). h.inside) hs
 
 abbrev pub NoneHeld : List Handle → Type 0
 NoneHeld hs = All (λ (h : Handle). h.inside ≡ None) hs
 
 abbrev pub HoldsNew : Config → Alg → ℕ → Handle → Type 0
-HoldsNew c alg i h = (m : Member) × (h.inside ≡ Some m) × IsNew c alg i m
+HoldsNew c alg i h = (m : CheckedCaller) × (h.inside ≡ Some m) × IsNew c alg i m
 
 -- each handle holds the caller of its place
 abbrev pub EachNew : Config → Alg → List Handle → Type 0
 EachNew c alg hs = (i : ℕ) (h : Handle) → i < length hs → HoldsNew c alg i (get_or hs i h)
 
-abbrev pub EachNewBoxed : Config → Alg → List (Box Member Global) → Type 0
-EachNewBoxed c alg bs = (i : ℕ) (b : Box Member Global) → i < length bs → IsNew c alg i (get_or bs i b).value
+abbrev pub EachNewBoxed : Config → Alg → List (Box CheckedCaller Global) → Type 0
+EachNewBoxed c alg bs = (i : ℕ) (b : Box CheckedCaller Global) → i < length bs → IsNew c alg i (get_or bs i b).value
 
 -- under the algorithm of that number
 abbrev pub EachNewUnder : Option Alg → Config → List Handle → Type 0

@@ -7,16 +7,16 @@ use Rattle.stm_model.specs.Algorithms.{alg_number}
 use Rattle.stm_model.specs.declared.stop.Cause.{Cause}
 use Rattle.stm_model.specs.declared.stop.Cause.TheVariants as causes
 use Rattle.stm_tx.specs.Nesting.{live_marks}
-use Rattle.tx_answers.specs.Known.{is_irrevocable, state_of}
+use Rattle.tx_answers.specs.CallerState.{is_irrevocable, state_of}
 use Rattle.tx_answers.specs.declared.answers.TxState.{TxState}
 use Rattle.tx_answers.specs.declared.answers.TxState.TheVariants as states
-use Rattle.tx_checked.specs.declared.member.Member.{Member}
+use Rattle.tx_checked.specs.declared.checked_caller.CheckedCaller.{CheckedCaller}
 use Rattle.tx_checked.specs.declared.refusal.Refusal.{Refusal}
 use Rattle.tx_checked.specs.declared.refusal.Refusal.TheVariants as refusals
-use Rattle.tx_checked.specs.Members.{is_beside, known_to}
+use Rattle.tx_checked.specs.CheckedCallers.{is_beside, known_to}
 
 -- a caller is asked, and stays as it is
-abbrev pub Shows : ℕ → (Member → Type 0) → Member → Member → Type 0
+abbrev pub Shows : ℕ → (CheckedCaller → Type 0) → CheckedCaller → CheckedCaller → Type 0
 Shows k Shown m n = (k ≡ 0) × (n ≡ m) × Shown m
 
 -- 0 in no attempt, 1 in one, 2 in the middle of its commit, 3 with the gate closed
@@ -32,7 +32,7 @@ state_algorithm (states.Running alg) = alg_number alg
 state_algorithm (states.Committing alg) = alg_number alg
 state_algorithm (states.Closing alg) = 0
 
-abbrev pub state_shown : Member → State
+abbrev pub state_shown : CheckedCaller → State
 state_shown m = let v = known_to m in record {
   marks = live_marks v;
   stand = stand_number (state_of v);

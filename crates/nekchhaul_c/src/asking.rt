@@ -11,7 +11,7 @@ use crate::status;
 use std::alloc::Global;
 use stm_model::stop::Cause;
 use tx_answers::answers::TxState;
-use tx_checked::member::Member;
+use tx_checked::checked_caller::CheckedCaller;
 use tx_checked::refusal::Refusal;
 
 /// The version of this interface: 65,536 times the major number, and the minor one.
@@ -35,7 +35,7 @@ pub extern "C" fn nekchhaul_reserve(
     if !caller.is_held() {
         return status::NO_CALLER;
     }
-    status::of_reserved(caller.member().reserve(alloc, reads, writes))
+    status::of_reserved(caller.checked_caller().reserve(alloc, reads, writes))
 }
 
 /// Where a caller stands.
@@ -62,20 +62,21 @@ pub extern "C" fn nekchhaul_state(caller: &mut Handle, state: &mut State) -> u32
     if !caller.is_held() {
         return status::NO_CALLER;
     }
-    *state = state_of(caller.member());
+    *state = state_of(caller.checked_caller());
     status::OK
 }
 
-fn state_of(member: &Member) -> State
-    ensures { result ≡ state_shown member.now }
+fn state_of(checked_caller: &CheckedCaller) -> State
+    ensures { result ≡ state_shown checked_caller.now }
 {
-    let state = member.state();
+    let state = checked_caller.state();
     State {
-        marks: member.marks(),
+        marks: checked_caller.marks(),
         stand: stand_of(state),
-        algorithm: algorithm_of(state),
-        irrevocable: u32::from(member.is_irrevocable()),
-        range: u32::from(member.range.is_some()) + 2 * u32::from(member.is_beside()),
+        algorithm: algorithm_number(state),
+        irrevocable: u32::from(checked_caller.is_irrevocable()),
+        range: u32::from(checked_caller.range.is_some())
+            + 2 * u32::from(checked_caller.is_beside()),
     }
 }
 
@@ -90,7 +91,7 @@ fn stand_of(state: TxState) -> u32
     }
 }
 
-fn algorithm_of(state: TxState) -> u32
+fn algorithm_number(state: TxState) -> u32
     ensures { result ≡ state_algorithm state }
 {
     match state {
@@ -121,7 +122,7 @@ pub extern "C" fn nekchhaul_why(caller: &mut Handle, why: &mut Why) -> u32
     if !caller.is_held() {
         return status::NO_CALLER;
     }
-    *why = why_of(caller.member().refusal);
+    *why = why_of(caller.checked_caller().refusal);
     status::OK
 }
 

@@ -15,6 +15,6 @@ pub extern "C" fn nekchhaul_counts(caller: &mut Handle, counts: &mut Counts) -> 
     if !caller.is_held() {
         return status::NO_CALLER;
     }
-    *counts = caller.member().counts;
+    *counts = caller.checked_caller().counts;
     status::OK
 }

@@ -9,7 +9,7 @@ use crate::handle::Handle;
 use crate::status;
 use std::alloc::Global;
 use stm_model::alg::Alg;
-use tx_checked::member::Member;
+use tx_checked::checked_caller::CheckedCaller;
 
 /// Tries to begin an attempt.
 #[unsafe(no_mangle)]
@@ -20,7 +20,7 @@ pub extern "C" fn nekchhaul_begin(caller: &mut Handle) -> u32
         return status::NO_CALLER;
     }
     let mut under = 0;
-    begin(caller.member(), &mut under)
+    begin(caller.checked_caller(), &mut under)
 }
 
 /// Tries to begin an attempt, and tells under which algorithm, and whether a range was out of the transactions. `under` is
@@ -32,16 +32,16 @@ pub extern "C" fn nekchhaul_begin_under(caller: &mut Handle, under: &mut u32) ->
     if !caller.is_held() {
         return status::NO_CALLER;
     }
-    begin(caller.member(), under)
+    begin(caller.checked_caller(), under)
 }
 
 /// Apart, so that it stands once.
 #[inline(never)]
-fn begin(member: &mut Member, under: &mut u32) -> u32
-    ensures { BeginSays under.old under.new result member.old member.new }
+fn begin(checked_caller: &mut CheckedCaller, under: &mut u32) -> u32
+    ensures { BeginSays under.old under.new result checked_caller.old checked_caller.new }
 {
-    let begun = member.begin();
-    status::put_under(begun, member.is_beside(), under);
+    let begun = checked_caller.begin();
+    status::put_under(begun, checked_caller.is_beside(), under);
     status::of_begin(begun)
 }
 
@@ -53,7 +53,7 @@ pub extern "C" fn nekchhaul_commit(caller: &mut Handle) -> u32
     if !caller.is_held() {
         return status::NO_CALLER;
     }
-    status::of_commit(caller.member().commit())
+    status::of_commit(caller.checked_caller().commit())
 }
 
 /// Cancels the attempt.
@@ -64,7 +64,7 @@ pub extern "C" fn nekchhaul_cancel(caller: &mut Handle) -> u32
     if !caller.is_held() {
         return status::NO_CALLER;
     }
-    status::of_cancel(caller.member().cancel())
+    status::of_cancel(caller.checked_caller().cancel())
 }
 
 /// Tries to make the attempt irrevocable.
@@ -75,7 +75,7 @@ pub extern "C" fn nekchhaul_become_irrevocable(caller: &mut Handle) -> u32
     if !caller.is_held() {
         return status::NO_CALLER;
     }
-    status::of_grant(caller.member().become_irrevocable())
+    status::of_grant(caller.checked_caller().try_irrevocable())
 }
 
 /// Installs an algorithm, by its number, once no other caller is in an attempt.
@@ -86,10 +86,10 @@ pub extern "C" fn nekchhaul_switch(caller: &mut Handle, algorithm: u32) -> u32
     if !caller.is_held() {
         return status::NO_CALLER;
     }
-    let Some(alg) = algorithm_of(algorithm) else {
+    let Some(alg) = algorithm_by_number(algorithm) else {
         return status::ALGORITHM;
     };
-    status::of_taken(caller.member().switch(alg))
+    status::of_taken(caller.checked_caller().switch(alg))
 }
 
 /// Gives up the call for which the caller has closed the gate.
@@ -100,11 +100,11 @@ pub extern "C" fn nekchhaul_reopen(caller: &mut Handle) -> u32
     if !caller.is_held() {
         return status::NO_CALLER;
     }
-    status::of_done(caller.member().reopen())
+    status::of_done(caller.checked_caller().reopen())
 }
 
 /// The algorithm of that number.
-pub(crate) fn algorithm_of(number: u32) -> Option<Alg>
+pub(crate) fn algorithm_by_number(number: u32) -> Option<Alg>
     ensures { result ≡ algorithm_numbered number }
 {
     match number {
@@ -123,16 +123,16 @@ pub(crate) fn algorithm_of(number: u32) -> Option<Alg>
 pub extern "C" fn nekchhaul_release(alloc: Global, caller: &mut Handle) -> u32
     ensures { LetsGo result caller.old.inside caller.new.inside }
 {
-    let Some(member) = caller.take(alloc) else {
+    let Some(checked_caller) = caller.take(alloc) else {
         return status::NO_CALLER;
     };
-    match member.may_leave() {
+    match checked_caller.may_leave() {
         Ok(()) => {
-            drop(member);
+            drop(checked_caller);
             status::OK
         }
         Err(misuse) => {
-            caller.hold(member);
+            caller.hold(checked_caller);
             status::of_misuse(misuse)
         }
     }

@@ -16,7 +16,7 @@ pub extern "C" fn nekchhaul_checkpoint(caller: &mut Handle, depth: &mut usize) -
     if !caller.is_held() {
         return status::NO_CALLER;
     }
-    let mark = caller.member().checkpoint();
+    let mark = caller.checked_caller().checkpoint();
     status::put_depth(mark, depth);
     status::of_mark(mark)
 }
@@ -29,7 +29,7 @@ pub extern "C" fn nekchhaul_roll_to(caller: &mut Handle, depth: usize) -> u32
     if !caller.is_held() {
         return status::NO_CALLER;
     }
-    status::of_roll(caller.member().roll_to(depth))
+    status::of_roll(caller.checked_caller().roll_to(depth))
 }
 
 /// Drops the marks from one on.
@@ -40,5 +40,5 @@ pub extern "C" fn nekchhaul_drop_marks(caller: &mut Handle, depth: usize) -> u32
     if !caller.is_held() {
         return status::NO_CALLER;
     }
-    status::of_done(caller.member().drop_marks(depth))
+    status::of_done(caller.checked_caller().drop_marks(depth))
 }

@@ -4,13 +4,13 @@ ghost use Rattle.nekchhaul_c.specs.Opens.{insides, NoneHeld, EachNew, EachNewBox
 ghost use Rattle.nekchhaul_c.specs.Says.{algorithm_numbered};
 ghost use Rattle.tx_checked.specs.Ready.{IsOpenError};
 
-use crate::exports::algorithm_of;
+use crate::exports::algorithm_by_number;
 use crate::handle::Handle;
 use crate::status;
 use std::alloc::Global;
 use stm_model::alg::Alg;
 use stm_model::config::Config;
-use tx_checked::member::Member;
+use tx_checked::checked_caller::CheckedCaller;
 use tx_checked::opening::{OpenError, open};
 
 /// The sizes of a memory, as C gives them.
@@ -38,7 +38,7 @@ pub extern "C" fn nekchhaul_open(
     ensures refused { result ≢ 0 → IsOpenRefusal algorithm (config_for sizes.now (length callers.old)) callers.old result }
     ensures kept { result ≢ 0 → insides callers.new ≡ insides callers.old }
 {
-    let Some(alg) = algorithm_of(algorithm) else {
+    let Some(alg) = algorithm_by_number(algorithm) else {
         return status::ALGORITHM;
     };
     if holds_one(callers) {
@@ -55,8 +55,8 @@ pub extern "C" fn nekchhaul_open(
         fence: true,
     };
     match boxed(alloc, config, alg) {
-        Ok(members) => {
-            deal(config, alg, members, callers);
+        Ok(checked_callers) => {
+            deal(config, alg, checked_callers, callers);
             status::OK
         }
         Err(error) => status::of_open(error),
@@ -79,18 +79,18 @@ fn holds_one(callers: &mut [Handle]) -> bool
 }
 
 /// Opens a memory, with each caller on the heap.
-fn boxed(alloc: Global, config: Config, alg: Alg) -> Result<Vec<Box<Member>>, OpenError>
+fn boxed(alloc: Global, config: Config, alg: Alg) -> Result<Vec<Box<CheckedCaller>>, OpenError>
     ensures count { IfOk result (λ boxes. length boxes.items ≡ config.callers) }
     ensures new { IfOk result (λ boxes. EachNewBoxed config alg boxes.items) }
     ensures refused { IfErr result (IsOpenError config) }
 {
-    let members = open(alloc, config, alg)?;
+    let checked_callers = open(alloc, config, alg)?;
     let mut boxes = Vec::new(alloc);
-    for member in members {
-        let Ok(member) = Box::new(alloc, member) else {
+    for checked_caller in checked_callers {
+        let Ok(checked_caller) = Box::new(alloc, checked_caller) else {
             return Err(OpenError::Memory);
         };
-        let Ok(()) = boxes.push(member) else {
+        let Ok(()) = boxes.push(checked_caller) else {
             return Err(OpenError::Memory);
         };
     }
@@ -98,12 +98,17 @@ fn boxed(alloc: Global, config: Config, alg: Alg) -> Result<Vec<Box<Member>>, Op
 }
 
 /// Gives each handle its caller.
-fn deal(config: Config, alg: Alg, mut members: Vec<Box<Member>>, callers: &mut [Handle])
-    requires count { length members.items ≡ length callers.old }
-    requires new { EachNewBoxed config alg members.items }
+fn deal(
+    config: Config,
+    alg: Alg,
+    mut checked_callers: Vec<Box<CheckedCaller>>,
+    callers: &mut [Handle],
+)
+    requires count { length checked_callers.items ≡ length callers.old }
+    requires new { EachNewBoxed config alg checked_callers.items }
     ensures { EachNew config alg callers.new }
 {
-    while let Some(member) = members.pop() {
-        callers[members.len()].hold(member);
+    while let Some(checked_caller) = checked_callers.pop() {
+        callers[checked_callers.len()].hold(checked_caller);
     }
 }

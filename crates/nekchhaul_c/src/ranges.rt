@@ -16,7 +16,7 @@ pub extern "C" fn nekchhaul_fence(caller: &mut Handle, from: usize, count: usize
     if !caller.is_held() {
         return status::NO_CALLER;
     }
-    status::of_taken(caller.member().fence(from, count))
+    status::of_taken(caller.checked_caller().fence(from, count))
 }
 
 /// Reads a word of the caller's range. `value` is written only where the answer is 0.
@@ -27,7 +27,7 @@ pub extern "C" fn nekchhaul_direct_read(caller: &mut Handle, address: usize, val
     if !caller.is_held() {
         return status::NO_CALLER;
     }
-    let word = caller.member().direct_read(address);
+    let word = caller.checked_caller().direct_read(address);
     status::put_word(word, value);
     status::of_word(word)
 }
@@ -40,7 +40,7 @@ pub extern "C" fn nekchhaul_direct_write(caller: &mut Handle, address: usize, va
     if !caller.is_held() {
         return status::NO_CALLER;
     }
-    status::of_done(caller.member().direct_write(address, value))
+    status::of_done(caller.checked_caller().direct_write(address, value))
 }
 
 /// Gives the caller's range back.
@@ -51,7 +51,7 @@ pub extern "C" fn nekchhaul_give_back(caller: &mut Handle) -> u32
     if !caller.is_held() {
         return status::NO_CALLER;
     }
-    status::of_given(caller.member().give_back())
+    status::of_given(caller.checked_caller().give_back())
 }
 
 /// Takes all words out of the transactions for good, and hands them out.
@@ -62,5 +62,5 @@ pub extern "C" fn nekchhaul_close(caller: &mut Handle, words: &mut [u64]) -> u32
     if !caller.is_held() {
         return status::NO_CALLER;
     }
-    status::of_taken(caller.member().end(words))
+    status::of_taken(caller.checked_caller().end(words))
 }

@@ -2,12 +2,12 @@
 ghost use Rattle.std.specs.Prelude.{◌≡◌, ◌≤◌, length, take};
 ghost use Rattle.nekchhaul_c.specs.Reads.{ReadManySays, ReadsInTurn};
 ghost use Rattle.nekchhaul_c.specs.Says.{Holds};
-ghost use Rattle.tx_checked.specs.Members.{IsSameMember};
+ghost use Rattle.tx_checked.specs.CheckedCallers.{IsSameCheckedCaller};
 
 use crate::handle::Handle;
 use crate::status;
 use tx_answers::answers::Read;
-use tx_checked::member::Member;
+use tx_checked::checked_caller::CheckedCaller;
 
 /// Reads the words at these addresses, in turn, up to the first that is refused.
 #[unsafe(no_mangle)]
@@ -21,24 +21,28 @@ pub extern "C" fn nekchhaul_read_many(
     if !caller.is_held() {
         return status::NO_CALLER;
     }
-    read_or_no_room(caller.member(), addresses, values)
+    read_or_no_room(caller.checked_caller(), addresses, values)
 }
 
-fn read_or_no_room(member: &mut Member, addresses: &[usize], values: &mut [u64]) -> u32
-    ensures { ReadManySays addresses.now values.old values.new result member.old member.new }
+fn read_or_no_room(
+    checked_caller: &mut CheckedCaller,
+    addresses: &[usize],
+    values: &mut [u64],
+) -> u32
+    ensures { ReadManySays addresses.now values.old values.new result checked_caller.old checked_caller.new }
 {
     if values.len() < addresses.len() {
         return status::ROOM;
     }
-    read_each(member, addresses, values)
+    read_each(checked_caller, addresses, values)
 }
 
-fn read_each(member: &mut Member, addresses: &[usize], values: &mut [u64]) -> u32
+fn read_each(checked_caller: &mut CheckedCaller, addresses: &[usize], values: &mut [u64]) -> u32
     requires room { length addresses.now ≤ length values.old }
-    ensures { ReadManySays addresses.now values.old values.new result member.old member.new }
+    ensures { ReadManySays addresses.now values.old values.new result checked_caller.old checked_caller.new }
 {
     for i in 0..addresses.len() {
-        match member.read(addresses[i]) {
+        match checked_caller.read(addresses[i]) {
             Ok(Read::Value(word)) => values[i] = word,
             Ok(Read::Conflict(_)) => return status::CONFLICT,
             Ok(Read::Full { .. }) => return status::LOG_FULL,

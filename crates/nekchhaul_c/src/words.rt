@@ -9,7 +9,7 @@ ghost use Rattle.tx_checked.specs.Tells.{HasReadWord, HasWrittenWord};
 use crate::handle::Handle;
 use crate::status;
 use stm_model::alg::Alg;
-use tx_checked::member::Member;
+use tx_checked::checked_caller::CheckedCaller;
 
 /// Reads a word. `value` is written only where the answer is 0.
 #[unsafe(no_mangle)]
@@ -19,61 +19,61 @@ pub extern "C" fn nekchhaul_read(caller: &mut Handle, address: usize, value: &mu
     if !caller.is_held() {
         return status::NO_CALLER;
     }
-    let member = caller.member();
-    match member.desc.local.algorithm {
-        Alg::Cgl => read(member, address, value),
-        Alg::Tml => read_tml(member, address, value),
-        Alg::OrecLazy => read_lazy(member, address, value),
-        Alg::RingSw => read_ring(member, address, value),
-        Alg::OrecEager | Alg::Serial => read_apart(member, address, value),
+    let checked_caller = caller.checked_caller();
+    match checked_caller.desc.local.algorithm {
+        Alg::Cgl => read(checked_caller, address, value),
+        Alg::Tml => read_tml(checked_caller, address, value),
+        Alg::OrecLazy => read_lazy(checked_caller, address, value),
+        Alg::RingSw => read_ring(checked_caller, address, value),
+        Alg::OrecEager | Alg::Serial => read_apart(checked_caller, address, value),
     }
 }
 
 #[inline(always)]
-fn read(member: &mut Member, address: usize, value: &mut u64) -> u32
-    ensures { SaysWord read_code read_value value.old value.new (access address) (HasReadWord address) result member.old member.new }
+fn read(checked_caller: &mut CheckedCaller, address: usize, value: &mut u64) -> u32
+    ensures { SaysWord read_code read_value value.old value.new (access address) (HasReadWord address) result checked_caller.old checked_caller.new }
 {
-    let word = member.read(address);
+    let word = checked_caller.read(address);
     status::put_value(word, value);
     status::of_read(word)
 }
 
 /// It looks at the algorithm again, and so do the two below, so that the compiler leaves the others' reads out of it.
 #[inline(never)]
-fn read_tml(member: &mut Member, address: usize, value: &mut u64) -> u32
-    ensures { SaysWord read_code read_value value.old value.new (access address) (HasReadWord address) result member.old member.new }
+fn read_tml(checked_caller: &mut CheckedCaller, address: usize, value: &mut u64) -> u32
+    ensures { SaysWord read_code read_value value.old value.new (access address) (HasReadWord address) result checked_caller.old checked_caller.new }
 {
-    match member.desc.local.algorithm {
-        Alg::Tml => read(member, address, value),
-        _ => read_apart(member, address, value),
+    match checked_caller.desc.local.algorithm {
+        Alg::Tml => read(checked_caller, address, value),
+        _ => read_apart(checked_caller, address, value),
     }
 }
 
 #[inline(never)]
-fn read_lazy(member: &mut Member, address: usize, value: &mut u64) -> u32
-    ensures { SaysWord read_code read_value value.old value.new (access address) (HasReadWord address) result member.old member.new }
+fn read_lazy(checked_caller: &mut CheckedCaller, address: usize, value: &mut u64) -> u32
+    ensures { SaysWord read_code read_value value.old value.new (access address) (HasReadWord address) result checked_caller.old checked_caller.new }
 {
-    match member.desc.local.algorithm {
-        Alg::OrecLazy => read(member, address, value),
-        _ => read_apart(member, address, value),
+    match checked_caller.desc.local.algorithm {
+        Alg::OrecLazy => read(checked_caller, address, value),
+        _ => read_apart(checked_caller, address, value),
     }
 }
 
 #[inline(never)]
-fn read_ring(member: &mut Member, address: usize, value: &mut u64) -> u32
-    ensures { SaysWord read_code read_value value.old value.new (access address) (HasReadWord address) result member.old member.new }
+fn read_ring(checked_caller: &mut CheckedCaller, address: usize, value: &mut u64) -> u32
+    ensures { SaysWord read_code read_value value.old value.new (access address) (HasReadWord address) result checked_caller.old checked_caller.new }
 {
-    match member.desc.local.algorithm {
-        Alg::RingSw => read(member, address, value),
-        _ => read_apart(member, address, value),
+    match checked_caller.desc.local.algorithm {
+        Alg::RingSw => read(checked_caller, address, value),
+        _ => read_apart(checked_caller, address, value),
     }
 }
 
 #[inline(never)]
-fn read_apart(member: &mut Member, address: usize, value: &mut u64) -> u32
-    ensures { SaysWord read_code read_value value.old value.new (access address) (HasReadWord address) result member.old member.new }
+fn read_apart(checked_caller: &mut CheckedCaller, address: usize, value: &mut u64) -> u32
+    ensures { SaysWord read_code read_value value.old value.new (access address) (HasReadWord address) result checked_caller.old checked_caller.new }
 {
-    read(member, address, value)
+    read(checked_caller, address, value)
 }
 
 /// Writes a word.
@@ -84,23 +84,23 @@ pub extern "C" fn nekchhaul_write(caller: &mut Handle, address: usize, value: u6
     if !caller.is_held() {
         return status::NO_CALLER;
     }
-    let member = caller.member();
-    match member.desc.local.algorithm {
-        Alg::Cgl => write(member, address, value),
-        _ => write_apart(member, address, value),
+    let checked_caller = caller.checked_caller();
+    match checked_caller.desc.local.algorithm {
+        Alg::Cgl => write(checked_caller, address, value),
+        _ => write_apart(checked_caller, address, value),
     }
 }
 
 #[inline(always)]
-fn write(member: &mut Member, address: usize, value: u64) -> u32
-    ensures { Says write_code (access address) (HasWrittenWord address value) result member.old member.new }
+fn write(checked_caller: &mut CheckedCaller, address: usize, value: u64) -> u32
+    ensures { Says write_code (access address) (HasWrittenWord address value) result checked_caller.old checked_caller.new }
 {
-    status::of_write(member.write(address, value))
+    status::of_write(checked_caller.write(address, value))
 }
 
 #[inline(never)]
-fn write_apart(member: &mut Member, address: usize, value: u64) -> u32
-    ensures { Says write_code (access address) (HasWrittenWord address value) result member.old member.new }
+fn write_apart(checked_caller: &mut CheckedCaller, address: usize, value: u64) -> u32
+    ensures { Says write_code (access address) (HasWrittenWord address value) result checked_caller.old checked_caller.new }
 {
-    write(member, address, value)
+    write(checked_caller, address, value)
 }

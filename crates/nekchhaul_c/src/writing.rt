@@ -2,11 +2,11 @@
 ghost use Rattle.std.specs.Prelude.{◌≡◌, ◌≤◌, length, take};
 ghost use Rattle.nekchhaul_c.specs.Writes.{WriteManySays, WritesInTurn};
 ghost use Rattle.nekchhaul_c.specs.Says.{Holds};
-ghost use Rattle.tx_checked.specs.Members.{IsSameMember};
+ghost use Rattle.tx_checked.specs.CheckedCallers.{IsSameCheckedCaller};
 
 use crate::handle::Handle;
 use crate::status;
-use tx_checked::member::Member;
+use tx_checked::checked_caller::CheckedCaller;
 
 /// Writes these values to the words at these addresses, in turn, up to the first that is refused. `taken` is how many were
 /// written.
@@ -22,30 +22,35 @@ pub extern "C" fn nekchhaul_write_many(
     if !caller.is_held() {
         return status::NO_CALLER;
     }
-    write_or_too_few(caller.member(), addresses, values, taken)
+    write_or_too_few(caller.checked_caller(), addresses, values, taken)
 }
 
 fn write_or_too_few(
-    member: &mut Member,
+    checked_caller: &mut CheckedCaller,
     addresses: &[usize],
     values: &[u64],
     taken: &mut usize,
 ) -> u32
-    ensures { WriteManySays addresses.now values.now taken.new result member.old member.new }
+    ensures { WriteManySays addresses.now values.now taken.new result checked_caller.old checked_caller.new }
 {
     if values.len() < addresses.len() {
         *taken = 0;
         return status::ROOM;
     }
-    write_each(member, addresses, values, taken)
+    write_each(checked_caller, addresses, values, taken)
 }
 
-fn write_each(member: &mut Member, addresses: &[usize], values: &[u64], taken: &mut usize) -> u32
+fn write_each(
+    checked_caller: &mut CheckedCaller,
+    addresses: &[usize],
+    values: &[u64],
+    taken: &mut usize,
+) -> u32
     requires enough { length addresses.now ≤ length values.now }
-    ensures { WriteManySays addresses.now values.now taken.new result member.old member.new }
+    ensures { WriteManySays addresses.now values.now taken.new result checked_caller.old checked_caller.new }
 {
     for i in 0..addresses.len() {
-        let number = status::of_write(member.write(addresses[i], values[i]));
+        let number = status::of_write(checked_caller.write(addresses[i], values[i]));
         if number != status::OK {
             *taken = i;
             return number;

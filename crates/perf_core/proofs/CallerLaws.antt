@@ -8,14 +8,14 @@ use Rattle.stm_rule.specs.Callers.{Handle}
 use Rattle.tx_atomic.specs.Callers.{AllReady, IsReady, IsThrough}
 use Rattle.tx_atomic.specs.CallerLaws.{ready-at, ready-each}
 use Rattle.perf_core.specs.declared.caller.Caller.{Caller}
-use Rattle.perf_core.specs.declared.place.Place.{Place}
+use Rattle.perf_core.specs.declared.work_region.WorkRegion.{WorkRegion}
 use Rattle.perf_core.specs.Callers.{desc_in, descs_in}
 
 -- a caller's work, told of what was lent and given back
 pub through-as : (x y c d : CachePadded Caller) → x ≡ c → y ≡ d → IsThrough (desc_in x) (desc_in y) → IsThrough (desc_in c) (desc_in d)
 through-as x y c d lent left t = subst (λ (b : CachePadded Caller). IsThrough (desc_in c) (desc_in b)) left (subst (λ (a : CachePadded Caller). IsThrough (desc_in a) (desc_in y)) lent t)
 
-module _ (stm : Stm Place) where
+module _ (stm : Stm WorkRegion) where
   pub ready-callers : (cs : List (CachePadded Caller)) → AllReady stm 0 (descs_in cs) → All (λ c. IsReady stm (desc_in c)) cs
   ready-callers cs ready = λ i c lt.
       let many = length-map cs desc_in in
@@ -32,7 +32,7 @@ module _ (stm : Stm Place) where
       ready-each stm 0 (descs_in (c ∷ cs)) (descs_in es) ready (left ∙ (count ∙ sym many)) (λ i x lt.
       let here : i < length (c ∷ cs) = omega (arith, lt) in
       let there : i < length es = omega (arith, here) in
-      subst (λ (d : Handle Place). IsThrough d (get_or (descs_in es) i x)) (sym (get_or-map desc_in (c ∷ cs) i c x here)) (subst (λ (e : Handle Place). IsThrough (desc_in (get_or (c ∷ cs) i c)) e) (sym (get_or-map desc_in es i c x there)) (each i c here)))
+      subst (λ (d : Handle WorkRegion). IsThrough d (get_or (descs_in es) i x)) (sym (get_or-map desc_in (c ∷ cs) i c x here)) (subst (λ (e : Handle WorkRegion). IsThrough (desc_in (get_or (c ∷ cs) i c)) e) (sym (get_or-map desc_in es i c x there)) (each i c here)))
 
 -- what a slice that was lent whole left
 written : {A : Type 0} (n : ℕ) (xs ys : List A) → length xs ≡ n → length ys ≡ n → take n (xs ++ drop (length xs) ys) ≡ xs

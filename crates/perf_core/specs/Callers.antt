@@ -4,10 +4,10 @@ use Rattle.crossbeam_utils.specs.declared.cache_padded.CachePadded.{CachePadded}
 use Rattle.crossbeam_utils.specs.Padded.{padded_value}
 use Rattle.stm_rule.specs.Callers.{Handle}
 use Rattle.perf_core.specs.declared.caller.Caller.{Caller}
-use Rattle.perf_core.specs.declared.place.Place.{Place}
+use Rattle.perf_core.specs.declared.work_region.WorkRegion.{WorkRegion}
 
-abbrev pub desc_in : CachePadded Caller → Handle Place
+abbrev pub desc_in : CachePadded Caller → Handle WorkRegion
 desc_in c = (padded_value c).desc
 
-abbrev pub descs_in : List (CachePadded Caller) → List (Handle Place)
+abbrev pub descs_in : List (CachePadded Caller) → List (Handle WorkRegion)
 descs_in cs = map desc_in cs

@@ -1,3 +1,3 @@
 pub mod Jobs
-pub mod Places
+pub mod WorkRegions
 pub mod Callers

@@ -1,16 +1,16 @@
 //! A caller: its transactions one after the other, each tried until it commits.
 ghost use Rattle.std.specs.Prelude.{◌≡◌, ◌≤◌};
 ghost use Rattle.stm_rule.specs.Callers.{IsOf, IsSameCaller};
-ghost use Rattle.tx_answers.specs.Known.{IsIdle};
+ghost use Rattle.tx_answers.specs.CallerState.{IsIdle};
 ghost use Rattle.stm_tx.specs.Descs.{known};
-ghost use Rattle.perf_core.specs.Places.{FitsPlace};
+ghost use Rattle.perf_core.specs.WorkRegions.{FitsWorkRegion};
 
 use crate::conflicts::Conflicts;
 use crate::drawing::{Bank, Count, Draw, Hash, List, Sum};
 use crate::looks::Looks;
-use crate::outcome::Outcome;
-use crate::place::Place;
 use crate::plan::{Plan, Workload};
+use crate::work_counts::WorkCounts;
+use crate::work_region::WorkRegion;
 use rand_core::SeedableRng;
 use rand_pcg::Pcg32;
 use std::sync::Wait;
@@ -22,11 +22,11 @@ use tx_atomic::switching::switch_to;
 /// A caller, with its own random numbers.
 #[derive(Drop)]
 pub struct Caller {
-    pub desc: Desc<Place>,
+    pub desc: Desc<WorkRegion>,
     pub draws: Pcg32,
     /// Its observer counts conflicts.
     pub pace: Pacing<Conflicts>,
-    pub outcome: Outcome,
+    pub work_counts: WorkCounts,
     /// How many transactions it is to commit.
     pub share: u32,
     /// How often it is to switch before them, and what these switches took.
@@ -36,7 +36,7 @@ pub struct Caller {
 
 impl Caller {
     pub fn new(
-        desc: Desc<Place>,
+        desc: Desc<WorkRegion>,
         share: u32,
         switches: u32,
         seed: u64,
@@ -48,7 +48,7 @@ impl Caller {
             desc,
             draws: Pcg32::seed_from_u64(seed),
             pace: Pacing::observed(conflicts),
-            outcome: Outcome::new(),
+            work_counts: WorkCounts::new(),
             share,
             switches,
             looks: Looks::new(),
@@ -56,10 +56,10 @@ impl Caller {
     }
 
     /// Switches as often as it is to, and commits its share of transactions.
-    pub fn work<R: Wait>(&mut self, rt: &R, stm: &Stm<Place>, plan: &Plan)
+    pub fn work<R: Wait>(&mut self, rt: &R, stm: &Stm<WorkRegion>, plan: &Plan)
         requires stm { IsOf self.old.desc stm.now }
         requires idle { IsIdle (known self.old.desc) }
-        requires place { FitsPlace stm.now }
+        requires work_region { FitsWorkRegion stm.now }
         ensures same { IsSameCaller self.old.desc self.new.desc }
         ensures idle { IsIdle (known self.new.desc) }
     {
@@ -68,7 +68,7 @@ impl Caller {
     }
 
     /// Installs the algorithm anew, as often as it is to.
-    fn switch<R: Wait>(&mut self, rt: &R, stm: &Stm<Place>, alg: Alg)
+    fn switch<R: Wait>(&mut self, rt: &R, stm: &Stm<WorkRegion>, alg: Alg)
         requires stm { IsOf self.old.desc stm.now }
         requires idle { IsIdle (known self.old.desc) }
         ensures same { IsSameCaller self.old.desc self.new.desc }
@@ -81,10 +81,10 @@ impl Caller {
     }
 
     /// Commits its share of transactions of a workload.
-    fn commit<R: Wait>(&mut self, rt: &R, stm: &Stm<Place>, workload: Workload)
+    fn commit<R: Wait>(&mut self, rt: &R, stm: &Stm<WorkRegion>, workload: Workload)
         requires stm { IsOf self.old.desc stm.now }
         requires idle { IsIdle (known self.old.desc) }
-        requires place { FitsPlace stm.now }
+        requires work_region { FitsWorkRegion stm.now }
         ensures same { IsSameCaller self.old.desc self.new.desc }
         ensures idle { IsIdle (known self.new.desc) }
     {
@@ -98,17 +98,17 @@ impl Caller {
     }
 
     /// Commits its share of transactions, drawn so. It ends early where the clock was found at its limit.
-    fn commit_drawn<R: Wait, D: Draw>(&mut self, rt: &R, stm: &Stm<Place>)
+    fn commit_drawn<R: Wait, D: Draw>(&mut self, rt: &R, stm: &Stm<WorkRegion>)
         requires stm { IsOf self.old.desc stm.now }
         requires idle { IsIdle (known self.old.desc) }
-        requires place { FitsPlace stm.now }
+        requires work_region { FitsWorkRegion stm.now }
         ensures same { IsSameCaller self.old.desc self.new.desc }
         ensures idle { IsIdle (known self.new.desc) }
     {
         for _ in 0..self.share {
             let job = D::draw(&mut self.draws);
             match atomically(rt, &mut self.desc, stm, &mut self.pace, &job) {
-                Some(came) => self.outcome.note(came),
+                Some(came) => self.work_counts.note(came),
                 None => return,
             }
         }

@@ -1,18 +1,18 @@
 //! Whether a memory is what its transactions leave.
 ghost use Rattle.std.specs.Prelude.{◌<◌, ◌≤◌};
 
-use crate::outcome::Outcome;
 use crate::plan::{ACCOUNTS, BALANCE, CELLS, KEYS, Plan, Workload};
+use crate::work_counts::WorkCounts;
 
 /// Whether the words are what a run's transactions leave, by what they came to, and each of them committed.
-pub fn is_right(words: &[u64], plan: &Plan, commits: u64, outcome: &Outcome) -> bool {
+pub fn is_right(words: &[u64], plan: &Plan, commits: u64, work_counts: &WorkCounts) -> bool {
     if commits != u64::from(plan.count) {
         return false;
     }
     match plan.workload {
-        Workload::Bank | Workload::Sum => outcome.wrong == 0 && has_all_money(words),
-        Workload::Hash => has_keys(words, 16, outcome),
-        Workload::List => has_keys(words, 1, outcome),
+        Workload::Bank | Workload::Sum => work_counts.wrong == 0 && has_all_money(words),
+        Workload::Hash => has_keys(words, 16, work_counts),
+        Workload::List => has_keys(words, 1, work_counts),
         Workload::Count => words.first() == Some(&commits),
     }
 }
@@ -27,7 +27,7 @@ fn has_all_money(words: &[u64]) -> bool {
 }
 
 /// Whether a set in so many chains is sorted, and has as many keys as were put in and not taken out.
-fn has_keys(words: &[u64], heads: usize, outcome: &Outcome) -> bool
+fn has_keys(words: &[u64], heads: usize, work_counts: &WorkCounts) -> bool
     requires { (0 < heads) × (heads ≤ 16) }
 {
     let mut keys: u64 = 0;
@@ -37,7 +37,8 @@ fn has_keys(words: &[u64], heads: usize, outcome: &Outcome) -> bool
             None => return false,
         }
     }
-    keys.saturating_add(outcome.removed) == u64::from(KEYS / 2).saturating_add(outcome.inserted)
+    keys.saturating_add(work_counts.removed)
+        == u64::from(KEYS / 2).saturating_add(work_counts.inserted)
 }
 
 /// How many cells a chain has; None where it isn't sorted, has a key of another chain, or doesn't end.

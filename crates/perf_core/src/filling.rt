@@ -1,14 +1,14 @@
 //! What a memory has before the transactions that are timed: accounts with money, and sets with the even keys.
 ghost use Rattle.std.specs.Prelude.{◌≡◌, ◌≤◌};
 ghost use Rattle.stm_rule.specs.Callers.{IsOf, IsSameCaller};
-ghost use Rattle.tx_answers.specs.Known.{IsIdle};
+ghost use Rattle.tx_answers.specs.CallerState.{IsIdle};
 ghost use Rattle.stm_tx.specs.Descs.{known};
-ghost use Rattle.perf_core.specs.Places.{FitsPlace};
+ghost use Rattle.perf_core.specs.WorkRegions.{FitsWorkRegion};
 
 use crate::conflicts::Conflicts;
 use crate::jobs::Job;
-use crate::place::Place;
 use crate::plan::{ACCOUNTS, BALANCE, KEYS, Workload};
+use crate::work_region::WorkRegion;
 use std::alloc::Global;
 use std::sync::Wait;
 use stm_tx::{Desc, Stm};
@@ -19,13 +19,13 @@ use tx_atomic::pace::Pacing;
 pub fn fill<R: Wait>(
     rt: &R,
     alloc: Global,
-    desc: &mut Desc<Place>,
-    stm: &Stm<Place>,
+    desc: &mut Desc<WorkRegion>,
+    stm: &Stm<WorkRegion>,
     workload: Workload,
 )
     requires stm { IsOf desc.old stm.now }
     requires idle { IsIdle (known desc.old) }
-    requires place { FitsPlace stm.now }
+    requires work_region { FitsWorkRegion stm.now }
     ensures same { IsSameCaller desc.old desc.new }
     ensures idle { IsIdle (known desc.new) }
 {
@@ -40,13 +40,13 @@ pub fn fill<R: Wait>(
 
 fn fill_accounts<R: Wait>(
     rt: &R,
-    desc: &mut Desc<Place>,
-    stm: &Stm<Place>,
+    desc: &mut Desc<WorkRegion>,
+    stm: &Stm<WorkRegion>,
     pace: &mut Pacing<Conflicts>,
 )
     requires stm { IsOf desc.old stm.now }
     requires idle { IsIdle (known desc.old) }
-    requires place { FitsPlace stm.now }
+    requires work_region { FitsWorkRegion stm.now }
     ensures same { IsSameCaller desc.old desc.new }
     ensures idle { IsIdle (known desc.new) }
 {
@@ -60,10 +60,15 @@ fn fill_accounts<R: Wait>(
 }
 
 /// The greatest keys go first, so that each finds its place at once.
-fn fill_set<R: Wait>(rt: &R, desc: &mut Desc<Place>, stm: &Stm<Place>, pace: &mut Pacing<Conflicts>)
+fn fill_set<R: Wait>(
+    rt: &R,
+    desc: &mut Desc<WorkRegion>,
+    stm: &Stm<WorkRegion>,
+    pace: &mut Pacing<Conflicts>,
+)
     requires stm { IsOf desc.old stm.now }
     requires idle { IsIdle (known desc.old) }
-    requires place { FitsPlace stm.now }
+    requires work_region { FitsWorkRegion stm.now }
     ensures same { IsSameCaller desc.old desc.new }
     ensures idle { IsIdle (known desc.new) }
 {

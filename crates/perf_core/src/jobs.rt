@@ -7,8 +7,8 @@ ghost use Rattle.tx_cells.specs.Structures.{list_of, hash_of};
 ghost use Rattle.tx_regions.specs.Regions.{WellFormed};
 ghost use Rattle.perf_core.specs.Jobs.{RegionFits, JobFits};
 
-use crate::place::Place;
 use crate::plan::BALANCE;
+use crate::work_region::WorkRegion;
 use stm_model::access::Access;
 use stm_model::stop::Stop;
 use tx_atomic::transaction::Transaction;
@@ -45,17 +45,17 @@ pub enum Came {
 }
 
 /// What it comes to is told by the answer, of which nothing is proved.
-impl Transaction<Place> for Job {
+impl Transaction<WorkRegion> for Job {
     ghost use Rattle.perf_core.specs.Jobs.{RegionFits, JobFits};
 
     type Output = Came;
 
-    ghost fits = { λ job place words. RegionFits place.region words × JobFits words job };
+    ghost precondition = { λ job work_region words. RegionFits work_region.region words × JobFits words job };
 
-    ghost tells = { λ job place words came log. Unit {0} };
+    ghost postcondition = { λ job work_region words came log. Unit {0} };
 
-    fn run<A: Access>(&self, place: &Place, memory: &mut A) -> Result<Came, Stop> {
-        perform(*place, memory, *self)
+    fn run<A: Access>(&self, work_region: &WorkRegion, memory: &mut A) -> Result<Came, Stop> {
+        perform(*work_region, memory, *self)
     }
 }
 
@@ -63,19 +63,19 @@ impl Transaction<Place> for Job {
 ///
 /// # Errors
 /// The Stop of the access.
-fn perform<A: Access>(place: Place, memory: &mut A, job: Job) -> Result<Came, Stop>
+fn perform<A: Access>(work_region: WorkRegion, memory: &mut A, job: Job) -> Result<Came, Stop>
     requires going { A.stopped memory.old ≡ None }
-    requires region { RegionFits place.region (A.words memory.old) }
+    requires region { RegionFits work_region.region (A.words memory.old) }
     requires job { JobFits (A.words memory.old) job }
-    requires well { Under (A.good memory.old) (A.words memory.old) (A.log memory.old) (WellFormed place.region) }
-    ensures well { OnOk result (Under (A.good memory.new) (A.words memory.new) (A.log memory.new) (WellFormed place.region)) }
+    requires well { Under (A.good memory.old) (A.words memory.old) (A.log memory.old) (WellFormed work_region.region) }
+    ensures well { OnOk result (Under (A.good memory.new) (A.words memory.new) (A.log memory.new) (WellFormed work_region.region)) }
     ensures goes { OnOk result (A.stopped memory.new ≡ None) }
     ensures stops { IfErr result (λ s. A.stopped memory.new ≡ Some s) }
     ensures good { SameMemories (A.good memory.old) (A.good memory.new) }
     ensures words { A.words memory.new ≡ A.words memory.old }
     ensures keeps { A.keeps memory.old memory.new }
 {
-    match place.region {
+    match work_region.region {
         Region::Counter(_) => on_accounts(memory, job),
         Region::List(list) => on_list(list, memory, job),
         Region::Hash(hash) => on_hash(hash, memory, job),

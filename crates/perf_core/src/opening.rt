@@ -1,14 +1,14 @@
 //! The memory of a run, opened: its algorithm is installed, and it is filled.
 ghost use Rattle.std.specs.Prelude.{◌≡◌, ◌≤◌, false, length, IfOk};
 ghost use Rattle.stm_rule.specs.Callers.{IsOf, IsSameCaller};
-ghost use Rattle.tx_answers.specs.Known.{IsIdle};
+ghost use Rattle.tx_answers.specs.CallerState.{IsIdle};
 ghost use Rattle.stm_tx.specs.Descs.{known};
 ghost use Rattle.tx_atomic.specs.Callers.{AllReady};
-ghost use Rattle.perf_core.specs.Places.{FitsPlace};
+ghost use Rattle.perf_core.specs.WorkRegions.{FitsWorkRegion};
 
 use crate::filling::fill;
-use crate::place::{Place, WORDS};
 use crate::plan::Plan;
+use crate::work_region::{WORDS, WorkRegion};
 use std::alloc::Global;
 use std::sync::Wait;
 use stm_tx::{Config, Desc, NewError, Stm};
@@ -22,10 +22,10 @@ pub fn open<R: Wait>(
     rt: &R,
     alloc: Global,
     plan: &Plan,
-) -> Result<(Stm<Place>, Vec<Desc<Place>>), NewError>
+) -> Result<(Stm<WorkRegion>, Vec<Desc<WorkRegion>>), NewError>
     ensures ready { IfOk result (λ r. AllReady r.0 0 r.1.items) }
     ensures count { IfOk result (λ r. length r.1.items ≡ r.0.config.callers) }
-    ensures place { IfOk result (λ r. FitsPlace r.0) }
+    ensures work_region { IfOk result (λ r. FitsWorkRegion r.0) }
     ensures plain { IfOk result (λ r. r.0.config.fence ≡ false) }
 {
     let config = Config {
@@ -38,16 +38,22 @@ pub fn open<R: Wait>(
         clock: 0,
         fence: false,
     };
-    let (stm, mut descs) = Stm::new(alloc, config, Place::of(plan.workload))?;
+    let (stm, mut descs) = Stm::new(alloc, config, WorkRegion::of(plan.workload))?;
     begin(rt, alloc, &mut descs[0], &stm, plan);
     Ok((stm, descs))
 }
 
 /// Installs the algorithm, and fills the memory.
-fn begin<R: Wait>(rt: &R, alloc: Global, desc: &mut Desc<Place>, stm: &Stm<Place>, plan: &Plan)
+fn begin<R: Wait>(
+    rt: &R,
+    alloc: Global,
+    desc: &mut Desc<WorkRegion>,
+    stm: &Stm<WorkRegion>,
+    plan: &Plan,
+)
     requires stm { IsOf desc.old stm.now }
     requires idle { IsIdle (known desc.old) }
-    requires place { FitsPlace stm.now }
+    requires work_region { FitsWorkRegion stm.now }
     ensures same { IsSameCaller desc.old desc.new }
     ensures idle { IsIdle (known desc.new) }
 {

@@ -4,17 +4,17 @@ ghost use Rattle.crossbeam_utils.specs.declared.cache_padded.CachePadded.{CacheP
 ghost use Rattle.tx_atomic.specs.Callers.{IsReady, IsThrough};
 ghost use Rattle.perf_core.specs.declared.caller.Caller.{Caller};
 ghost use Rattle.perf_core.specs.Callers.{desc_in, descs_in};
-ghost use Rattle.perf_core.specs.Places.{FitsPlace};
+ghost use Rattle.perf_core.specs.WorkRegions.{FitsWorkRegion};
 
 use crate::caller::Caller;
 use crate::checks::is_right;
 use crate::conflicts::Conflicts;
 use crate::looks::Looks;
 use crate::opening::open;
-use crate::outcome::Outcome;
-use crate::place::Place;
 use crate::plan::Plan;
 use crate::report::Report;
+use crate::work_counts::WorkCounts;
+use crate::work_region::WorkRegion;
 use crossbeam_utils::CachePadded;
 use std::alloc::Global;
 use std::sync::Wait;
@@ -37,12 +37,12 @@ pub fn run<R: Threads + Wait + Sync>(
     let none_met = Conflicts::new(alloc, plan.conflicts)?;
     let mut callers = hire(alloc, descs, plan)?;
     work_all(rt, callers.as_mut_slice(), &stm, plan);
-    let (tally, outcome, looks) = told_by(callers.as_slice());
+    let (tally, work_counts, looks) = told_by(callers.as_slice());
     let conflicts = met_by(callers.as_slice(), none_met);
     let descs = dismiss(callers, room);
     match close(alloc, stm, descs) {
         Ok((words, _closed)) => {
-            let right = is_right(words.as_slice(), plan, tally.commits, &outcome);
+            let right = is_right(words.as_slice(), plan, tally.commits, &work_counts);
             Ok(Report {
                 plan: *plan,
                 tally,
@@ -59,7 +59,7 @@ pub fn run<R: Threads + Wait + Sync>(
 /// evenly.
 fn hire(
     alloc: Global,
-    descs: Vec<Desc<Place>>,
+    descs: Vec<Desc<WorkRegion>>,
     plan: &Plan,
 ) -> Result<Vec<CachePadded<Caller>>, Memory>
     ensures { IfOk result (λ callers. descs_in callers.items ≡ descs.items) }
@@ -83,12 +83,12 @@ fn hire(
 fn work_all<R: Threads + Wait + Sync>(
     rt: &R,
     callers: &mut [CachePadded<Caller>],
-    stm: &Stm<Place>,
+    stm: &Stm<WorkRegion>,
     plan: &Plan,
 )
     requires some { 0 < length callers.old }
     requires ready { All (λ caller. IsReady stm.now (desc_in caller)) callers.old }
-    requires place { FitsPlace stm.now }
+    requires work_region { FitsWorkRegion stm.now }
     ensures count { length callers.new ≡ length callers.old }
     ensures done { (i : ℕ) (d : CachePadded Caller) → i < length callers.old → IsThrough (desc_in (slice_index_or callers.old i d)) (desc_in (slice_index_or callers.new i d)) }
 {
@@ -101,9 +101,9 @@ fn work_all<R: Threads + Wait + Sync>(
     );
 }
 
-fn work<R: Wait>(rt: &R, caller: &mut CachePadded<Caller>, stm: &Stm<Place>, plan: &Plan)
+fn work<R: Wait>(rt: &R, caller: &mut CachePadded<Caller>, stm: &Stm<WorkRegion>, plan: &Plan)
     requires ready { IsReady stm.now (desc_in caller.old) }
-    requires place { FitsPlace stm.now }
+    requires work_region { FitsWorkRegion stm.now }
     ensures { IsThrough (desc_in caller.old) (desc_in caller.new) }
 {
     let caller = &mut **caller;
@@ -111,16 +111,16 @@ fn work<R: Wait>(rt: &R, caller: &mut CachePadded<Caller>, stm: &Stm<Place>, pla
 }
 
 /// What all callers counted.
-fn told_by(callers: &[CachePadded<Caller>]) -> (Tally, Outcome, Looks) {
+fn told_by(callers: &[CachePadded<Caller>]) -> (Tally, WorkCounts, Looks) {
     let mut tally = Tally::new();
-    let mut outcome = Outcome::new();
+    let mut work_counts = WorkCounts::new();
     let mut looks = Looks::new();
     for caller in callers {
         tally = tally.with(&caller.pace.tally);
-        outcome = outcome.with(&caller.outcome);
+        work_counts = work_counts.with(&caller.work_counts);
         looks = looks.with(&caller.looks);
     }
-    (tally, outcome, looks)
+    (tally, work_counts, looks)
 }
 
 /// What all callers met, added to none.
@@ -133,7 +133,10 @@ fn met_by(callers: &[CachePadded<Caller>], none: Conflicts) -> Conflicts {
 }
 
 /// The descriptors, in the callers' order, in the room for them.
-fn dismiss(callers: Vec<CachePadded<Caller>>, mut room: Vec<Desc<Place>>) -> Vec<Desc<Place>>
+fn dismiss(
+    callers: Vec<CachePadded<Caller>>,
+    mut room: Vec<Desc<WorkRegion>>,
+) -> Vec<Desc<WorkRegion>>
     requires empty { (room.items ≡ []) × (vec_len room ≡ 0) }
     requires room { length callers.items ≤ vec_capacity room }
     ensures { result.items ≡ descs_in callers.items }

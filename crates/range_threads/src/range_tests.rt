@@ -11,7 +11,7 @@ use std::thread;
 use std::thread::Threads;
 use stm_model::alg::{ALGORITHMS, Alg};
 use stm_model::config::Config;
-use tx_checked::member::Member;
+use tx_checked::checked_caller::CheckedCaller;
 use tx_checked::opening::open;
 
 const SHARED: Config = Config {
@@ -29,21 +29,25 @@ const SHARED: Config = Config {
 const ROUNDS: u32 = 200;
 
 /// What one caller does: caller 0 has the range, all others move money.
-fn work<R: Wait>(rt: &R, caller: usize, member: &mut Member, counts: &Counts) {
+fn work<R: Wait>(rt: &R, caller: usize, checked_caller: &mut CheckedCaller, counts: &Counts) {
     if caller == 0 {
-        sort_often(rt, member, ROUNDS, counts);
+        sort_often(rt, checked_caller, ROUNDS, counts);
     } else {
-        move_often(rt, member, counts);
+        move_often(rt, checked_caller, counts);
     }
 }
 
 /// Has each caller do so, on a thread of its own.
-fn work_all<R: Threads + Wait + Sync>(rt: &R, members: &mut [Member], counts: &Counts) {
+fn work_all<R: Threads + Wait + Sync>(
+    rt: &R,
+    checked_callers: &mut [CheckedCaller],
+    counts: &Counts,
+) {
     thread::for_each_mut(
         rt,
-        members,
+        checked_callers,
         4,
-        &|caller, member| { work(rt, caller, member, counts) },
+        &|caller, checked_caller| { work(rt, caller, checked_caller, counts) },
     );
 }
 
@@ -54,12 +58,12 @@ fn run<R: Threads + Wait + Sync>(
     alg: Alg,
     counts: &Counts,
 ) -> Option<Sight> {
-    let mut members = open(alloc, SHARED, alg).ok()?;
-    if !fill(rt, members.first_mut()?) {
+    let mut checked_callers = open(alloc, SHARED, alg).ok()?;
+    if !fill(rt, checked_callers.first_mut()?) {
         return None;
     }
-    work_all(rt, members.as_mut_slice(), counts);
-    attempt(rt, members.first_mut()?, 0, 0)
+    work_all(rt, checked_callers.as_mut_slice(), counts);
+    attempt(rt, checked_callers.first_mut()?, 0, 0)
 }
 
 /// The last of the rounds goes down, so that the range is left with the least weight.

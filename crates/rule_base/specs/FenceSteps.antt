@@ -99,7 +99,7 @@ KeepsFenced good f = (m : ℕ → ℕ) → good m → ((a : ℕ) → fenced f.nu
 
 pub record CanFenceCommit (good : (ℕ → ℕ) → Type 0) (alg : Alg) (t : ℕ) (v : View) : Type 0 where
   pub phase : v.gate.phase ≡ Closing
-  pub calm : v.gate.calm ≡ true
+  pub quiescent : v.gate.quiescent ≡ true
   pub named : v.gate.algorithm ≡ alg
   pub holds : v.fence.holds ≡ true
   pub ungiven : v.gate.giving ≡ false
@@ -138,4 +138,4 @@ pub record CanUnfence (callers n : ℕ) (alg : Alg) (v : View) : Type 0 where
   pub unstored : v.fence.stores ≡ []
   pub plain : v.gate.giving ≡ false → v.attempt.entered ≡ false
   -- the time of its entry is in BASE and in DONE
-  pub marked : v.gate.giving ≡ true → (v.gate.calm ≡ true) × (v.gate.rebased ≡ true) × (v.gate.completed ≡ true)
+  pub marked : v.gate.giving ≡ true → (v.gate.quiescent ≡ true) × (v.gate.rebased ≡ true) × (v.gate.completed ≡ true)

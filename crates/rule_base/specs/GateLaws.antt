@@ -10,7 +10,7 @@ use Rattle.rule_base.specs.declared.views.Phase.TheVariants.{Idle, Announced, Tu
 use Rattle.rule_base.specs.declared.views.View.{View}
 use Rattle.rule_base.specs.Encodings.{alg_of, holder_of, fence_of, gate_word, announced}
 use Rattle.rule_base.specs.EncodingLemmas.{alg_of-gate, holder_of-gate, holder_of-open, fence_of-gate, fence_of-open, formed-gate}
-use Rattle.rule_base.specs.GateRule.{rests, is_silent, may_hold, GateScene, gate_scene, GateRule}
+use Rattle.rule_base.specs.GateRule.{rests, is_silent, may_hold, GateProjection, gate_projection, GateRule}
 use Rattle.rule_base.specs.GateSteps.{announce, CanAnnounce, load_gate, CanLoadGate, departs, departed, depart, CanDepart, aim, CanAim, closed_at, take_gate, CanTakeGate, check, CanCheck, opened, reopen, CanReopen, seized, seize, CanSeize, returned, return_gate, CanReturn}
 use Rattle.rule_base.specs.InstallSteps.{HasChecked, install}
 use Rattle.rule_base.specs.History.{member}
@@ -18,16 +18,16 @@ use Rattle.rule_base.specs.PutLemmas.{put-all, parts-put, parts-kept}
 use Rattle.rule_base.specs.StepKinds.{view_after, world_after}
 use Rattle.rule_base.specs.World.{World, put, parts}
 
--- the gate's scene after a step
-pub gate_scene-put : (w x : World) (n : ℕ) (v : View) → x.views ≡ put w.views n v → gate_scene x ≡ record { status = x.status; gate = x.gate; views = put (gate_scene w).views n v.gate }
-gate_scene-put w x n v is = λ i. record { status = x.status; gate = x.gate; views = (ap (parts (λ (u : View). u.gate)) is ∙ parts-put (λ (u : View). u.gate) w.views n v) i }
+-- the gate's projection after a step
+pub gate_projection-put : (w x : World) (n : ℕ) (v : View) → x.views ≡ put w.views n v → gate_projection x ≡ record { status = x.status; gate = x.gate; views = put (gate_projection w).views n v.gate }
+gate_projection-put w x n v is = λ i. record { status = x.status; gate = x.gate; views = (ap (parts (λ (u : View). u.gate)) is ∙ parts-put (λ (u : View). u.gate) w.views n v) i }
 
 -- and after a step that leaves the gate alone
-pub gate_scene-kept : (w x : World) (n : ℕ) (v : View) → x.views ≡ put w.views n v → x.status ≡ w.status → x.gate ≡ w.gate → v.gate ≡ (w.views n).gate → gate_scene x ≡ gate_scene w
-gate_scene-kept w x n v is status gate own = λ i. record { status = status i; gate = gate i; views = (ap (parts (λ (u : View). u.gate)) is ∙ parts-kept (λ (u : View). u.gate) w.views n v own) i }
+pub gate_projection-kept : (w x : World) (n : ℕ) (v : View) → x.views ≡ put w.views n v → x.status ≡ w.status → x.gate ≡ w.gate → v.gate ≡ (w.views n).gate → gate_projection x ≡ gate_projection w
+gate_projection-kept w x n v is status gate own = λ i. record { status = status i; gate = gate i; views = (ap (parts (λ (u : View). u.gate)) is ∙ parts-kept (λ (u : View). u.gate) w.views n v own) i }
 
 -- who has seen all others idle since it closed the gate is alone: they are in no transaction, and neither aim nor close
-pub others-rest-at : (callers n : ℕ) (s : GateScene) → ((k : ℕ) → k < callers → k ≢ n → member (s.views n).checked k ≡ true) → GateRule callers s → (k : ℕ) → k ≢ n → rests (s.views k).phase ≡ true
+pub others-rest-at : (callers n : ℕ) (s : GateProjection) → ((k : ℕ) → k < callers → k ≢ n → member (s.views n).checked k ≡ true) → GateRule callers s → (k : ℕ) → k ≢ n → rests (s.views k).phase ≡ true
 others-rest-at callers n s quiet r k other = go (ltb k callers) refl
   where
     go : (b : Bool) → ltb k callers ≡ b → rests (s.views k).phase ≡ true
@@ -35,15 +35,15 @@ others-rest-at callers n s quiet r k other = go (ltb k callers) refl
     go false q = ap rests (r.far k (grind (arith, nat_tests)))
 
 -- a caller's number fits into the gate word
-pub holder-closed : (callers : ℕ) (s : GateScene) → GateRule callers s → (n : ℕ) → n < callers → (fence : ℕ) (alg : Alg) → holder_of (gate_word fence (1 + n) alg) ≡ 1 + n
+pub holder-closed : (callers : ℕ) (s : GateProjection) → GateRule callers s → (n : ℕ) → n < callers → (fence : ℕ) (alg : Alg) → holder_of (gate_word fence (1 + n) alg) ≡ 1 + n
 holder-closed callers s r n low fence alg = let f = r.few in holder_of-gate fence (1 + n) alg (omega arith)
 
 -- and so does its word
-pub closed-fits : (callers : ℕ) (s : GateScene) → GateRule callers s → (n : ℕ) → n < callers → 1 + n < 256
+pub closed-fits : (callers : ℕ) (s : GateProjection) → GateRule callers s → (n : ℕ) → n < callers → 1 + n < 256
 closed-fits callers s r n low = let f = r.few in omega arith
 
 -- who isn't idle is a caller
-pub is-caller-at : (callers : ℕ) (s : GateScene) → GateRule callers s → (n : ℕ) → ((s.views n).phase ≡ Idle → ⊥) → n < callers
+pub is-caller-at : (callers : ℕ) (s : GateProjection) → GateRule callers s → (n : ℕ) → ((s.views n).phase ≡ Idle → ⊥) → n < callers
 is-caller-at callers s r n busy = go (ltb n callers) refl
   where
     go : (b : Bool) → ltb n callers ≡ b → n < callers
@@ -57,17 +57,17 @@ seen-put views n v same own seen m k e = put-all views n v (λ j u. member (view
     (subst (λ l. member l k ≡ true) (put-all views n v (λ j u. u.checked ≡ (views j).checked) same (λ j d. refl) m) e)
 
 -- a caller alone, while it isn't idle, knows the algorithm that the gate names
-pub sole-knows : (callers n : ℕ) (s : GateScene) → GateRule callers s → ((s.views n).phase ≡ Idle → ⊥) → callers ≡ 1 → alg_of s.gate ≡ (s.views n).algorithm
+pub sole-knows : (callers n : ℕ) (s : GateProjection) → GateRule callers s → ((s.views n).phase ≡ Idle → ⊥) → callers ≡ 1 → alg_of s.gate ≡ (s.views n).algorithm
 sole-knows callers n s r busy one = let low = is-caller-at callers s r n busy in subst (λ k. alg_of s.gate ≡ (s.views k).algorithm) (omega arith) (r.sole one)
 
 module _ (callers : ℕ) where
-  pub others-rest : (w : World) (n : ℕ) → HasChecked callers n (w.views n) → GateRule callers (gate_scene w) → (k : ℕ) → k ≢ n → rests (w.views k).gate.phase ≡ true
-  others-rest w n quiet g = others-rest-at callers n (gate_scene w) quiet g
+  pub others-rest : (w : World) (n : ℕ) → HasChecked callers n (w.views n) → GateRule callers (gate_projection w) → (k : ℕ) → k ≢ n → rests (w.views k).gate.phase ≡ true
+  others-rest w n quiet g = others-rest-at callers n (gate_projection w) quiet g
 
-  pub announce-gate : (w : World) (n : ℕ) → n < callers → CanAnnounce (w.views n) → GateRule callers (gate_scene w) → GateRule callers (gate_scene (world_after (announce n) n w))
-  announce-gate w n low idle g = subst (GateRule callers) (sym (gate_scene-put w (world_after (announce n) n w) n (view_after (announce n) w (w.views n) 1) refl)) (law (gate_scene w) g idle)
+  pub announce-gate : (w : World) (n : ℕ) → n < callers → CanAnnounce (w.views n) → GateRule callers (gate_projection w) → GateRule callers (gate_projection (world_after (announce n) n w))
+  announce-gate w n low idle g = subst (GateRule callers) (sym (gate_projection-put w (world_after (announce n) n w) n (view_after (announce n) w (w.views n) 1) refl)) (law (gate_projection w) g idle)
     where
-      law : (s : GateScene) → GateRule callers s → (s.views n).phase ≡ Idle → GateRule callers (record s { status = put s.status n 1; views = put s.views n (record (s.views n) { phase = Announced; present = true }) })
+      law : (s : GateProjection) → GateRule callers s → (s.views n).phase ≡ Idle → GateRule callers (record s { status = put s.status n 1; views = put s.views n (record (s.views n) { phase = Announced; present = true }) })
       law s r idle = record {
         quiet = λ m e. grind (arith, r.quiet m, e);
         status = λ m. grind (arith, r.status m);
@@ -89,10 +89,10 @@ module _ (callers : ℕ) where
         far = λ m e. grind (arith, r.far m, e, low);
       }
 
-  pub load_gate-gate : (w : World) (n : ℕ) → CanLoadGate (w.views n) → GateRule callers (gate_scene w) → GateRule callers (gate_scene (world_after load_gate n w))
-  load_gate-gate w n announced g = subst (GateRule callers) (sym (gate_scene-put w (world_after load_gate n w) n (view_after load_gate w (w.views n) w.gate) refl)) (law (gate_scene w) g announced)
+  pub load_gate-gate : (w : World) (n : ℕ) → CanLoadGate (w.views n) → GateRule callers (gate_projection w) → GateRule callers (gate_projection (world_after load_gate n w))
+  load_gate-gate w n announced g = subst (GateRule callers) (sym (gate_projection-put w (world_after load_gate n w) n (view_after load_gate w (w.views n) w.gate) refl)) (law (gate_projection w) g announced)
     where
-      law : (s : GateScene) → GateRule callers s → (s.views n).phase ≡ Announced → GateRule callers (record s { views = put s.views n (record (s.views n) { phase = if holder_of s.gate == 0 then In else Turned; algorithm = alg_of s.gate; fence = fence_of s.gate }) })
+      law : (s : GateProjection) → GateRule callers s → (s.views n).phase ≡ Announced → GateRule callers (record s { views = put s.views n (record (s.views n) { phase = if holder_of s.gate == 0 then In else Turned; algorithm = alg_of s.gate; fence = fence_of s.gate }) })
       law s r announced = record {
         quiet = λ m e. grind (arith, r.quiet m, e, announced);
         status = λ m. grind (arith, r.status m);
@@ -114,11 +114,11 @@ module _ (callers : ℕ) where
         far = λ m e. grind (arith, r.far m, r.far n, e, announced);
       }
 
-  pub depart-gate : (w : World) (n : ℕ) → CanDepart (w.views n) → GateRule callers (gate_scene w) → GateRule callers (gate_scene (world_after (depart n) n w))
-  depart-gate w n may g = subst (GateRule callers) (sym (gate_scene-put w (world_after (depart n) n w) n (view_after (depart n) w (w.views n) 0) refl)) (by (gate_scene w) (w.views n).gate.phase refl may.phase may.reopened g)
+  pub depart-gate : (w : World) (n : ℕ) → CanDepart (w.views n) → GateRule callers (gate_projection w) → GateRule callers (gate_projection (world_after (depart n) n w))
+  depart-gate w n may g = subst (GateRule callers) (sym (gate_projection-put w (world_after (depart n) n w) n (view_after (depart n) w (w.views n) 0) refl)) (by (gate_projection w) (w.views n).gate.phase refl may.phase may.reopened g)
     where
       -- the phase after is p
-      law : (s : GateScene) (p : Phase) → is_silent p ≡ true → ((s.views n).holds ≡ true → may_hold p ≡ true) → (p ≡ Closing → (s.views n).holds ≡ true) → ((k : ℕ) → member (s.views k).checked n ≡ true → rests p ≡ true) → (p ≡ In → ⊥) → (p ≡ Aiming → ⊥) → (callers ≤ n → p ≡ Idle) → GateRule callers s
+      law : (s : GateProjection) (p : Phase) → is_silent p ≡ true → ((s.views n).holds ≡ true → may_hold p ≡ true) → (p ≡ Closing → (s.views n).holds ≡ true) → ((k : ℕ) → member (s.views k).checked n ≡ true → rests p ≡ true) → (p ≡ In → ⊥) → (p ≡ Aiming → ⊥) → (callers ≤ n → p ≡ Idle) → GateRule callers s
           → GateRule callers (record s { status = put s.status n 0; views = put s.views n (record (s.views n) { phase = p; present = false }) })
       law s p silent hold closing seen out unaimed far r = record {
         quiet = λ m e. grind (arith, r.quiet m, e, silent);
@@ -141,7 +141,7 @@ module _ (callers : ℕ) where
         far = put-all s.views n (record (s.views n) { phase = p; present = false }) (λ m u. callers ≤ m → u.phase ≡ Idle) far (λ m d. r.far m);
       }
 
-      by : (s : GateScene) (p : Phase) → (s.views n).phase ≡ p → departs p ≡ true → ((s.views n).phase ≡ In → (s.views n).holds ≡ false) → GateRule callers s
+      by : (s : GateProjection) (p : Phase) → (s.views n).phase ≡ p → departs p ≡ true → ((s.views n).phase ≡ In → (s.views n).holds ≡ false) → GateRule callers s
           → GateRule callers (record s { status = put s.status n 0; views = put s.views n (record (s.views n) { phase = departed (s.views n).phase; present = false }) })
       by s Idle is d reopened r = absurd cc
       by s Announced is d reopened r = absurd cc
@@ -153,14 +153,14 @@ module _ (callers : ℕ) where
       by s Closing is d reopened r = subst (λ (q : Phase). GateRule callers (record s { status = put s.status n 0; views = put s.views n (record (s.views n) { phase = departed q; present = false }) })) (sym is)
           (law s Closing refl (λ h. refl) (λ e. r.closing n is) (λ k e. grind (arith, r.seen k n e, is)) (λ e. cc) (λ e. cc) (λ l. grind (arith, r.far n l, is)) r)
 
-  pub aim-gate : (w : World) (n : ℕ) → CanAim (w.views n) → GateRule callers (gate_scene w) → GateRule callers (gate_scene (world_after aim n w))
-  aim-gate w n announced g = subst (GateRule callers) (sym (gate_scene-put w (world_after aim n w) n (view_after aim w (w.views n) w.gate) refl)) (law (gate_scene w) g announced)
+  pub aim-gate : (w : World) (n : ℕ) → CanAim (w.views n) → GateRule callers (gate_projection w) → GateRule callers (gate_projection (world_after aim n w))
+  aim-gate w n announced g = subst (GateRule callers) (sym (gate_projection-put w (world_after aim n w) n (view_after aim w (w.views n) w.gate) refl)) (law (gate_projection w) g announced)
     where
       -- an open gate's word is that of holder 0
-      open_word : (s : GateScene) → GateRule callers s → holder_of s.gate ≡ 0 → s.gate ≡ gate_word (fence_of s.gate) 0 (alg_of s.gate)
+      open_word : (s : GateProjection) → GateRule callers s → holder_of s.gate ≡ 0 → s.gate ≡ gate_word (fence_of s.gate) 0 (alg_of s.gate)
       open_word s r e = r.formed ∙ ap (λ h. gate_word (fence_of s.gate) h (alg_of s.gate)) e
 
-      law : (s : GateScene) → GateRule callers s → (s.views n).phase ≡ Announced → GateRule callers (record s { views = put s.views n (record (s.views n) { phase = if holder_of s.gate == 0 then Aiming else Turned; algorithm = alg_of s.gate; fence = fence_of s.gate; aim = s.gate }) })
+      law : (s : GateProjection) → GateRule callers s → (s.views n).phase ≡ Announced → GateRule callers (record s { views = put s.views n (record (s.views n) { phase = if holder_of s.gate == 0 then Aiming else Turned; algorithm = alg_of s.gate; fence = fence_of s.gate; aim = s.gate }) })
       law s r announced = record {
         quiet = λ m e. grind (arith, r.quiet m, e, announced);
         status = λ m. grind (arith, r.status m);
@@ -182,7 +182,7 @@ module _ (callers : ℕ) where
         far = λ m e. grind (arith, r.far m, r.far n, e, announced);
       }
 
-  pub take_gate-gate : (word : ℕ) (w : World) (n : ℕ) → n < callers → CanTakeGate word (w.views n) → GateRule callers (gate_scene w) → GateRule callers (gate_scene (world_after (take_gate n word) n w))
+  pub take_gate-gate : (word : ℕ) (w : World) (n : ℕ) → n < callers → CanTakeGate word (w.views n) → GateRule callers (gate_projection w) → GateRule callers (gate_projection (world_after (take_gate n word) n w))
   take_gate-gate word w n low may g = go (eqb w.gate word) (λ e. eqb-true w.gate word e)
     where
       next : Bool → View
@@ -192,7 +192,7 @@ module _ (callers : ℕ) where
       at b = record w { gate = if b then gate_word (fence_of word) (1 + n) (alg_of word) else w.gate; views = put w.views n (next b) }
 
       -- nobody holds the open gate, and nobody is seen
-      law : (s : GateScene) → GateRule callers s → (s.views n).phase ≡ Aiming → s.gate ≡ word → holder_of s.gate ≡ 0
+      law : (s : GateProjection) → GateRule callers s → (s.views n).phase ≡ Aiming → s.gate ≡ word → holder_of s.gate ≡ 0
           → GateRule callers (record s { gate = gate_word (fence_of word) (1 + n) (alg_of word); views = put s.views n (closed_at word (s.views n)) })
       law s r aiming is free =
           let h : holder_of (gate_word (fence_of word) (1 + n) (alg_of word)) ≡ 1 + n = holder-closed callers s r n low (fence_of word) (alg_of word) in
@@ -221,7 +221,7 @@ module _ (callers : ℕ) where
             far = λ m e. grind (arith, r.far m, e, low);
           }
 
-      refused : (s : GateScene) → GateRule callers s → (s.views n).phase ≡ Aiming → GateRule callers (record s { views = put s.views n (record (s.views n) { phase = Turned }) })
+      refused : (s : GateProjection) → GateRule callers s → (s.views n).phase ≡ Aiming → GateRule callers (record s { views = put s.views n (record (s.views n) { phase = Turned }) })
       refused s r aiming = record {
         quiet = λ m e. grind (arith, r.quiet m, e, aiming);
         status = λ m. grind (arith, r.status m);
@@ -243,18 +243,18 @@ module _ (callers : ℕ) where
         far = λ m e. grind (arith, r.far m, e, low);
       }
 
-      go : (b : Bool) → (b ≡ true → w.gate ≡ word) → GateRule callers (gate_scene (at b))
+      go : (b : Bool) → (b ≡ true → w.gate ≡ word) → GateRule callers (gate_projection (at b))
       go true e =
           let aimed : word ≡ gate_word (fence_of w.gate) 0 (alg_of w.gate) = sym may.aimed ∙ g.aimed n may.phase in
           let free : holder_of w.gate ≡ 0 = ap holder_of (e refl ∙ aimed) ∙ holder_of-open (fence_of w.gate) (alg_of w.gate) in
-          subst (GateRule callers) (sym (gate_scene-put w (at true) n (next true) refl)) (law (gate_scene w) g may.phase (e refl) free)
-      go false e = subst (GateRule callers) (sym (gate_scene-put w (at false) n (next false) refl)) (refused (gate_scene w) g may.phase)
+          subst (GateRule callers) (sym (gate_projection-put w (at true) n (next true) refl)) (law (gate_projection w) g may.phase (e refl) free)
+      go false e = subst (GateRule callers) (sym (gate_projection-put w (at false) n (next false) refl)) (refused (gate_projection w) g may.phase)
 
-  pub check-gate : (k : ℕ) (w : World) (n : ℕ) → CanCheck n k (w.views n) → GateRule callers (gate_scene w) → GateRule callers (gate_scene (world_after (check k) n w))
-  check-gate k w n may g = subst (GateRule callers) (sym (gate_scene-put w (world_after (check k) n w) n (view_after (check k) w (w.views n) (w.status k)) refl)) (go (gate_scene w) (eqb (w.status k) 0) (λ e. eqb-true (w.status k) 0 e) g may.holds)
+  pub check-gate : (k : ℕ) (w : World) (n : ℕ) → CanCheck n k (w.views n) → GateRule callers (gate_projection w) → GateRule callers (gate_projection (world_after (check k) n w))
+  check-gate k w n may g = subst (GateRule callers) (sym (gate_projection-put w (world_after (check k) n w) n (view_after (check k) w (w.views n) (w.status k)) refl)) (go (gate_projection w) (eqb (w.status k) 0) (λ e. eqb-true (w.status k) 0 e) g may.holds)
     where
       -- another caller whose status is 0 isn't closing, since it would hold the gate
-      idle : (s : GateScene) → GateRule callers s → (s.views n).holds ≡ true → s.status k ≡ 0 → rests (s.views k).phase ≡ true
+      idle : (s : GateProjection) → GateRule callers s → (s.views n).holds ≡ true → s.status k ≡ 0 → rests (s.views k).phase ≡ true
       idle s r holds zero = by (s.views k).phase refl (r.quiet k zero)
         where
           by : (p : Phase) → (s.views k).phase ≡ p → is_silent (s.views k).phase ≡ true → rests (s.views k).phase ≡ true
@@ -265,7 +265,7 @@ module _ (callers : ℕ) where
           by In is q = absurd (let e : false ≡ true = sym (ap is_silent is) ∙ q in cc)
           by Closing is q = absurd (may.other (let a = r.mine k (r.closing k is) in let b = r.mine n holds in omega arith))
 
-      law : (s : GateScene) (seen : List ℕ) → GateRule callers s → (s.views n).holds ≡ true → ((j : ℕ) → member seen j ≡ true → rests (s.views j).phase ≡ true) → GateRule callers (record s { views = put s.views n (record (s.views n) { checked = seen }) })
+      law : (s : GateProjection) (seen : List ℕ) → GateRule callers s → (s.views n).holds ≡ true → ((j : ℕ) → member seen j ≡ true → rests (s.views j).phase ≡ true) → GateRule callers (record s { views = put s.views n (record (s.views n) { checked = seen }) })
       law s seen r holds rest = record {
         quiet = λ m e. grind (arith, r.quiet m, e);
         status = λ m. grind (arith, r.status m);
@@ -287,23 +287,23 @@ module _ (callers : ℕ) where
         far = λ m e. grind (arith, r.far m, e);
       }
 
-      one_more : (s : GateScene) (j : ℕ) → GateRule callers s → rests (s.views k).phase ≡ true → member (k ∷ (s.views n).checked) j ≡ true → rests (s.views j).phase ≡ true
+      one_more : (s : GateProjection) (j : ℕ) → GateRule callers s → rests (s.views k).phase ≡ true → member (k ∷ (s.views n).checked) j ≡ true → rests (s.views j).phase ≡ true
       one_more s j r rest e = by (eqb j k) refl
         where
           by : (b : Bool) → eqb j k ≡ b → rests (s.views j).phase ≡ true
           by true q = subst (λ i. rests (s.views i).phase ≡ true) (sym (eqb-true j k q)) rest
           by false q = r.seen n j (grind (arith, e, q))
 
-      go : (s : GateScene) (b : Bool) → (b ≡ true → s.status k ≡ 0) → GateRule callers s → (s.views n).holds ≡ true
+      go : (s : GateProjection) (b : Bool) → (b ≡ true → s.status k ≡ 0) → GateRule callers s → (s.views n).holds ≡ true
           → GateRule callers (record s { views = put s.views n (record (s.views n) { checked = if b then k ∷ (s.views n).checked else (s.views n).checked }) })
       go s true zero r holds = law s (k ∷ (s.views n).checked) r holds (λ j e. one_more s j r (idle s r holds (zero refl)) e)
       go s false zero r holds = law s (s.views n).checked r holds (r.seen n)
 
-  pub reopen-gate : (fence : ℕ) (alg : Alg) (w : World) (n : ℕ) → CanReopen fence alg (w.views n) → GateRule callers (gate_scene w) → GateRule callers (gate_scene (world_after (reopen fence alg) n w))
-  reopen-gate fence alg w n may g = subst (GateRule callers) (sym (gate_scene-put w (world_after (reopen fence alg) n w) n (view_after (reopen fence alg) w (w.views n) (gate_word fence 0 alg)) refl))
-      (law (gate_scene w) g (g.closing n may.phase) (g.held n (g.closing n may.phase) ∙ may.named) (g.guarded n (g.closing n may.phase) ∙ may.guarded) may.absent)
+  pub reopen-gate : (fence : ℕ) (alg : Alg) (w : World) (n : ℕ) → CanReopen fence alg (w.views n) → GateRule callers (gate_projection w) → GateRule callers (gate_projection (world_after (reopen fence alg) n w))
+  reopen-gate fence alg w n may g = subst (GateRule callers) (sym (gate_projection-put w (world_after (reopen fence alg) n w) n (view_after (reopen fence alg) w (w.views n) (gate_word fence 0 alg)) refl))
+      (law (gate_projection w) g (g.closing n may.phase) (g.held n (g.closing n may.phase) ∙ may.named) (g.guarded n (g.closing n may.phase) ∙ may.guarded) may.absent)
     where
-      law : (s : GateScene) → GateRule callers s → (s.views n).holds ≡ true → alg_of s.gate ≡ alg → fence_of s.gate ≡ fence → (s.views n).present ≡ false → GateRule callers (record s { gate = gate_word fence 0 alg; views = put s.views n (opened (s.views n)) })
+      law : (s : GateProjection) → GateRule callers s → (s.views n).holds ≡ true → alg_of s.gate ≡ alg → fence_of s.gate ≡ fence → (s.views n).present ≡ false → GateRule callers (record s { gate = gate_word fence 0 alg; views = put s.views n (opened (s.views n)) })
       law s r holds same kept gone =
           let h : holder_of (gate_word fence 0 alg) ≡ 0 = holder_of-open fence alg in
           let a : alg_of (gate_word fence 0 alg) ≡ alg = alg_of-gate fence 0 alg in
@@ -329,11 +329,11 @@ module _ (callers : ℕ) where
             far = λ m e. grind (arith, r.far m, e);
           }
 
-  pub install-gate : (fence : ℕ) (alg : Alg) (w : World) (n : ℕ) → (w.views n).gate.fence ≡ fence → (w.views n).gate.phase ≡ Closing → HasChecked callers n (w.views n) → GateRule callers (gate_scene w) → GateRule callers (gate_scene (world_after (install n fence alg) n w))
-  install-gate fence alg w n guards closing quiet g = subst (GateRule callers) (sym (gate_scene-put w (world_after (install n fence alg) n w) n (view_after (install n fence alg) w (w.views n) (gate_word fence (1 + n) alg)) refl))
-      (law (gate_scene w) g closing (g.guarded n (g.closing n closing) ∙ guards) (g.closing n closing) (others-rest w n quiet g))
+  pub install-gate : (fence : ℕ) (alg : Alg) (w : World) (n : ℕ) → (w.views n).gate.fence ≡ fence → (w.views n).gate.phase ≡ Closing → HasChecked callers n (w.views n) → GateRule callers (gate_projection w) → GateRule callers (gate_projection (world_after (install n fence alg) n w))
+  install-gate fence alg w n guards closing quiet g = subst (GateRule callers) (sym (gate_projection-put w (world_after (install n fence alg) n w) n (view_after (install n fence alg) w (w.views n) (gate_word fence (1 + n) alg)) refl))
+      (law (gate_projection w) g closing (g.guarded n (g.closing n closing) ∙ guards) (g.closing n closing) (others-rest w n quiet g))
     where
-      law : (s : GateScene) → GateRule callers s → (s.views n).phase ≡ Closing → fence_of s.gate ≡ fence → (s.views n).holds ≡ true → ((k : ℕ) → k ≢ n → rests (s.views k).phase ≡ true)
+      law : (s : GateProjection) → GateRule callers s → (s.views n).phase ≡ Closing → fence_of s.gate ≡ fence → (s.views n).holds ≡ true → ((k : ℕ) → k ≢ n → rests (s.views k).phase ≡ true)
           → GateRule callers (record s { gate = gate_word fence (1 + n) alg; views = put s.views n (record (s.views n) { algorithm = alg }) })
       law s r closing kept holds out =
           let low : n < callers = is-caller-at callers s r n (λ idle. let e : Closing ≡ Idle = sym closing ∙ idle in cc) in
@@ -362,13 +362,13 @@ module _ (callers : ℕ) where
           }
 
   -- who is alone changes the fence
-  pub fence-gate : (number : ℕ) (giving : Bool) (alg : Alg) (w x : World) (n : ℕ) (v : View) → x.views ≡ put w.views n v → x.status ≡ w.status → x.gate ≡ gate_word number (1 + n) alg → v.gate ≡ record (w.views n).gate { fence = number; giving = giving } → (w.views n).gate.algorithm ≡ alg → (w.views n).gate.phase ≡ Closing → HasChecked callers n (w.views n) → GateRule callers (gate_scene w) → GateRule callers (gate_scene x)
-  fence-gate number giving alg w x n v is status gate own named closing quiet g = subst (GateRule callers) (sym path) (law (gate_scene w) g closing (g.held n (g.closing n closing) ∙ named) named (g.closing n closing) (others-rest w n quiet g))
+  pub fence-gate : (number : ℕ) (giving : Bool) (alg : Alg) (w x : World) (n : ℕ) (v : View) → x.views ≡ put w.views n v → x.status ≡ w.status → x.gate ≡ gate_word number (1 + n) alg → v.gate ≡ record (w.views n).gate { fence = number; giving = giving } → (w.views n).gate.algorithm ≡ alg → (w.views n).gate.phase ≡ Closing → HasChecked callers n (w.views n) → GateRule callers (gate_projection w) → GateRule callers (gate_projection x)
+  fence-gate number giving alg w x n v is status gate own named closing quiet g = subst (GateRule callers) (sym path) (law (gate_projection w) g closing (g.held n (g.closing n closing) ∙ named) named (g.closing n closing) (others-rest w n quiet g))
     where
-      path : gate_scene x ≡ record { status = w.status; gate = gate_word number (1 + n) alg; views = put (gate_scene w).views n (record (w.views n).gate { fence = number; giving = giving }) }
-      path = λ i. record { status = status i; gate = gate i; views = (ap (parts (λ (u : View). u.gate)) is ∙ (parts-put (λ (u : View). u.gate) w.views n v ∙ ap (put (gate_scene w).views n) own)) i }
+      path : gate_projection x ≡ record { status = w.status; gate = gate_word number (1 + n) alg; views = put (gate_projection w).views n (record (w.views n).gate { fence = number; giving = giving }) }
+      path = λ i. record { status = status i; gate = gate i; views = (ap (parts (λ (u : View). u.gate)) is ∙ (parts-put (λ (u : View). u.gate) w.views n v ∙ ap (put (gate_projection w).views n) own)) i }
 
-      law : (s : GateScene) → GateRule callers s → (s.views n).phase ≡ Closing → alg_of s.gate ≡ alg → (s.views n).algorithm ≡ alg → (s.views n).holds ≡ true → ((k : ℕ) → k ≢ n → rests (s.views k).phase ≡ true)
+      law : (s : GateProjection) → GateRule callers s → (s.views n).phase ≡ Closing → alg_of s.gate ≡ alg → (s.views n).algorithm ≡ alg → (s.views n).holds ≡ true → ((k : ℕ) → k ≢ n → rests (s.views k).phase ≡ true)
           → GateRule callers (record s { gate = gate_word number (1 + n) alg; views = put s.views n (record (s.views n) { fence = number; giving = giving }) })
       law s r closing same named holds out =
           let low : n < callers = is-caller-at callers s r n (λ idle. let e : Closing ≡ Idle = sym closing ∙ idle in cc) in
@@ -396,7 +396,7 @@ module _ (callers : ℕ) where
             far = λ m e. grind (arith, r.far m, e);
           }
 
-  pub seize-gate : (fence : ℕ) (alg : Alg) (w : World) (n : ℕ) → CanSeize fence alg (w.views n) → GateRule callers (gate_scene w) → GateRule callers (gate_scene (world_after (seize n fence alg) n w))
+  pub seize-gate : (fence : ℕ) (alg : Alg) (w : World) (n : ℕ) → CanSeize fence alg (w.views n) → GateRule callers (gate_projection w) → GateRule callers (gate_projection (world_after (seize n fence alg) n w))
   seize-gate fence alg w n may g = go (eqb w.gate (gate_word fence 0 alg)) (λ e. eqb-true w.gate (gate_word fence 0 alg) e)
     where
       next : Bool → View
@@ -406,7 +406,7 @@ module _ (callers : ℕ) where
       at b = record w { gate = if b then gate_word fence (1 + n) alg else w.gate; views = put w.views n (next b) }
 
       -- nobody holds the open gate, and nobody is seen
-      law : (s : GateScene) → GateRule callers s → (s.views n).phase ≡ In → (s.views n).algorithm ≡ alg → holder_of s.gate ≡ 0 → alg_of s.gate ≡ alg → fence_of s.gate ≡ fence → (s.views n).fence ≡ fence
+      law : (s : GateProjection) → GateRule callers s → (s.views n).phase ≡ In → (s.views n).algorithm ≡ alg → holder_of s.gate ≡ 0 → alg_of s.gate ≡ alg → fence_of s.gate ≡ fence → (s.views n).fence ≡ fence
           → GateRule callers (record s { gate = gate_word fence (1 + n) alg; views = put s.views n (seized (s.views n)) })
       law s r inside named free same kept own =
           let low : n < callers = is-caller-at callers s r n (λ idle. let e : In ≡ Idle = sym inside ∙ idle in cc) in
@@ -434,19 +434,19 @@ module _ (callers : ℕ) where
             far = λ m e. grind (arith, r.far m, e, inside);
           }
 
-      go : (b : Bool) → (b ≡ true → w.gate ≡ gate_word fence 0 alg) → GateRule callers (gate_scene (at b))
+      go : (b : Bool) → (b ≡ true → w.gate ≡ gate_word fence 0 alg) → GateRule callers (gate_projection (at b))
       go true e =
           let free : holder_of w.gate ≡ 0 = ap holder_of (e refl) ∙ holder_of-open fence alg in
           let same : alg_of w.gate ≡ alg = ap alg_of (e refl) ∙ alg_of-gate fence 0 alg in
           let kept : fence_of w.gate ≡ fence = ap fence_of (e refl) ∙ fence_of-open fence alg in
-          subst (GateRule callers) (sym (gate_scene-put w (at true) n (next true) refl)) (law (gate_scene w) g may.phase may.named free same kept may.spared)
-      go false e = subst (GateRule callers) (sym (gate_scene-kept w (at false) n (next false) refl refl refl refl)) g
+          subst (GateRule callers) (sym (gate_projection-put w (at true) n (next true) refl)) (law (gate_projection w) g may.phase may.named free same kept may.spared)
+      go false e = subst (GateRule callers) (sym (gate_projection-kept w (at false) n (next false) refl refl refl refl)) g
 
-  pub return_gate-gate : (fence : ℕ) (alg : Alg) (w : World) (n : ℕ) → CanReturn fence alg (w.views n) → GateRule callers (gate_scene w) → GateRule callers (gate_scene (world_after (return_gate fence alg) n w))
-  return_gate-gate fence alg w n may g = subst (GateRule callers) (sym (gate_scene-put w (world_after (return_gate fence alg) n w) n (view_after (return_gate fence alg) w (w.views n) (gate_word fence 0 alg)) refl))
-      (law (gate_scene w) g may.holds (g.held n may.holds ∙ may.named) (g.guarded n may.holds ∙ may.spared) may.phase)
+  pub return_gate-gate : (fence : ℕ) (alg : Alg) (w : World) (n : ℕ) → CanReturn fence alg (w.views n) → GateRule callers (gate_projection w) → GateRule callers (gate_projection (world_after (return_gate fence alg) n w))
+  return_gate-gate fence alg w n may g = subst (GateRule callers) (sym (gate_projection-put w (world_after (return_gate fence alg) n w) n (view_after (return_gate fence alg) w (w.views n) (gate_word fence 0 alg)) refl))
+      (law (gate_projection w) g may.holds (g.held n may.holds ∙ may.named) (g.guarded n may.holds ∙ may.spared) may.phase)
     where
-      law : (s : GateScene) → GateRule callers s → (s.views n).holds ≡ true → alg_of s.gate ≡ alg → fence_of s.gate ≡ fence → (s.views n).phase ≡ In → GateRule callers (record s { gate = gate_word fence 0 alg; views = put s.views n (returned (s.views n)) })
+      law : (s : GateProjection) → GateRule callers s → (s.views n).holds ≡ true → alg_of s.gate ≡ alg → fence_of s.gate ≡ fence → (s.views n).phase ≡ In → GateRule callers (record s { gate = gate_word fence 0 alg; views = put s.views n (returned (s.views n)) })
       law s r holds same kept inside =
           let h : holder_of (gate_word fence 0 alg) ≡ 0 = holder_of-open fence alg in
           let a : alg_of (gate_word fence 0 alg) ≡ alg = alg_of-gate fence 0 alg in
@@ -475,13 +475,13 @@ module _ (callers : ℕ) where
   -- a step that changes what its caller knows as the gate's holder, and nothing else at the gate
   pub gate-marked : (w x : World) (n : ℕ) (v : View) → x.views ≡ put w.views n v → x.status ≡ w.status → x.gate ≡ w.gate
       → v.gate.phase ≡ (w.views n).gate.phase → v.gate.present ≡ (w.views n).gate.present → v.gate.algorithm ≡ (w.views n).gate.algorithm → v.gate.fence ≡ (w.views n).gate.fence → v.gate.aim ≡ (w.views n).gate.aim → v.gate.holds ≡ (w.views n).gate.holds → v.gate.checked ≡ (w.views n).gate.checked
-      → GateRule callers (gate_scene w) → GateRule callers (gate_scene x)
-  gate-marked w x n v is status gate phase present algorithm fence aim holds checked r = subst (GateRule callers) (sym path) (law (gate_scene w) v.gate r phase present algorithm fence aim holds checked)
+      → GateRule callers (gate_projection w) → GateRule callers (gate_projection x)
+  gate-marked w x n v is status gate phase present algorithm fence aim holds checked r = subst (GateRule callers) (sym path) (law (gate_projection w) v.gate r phase present algorithm fence aim holds checked)
     where
-      path : gate_scene x ≡ record (gate_scene w) { views = put (gate_scene w).views n v.gate }
+      path : gate_projection x ≡ record (gate_projection w) { views = put (gate_projection w).views n v.gate }
       path = λ i. record { status = status i; gate = gate i; views = (ap (parts (λ (u : View). u.gate)) is ∙ parts-put (λ (u : View). u.gate) w.views n v) i }
 
-      law : (s : GateScene) (k : GateView) → GateRule callers s → k.phase ≡ (s.views n).phase → k.present ≡ (s.views n).present → k.algorithm ≡ (s.views n).algorithm → k.fence ≡ (s.views n).fence → k.aim ≡ (s.views n).aim → k.holds ≡ (s.views n).holds → k.checked ≡ (s.views n).checked → GateRule callers (record s { views = put s.views n k })
+      law : (s : GateProjection) (k : GateView) → GateRule callers s → k.phase ≡ (s.views n).phase → k.present ≡ (s.views n).present → k.algorithm ≡ (s.views n).algorithm → k.fence ≡ (s.views n).fence → k.aim ≡ (s.views n).aim → k.holds ≡ (s.views n).holds → k.checked ≡ (s.views n).checked → GateRule callers (record s { views = put s.views n k })
       law s k r phase present algorithm fence aim holds checked = record {
         quiet = λ m e. grind (arith, r.quiet m, e, phase);
         status = put-all s.views n k (λ m u. s.status m ≡ (if u.present then announced else 0)) (r.status n ∙ ap (λ (b : Bool). if b then announced else 0) (sym present)) (λ m d. r.status m);

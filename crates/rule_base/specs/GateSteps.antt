@@ -83,7 +83,7 @@ CanAim v = v.gate.phase ≡ Announced
 
 -- the caller has closed the gate that had this word, and has seen nobody idle since
 abbrev pub closed_at : ℕ → GateView → GateView
-closed_at word g = record g { phase = Closing; algorithm = alg_of word; fence = fence_of word; holds = true; checked = []; calm = false; rebased = false; completed = false; giving = false }
+closed_at word g = record g { phase = Closing; algorithm = alg_of word; fence = fence_of word; holds = true; checked = []; quiescent = false; rebased = false; completed = false; giving = false }
 
 -- exchange the gate, the open word aimed at for the own one
 abbrev pub take_gate : ℕ → ℕ → StepKind
@@ -113,7 +113,7 @@ pub record CanCheck (n k : ℕ) (v : View) : Type 0 where
 
 -- the caller no longer holds the gate
 abbrev pub opened : GateView → GateView
-opened g = record g { phase = Idle; holds = false; checked = []; calm = false; rebased = false; completed = false; giving = false }
+opened g = record g { phase = Idle; holds = false; checked = []; quiescent = false; rebased = false; completed = false; giving = false }
 
 -- store the open gate
 abbrev pub reopen : ℕ → Alg → StepKind
@@ -148,7 +148,7 @@ CanLookGate v = v.gate.phase ≡ In
 
 -- the caller holds the gate, in its attempt, and has seen nobody idle since
 abbrev pub seized : GateView → GateView
-seized g = record g { holds = true; checked = []; calm = false; rebased = false; completed = false; giving = false }
+seized g = record g { holds = true; checked = []; quiescent = false; rebased = false; completed = false; giving = false }
 
 -- exchange the gate, open for the own word, to promote the attempt
 abbrev pub seize : ℕ → ℕ → Alg → StepKind
@@ -167,11 +167,11 @@ pub record CanSeize (fence : ℕ) (alg : Alg) (v : View) : Type 0 where
 
 -- the attempt was promoted, at this clock
 abbrev pub granted_at : ℕ → GateView → GateView
-granted_at clock g = record g { calm = true; time = clock; rebased = false; completed = false; granted = true }
+granted_at clock g = record g { quiescent = true; time = clock; rebased = false; completed = false; granted = true }
 
 -- the caller no longer holds the gate, and its attempt is over but for its status
 abbrev pub returned : GateView → GateView
-returned g = record g { holds = false; checked = []; calm = false; rebased = false; completed = false; granted = false; giving = false }
+returned g = record g { holds = false; checked = []; quiescent = false; rebased = false; completed = false; granted = false; giving = false }
 
 -- store the open gate at the end of an attempt that holds it
 abbrev pub return_gate : ℕ → Alg → StepKind

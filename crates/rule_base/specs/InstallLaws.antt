@@ -8,33 +8,33 @@ use Rattle.rule_base.specs.declared.views.GateView.{GateView}
 use Rattle.rule_base.specs.declared.views.Phase.TheVariants.{In, Closing}
 use Rattle.rule_base.specs.declared.views.View.{View}
 use Rattle.rule_base.specs.Encodings.{gate_word}
-use Rattle.rule_base.specs.GateRule.{rests, GateRule, gate_scene}
+use Rattle.rule_base.specs.GateRule.{rests, GateRule, gate_projection}
 use Rattle.rule_base.specs.GateLaws.{others-rest}
 use Rattle.rule_base.specs.GateSteps.{depart, departed, CanDepart, granted_at}
 use Rattle.rule_base.specs.History.{member}
-use Rattle.rule_base.specs.InstallRule.{InstallScene, install_scene, InstallRule}
+use Rattle.rule_base.specs.InstallRule.{InstallProjection, install_projection, InstallRule}
 use Rattle.rule_base.specs.InstallSteps.{HasChecked, settle, CanSettle, even_clock, CanEvenClock, store_base, store_done, CanMark, install}
 use Rattle.rule_base.specs.PutLemmas.{parts-put, parts-kept}
 use Rattle.rule_base.specs.StepKinds.{view_after, world_after}
 use Rattle.rule_base.specs.World.{World, put, parts}
 
-pub install_scene-put : (w x : World) (n : ℕ) (v : View) → x.views ≡ put w.views n v → install_scene x ≡ record { clock = x.clock; base = x.base; done = x.done; views = put (install_scene w).views n v.gate }
-install_scene-put w x n v is = λ i. record { clock = x.clock; base = x.base; done = x.done; views = (ap (parts (λ (u : View). u.gate)) is ∙ parts-put (λ (u : View). u.gate) w.views n v) i }
+pub install_projection-put : (w x : World) (n : ℕ) (v : View) → x.views ≡ put w.views n v → install_projection x ≡ record { clock = x.clock; base = x.base; done = x.done; views = put (install_projection w).views n v.gate }
+install_projection-put w x n v is = λ i. record { clock = x.clock; base = x.base; done = x.done; views = (ap (parts (λ (u : View). u.gate)) is ∙ parts-put (λ (u : View). u.gate) w.views n v) i }
 
-pub install_scene-kept : (w x : World) (n : ℕ) (v : View) → x.views ≡ put w.views n v → x.clock ≡ w.clock → x.base ≡ w.base → x.done ≡ w.done → v.gate ≡ (w.views n).gate → install_scene x ≡ install_scene w
-install_scene-kept w x n v is clock base done own = λ i. record { clock = clock i; base = base i; done = done i; views = (ap (parts (λ (u : View). u.gate)) is ∙ parts-kept (λ (u : View). u.gate) w.views n v own) i }
+pub install_projection-kept : (w x : World) (n : ℕ) (v : View) → x.views ≡ put w.views n v → x.clock ≡ w.clock → x.base ≡ w.base → x.done ≡ w.done → v.gate ≡ (w.views n).gate → install_projection x ≡ install_projection w
+install_projection-kept w x n v is clock base done own = λ i. record { clock = clock i; base = base i; done = done i; views = (ap (parts (λ (u : View). u.gate)) is ∙ parts-kept (λ (u : View). u.gate) w.views n v own) i }
 
 module _ (c : Config) where
   -- who doesn't hold the gate hasn't loaded the clock since, nor stored it, and isn't promoted
-  pub not-calm : (s : InstallScene) (n : ℕ) → InstallRule c s → (s.views n).holds ≡ false → ((s.views n).calm ≡ false) × ((s.views n).rebased ≡ false) × ((s.views n).completed ≡ false) × ((s.views n).granted ≡ false) × ((s.views n).giving ≡ false)
-  not-calm s n r free = (calm (s.views n).calm refl, rebased (s.views n).rebased refl, completed (s.views n).completed refl, granted (s.views n).granted refl, giving (s.views n).giving refl)
+  pub not-quiescent : (s : InstallProjection) (n : ℕ) → InstallRule c s → (s.views n).holds ≡ false → ((s.views n).quiescent ≡ false) × ((s.views n).rebased ≡ false) × ((s.views n).completed ≡ false) × ((s.views n).granted ≡ false) × ((s.views n).giving ≡ false)
+  not-quiescent s n r free = (quiescent (s.views n).quiescent refl, rebased (s.views n).rebased refl, completed (s.views n).completed refl, granted (s.views n).granted refl, giving (s.views n).giving refl)
     where
-      out : (s.views n).calm ≡ true → ⊥
+      out : (s.views n).quiescent ≡ true → ⊥
       out e = let p : true ≡ false = sym (r.holding n e) ∙ free in cc
 
-      calm : (b : Bool) → (s.views n).calm ≡ b → b ≡ false
-      calm true e = absurd (out e)
-      calm false e = refl
+      quiescent : (b : Bool) → (s.views n).quiescent ≡ b → b ≡ false
+      quiescent true e = absurd (out e)
+      quiescent false e = refl
 
       rebased : (b : Bool) → (s.views n).rebased ≡ b → b ≡ false
       rebased true e = absurd (out (r.rebased n e).0)
@@ -53,51 +53,51 @@ module _ (c : Config) where
       giving false e = refl
 
   -- a step after which the caller has not loaded the clock as the gate's holder
-  pub install-view : (w x : World) (n : ℕ) (g : GateView) (v : View) → x.views ≡ put w.views n v → x.clock ≡ w.clock → x.base ≡ w.base → x.done ≡ w.done → v.gate ≡ g → g.calm ≡ false → g.rebased ≡ false → g.completed ≡ false → g.granted ≡ false → g.giving ≡ false
-      → InstallRule c (install_scene w) → InstallRule c (install_scene x)
-  install-view w x n g v is clock base done own calm rebased completed granted giving r = subst (InstallRule c) (sym path) (record {
+  pub install-view : (w x : World) (n : ℕ) (g : GateView) (v : View) → x.views ≡ put w.views n v → x.clock ≡ w.clock → x.base ≡ w.base → x.done ≡ w.done → v.gate ≡ g → g.quiescent ≡ false → g.rebased ≡ false → g.completed ≡ false → g.granted ≡ false → g.giving ≡ false
+      → InstallRule c (install_projection w) → InstallRule c (install_projection x)
+  install-view w x n g v is clock base done own quiescent rebased completed granted giving r = subst (InstallRule c) (sym path) (record {
     base = r.base;
     done = r.done;
     opened = r.opened;
-    holding = λ m e. grind (arith, r.holding m, e, calm);
+    holding = λ m e. grind (arith, r.holding m, e, quiescent);
     promoted = λ m e. grind (arith, r.promoted m, e, granted);
     giving = λ m e. grind (arith, r.giving m, e, giving);
-    alone = λ m k e. grind (arith, r.alone m k, e, calm);
-    time = λ m e. grind (arith, r.time m, e, calm);
+    alone = λ m k e. grind (arith, r.alone m k, e, quiescent);
+    time = λ m e. grind (arith, r.time m, e, quiescent);
     rebased = λ m e. grind (arith, r.rebased m, e, rebased);
     completed = λ m e. grind (arith, r.completed m, e, completed);
   })
     where
-      path : install_scene x ≡ record (install_scene w) { views = put (install_scene w).views n g }
-      path = λ i. record { clock = clock i; base = base i; done = done i; views = (ap (parts (λ (u : View). u.gate)) is ∙ (parts-put (λ (u : View). u.gate) w.views n v ∙ ap (put (install_scene w).views n) own)) i }
+      path : install_projection x ≡ record (install_projection w) { views = put (install_projection w).views n g }
+      path = λ i. record { clock = clock i; base = base i; done = done i; views = (ap (parts (λ (u : View). u.gate)) is ∙ (parts-put (λ (u : View). u.gate) w.views n v ∙ ap (put (install_projection w).views n) own)) i }
 
   -- a step of a caller that doesn't hold the gate, which leaves what it knows as a holder alone
   pub install-apart : (w x : World) (n : ℕ) (v : View) → x.views ≡ put w.views n v → x.clock ≡ w.clock → x.base ≡ w.base → x.done ≡ w.done → (w.views n).gate.holds ≡ false
-      → v.gate.calm ≡ (w.views n).gate.calm → v.gate.rebased ≡ (w.views n).gate.rebased → v.gate.completed ≡ (w.views n).gate.completed → v.gate.granted ≡ (w.views n).gate.granted → v.gate.giving ≡ (w.views n).gate.giving → InstallRule c (install_scene w) → InstallRule c (install_scene x)
-  install-apart w x n v is clock base done out calm rebased completed granted giving r =
-      let o = not-calm (install_scene w) n r out in
-      install-view w x n v.gate v is clock base done refl (calm ∙ o.0) (rebased ∙ o.1) (completed ∙ o.2) (granted ∙ o.3) (giving ∙ o.4) r
+      → v.gate.quiescent ≡ (w.views n).gate.quiescent → v.gate.rebased ≡ (w.views n).gate.rebased → v.gate.completed ≡ (w.views n).gate.completed → v.gate.granted ≡ (w.views n).gate.granted → v.gate.giving ≡ (w.views n).gate.giving → InstallRule c (install_projection w) → InstallRule c (install_projection x)
+  install-apart w x n v is clock base done out quiescent rebased completed granted giving r =
+      let o = not-quiescent (install_projection w) n r out in
+      install-view w x n v.gate v is clock base done refl (quiescent ∙ o.0) (rebased ∙ o.1) (completed ∙ o.2) (granted ∙ o.3) (giving ∙ o.4) r
 
   -- while a caller is in an attempt and hasn't loaded the clock as the gate's holder, nobody has
-  pub nobody-calm : (w : World) (n : ℕ) → (w.views n).gate.phase ≡ In → (w.views n).gate.calm ≡ false → GateRule c.callers (gate_scene w) → InstallRule c (install_scene w) → n < c.callers → (m : ℕ) → (w.views m).gate.calm ≡ true → ⊥
-  nobody-calm w n inside plain g r low m calm = apart (m == n) refl
+  pub nobody-quiescent : (w : World) (n : ℕ) → (w.views n).gate.phase ≡ In → (w.views n).gate.quiescent ≡ false → GateRule c.callers (gate_projection w) → InstallRule c (install_projection w) → n < c.callers → (m : ℕ) → (w.views m).gate.quiescent ≡ true → ⊥
+  nobody-quiescent w n inside plain g r low m quiescent = apart (m == n) refl
     where
       apart : (b : Bool) → (m == n) ≡ b → ⊥
       apart true e =
           let same : m ≡ n = grind (arith, nat_tests, e) in
-          let p : true ≡ false = sym (subst (λ (k : ℕ). (w.views k).gate.calm ≡ true) same calm) ∙ plain in cc
+          let p : true ≡ false = sym (subst (λ (k : ℕ). (w.views k).gate.quiescent ≡ true) same quiescent) ∙ plain in cc
       apart false e =
           let other : n ≢ m = λ same. grind (arith, nat_tests, e, same) in
-          let rest : rests (w.views n).gate.phase ≡ true = g.seen m n (r.alone m n calm low other) in
+          let rest : rests (w.views n).gate.phase ≡ true = g.seen m n (r.alone m n quiescent low other) in
           let p : false ≡ true = sym (ap rests inside) ∙ rest in cc
 
   -- who is promoted is the only one in an attempt, and nobody else is promoted
-  pub others-out : (w : World) (n : ℕ) → (w.views n).gate.calm ≡ true → GateRule c.callers (gate_scene w) → InstallRule c (install_scene w) → (m : ℕ) → m ≢ n → rests (w.views m).gate.phase ≡ true
-  others-out w n calm g r = others-rest c.callers w n (λ k low other. r.alone n k calm low other) g
+  pub others-out : (w : World) (n : ℕ) → (w.views n).gate.quiescent ≡ true → GateRule c.callers (gate_projection w) → InstallRule c (install_projection w) → (m : ℕ) → m ≢ n → rests (w.views m).gate.phase ≡ true
+  others-out w n quiescent g r = others-rest c.callers w n (λ k low other. r.alone n k quiescent low other) g
 
   -- an attempt raised the clock
-  pub install-raised : (w x : World) (n : ℕ) (v : View) → x.views ≡ put w.views n v → w.clock ≤ x.clock → x.base ≡ w.base → x.done ≡ w.done → v.gate ≡ (w.views n).gate → ((m : ℕ) → (w.views m).gate.calm ≡ true → ⊥)
-      → InstallRule c (install_scene w) → InstallRule c (install_scene x)
+  pub install-raised : (w x : World) (n : ℕ) (v : View) → x.views ≡ put w.views n v → w.clock ≤ x.clock → x.base ≡ w.base → x.done ≡ w.done → v.gate ≡ (w.views n).gate → ((m : ℕ) → (w.views m).gate.quiescent ≡ true → ⊥)
+      → InstallRule c (install_projection w) → InstallRule c (install_projection x)
   install-raised w x n v is up base done own nobody r = subst (InstallRule c) (sym path) (record {
     base = (let b = r.base in omega arith);
     done = (let d = r.done in omega arith);
@@ -111,12 +111,12 @@ module _ (c : Config) where
     completed = λ m e. absurd (nobody m (r.completed m e).0);
   })
     where
-      path : install_scene x ≡ record (install_scene w) { clock = x.clock }
+      path : install_projection x ≡ record (install_projection w) { clock = x.clock }
       path = λ i. record { clock = x.clock; base = base i; done = done i; views = (ap (parts (λ (u : View). u.gate)) is ∙ parts-kept (λ (u : View). u.gate) w.views n v own) i }
 
   -- an attempt raised DONE, or the clock
-  pub install-done : (w x : World) (n : ℕ) (v : View) → x.views ≡ put w.views n v → w.clock ≤ x.clock → x.base ≡ w.base → x.done ≤ x.clock → w.done ≤ x.done → v.gate ≡ (w.views n).gate → ((m : ℕ) → (w.views m).gate.calm ≡ true → ⊥)
-      → InstallRule c (install_scene w) → InstallRule c (install_scene x)
+  pub install-done : (w x : World) (n : ℕ) (v : View) → x.views ≡ put w.views n v → w.clock ≤ x.clock → x.base ≡ w.base → x.done ≤ x.clock → w.done ≤ x.done → v.gate ≡ (w.views n).gate → ((m : ℕ) → (w.views m).gate.quiescent ≡ true → ⊥)
+      → InstallRule c (install_projection w) → InstallRule c (install_projection x)
   install-done w x n v is up base done more own nobody r = subst (InstallRule c) (sym path) (record {
     base = (let b = r.base in omega arith);
     done = done;
@@ -130,18 +130,18 @@ module _ (c : Config) where
     completed = λ m e. absurd (nobody m (r.completed m e).0);
   })
     where
-      path : install_scene x ≡ record (install_scene w) { clock = x.clock; done = x.done }
+      path : install_projection x ≡ record (install_projection w) { clock = x.clock; done = x.done }
       path = λ i. record { clock = x.clock; base = base i; done = x.done; views = (ap (parts (λ (u : View). u.gate)) is ∙ parts-kept (λ (u : View). u.gate) w.views n v own) i }
 
   -- the holder looks at the others: who was seen stays seen
   pub install-looked : (w x : World) (n : ℕ) (v : View) (seen : List ℕ) → x.views ≡ put w.views n v → x.clock ≡ w.clock → x.base ≡ w.base → x.done ≡ w.done → v.gate ≡ record (w.views n).gate { checked = seen }
-      → ((k : ℕ) → member (w.views n).gate.checked k ≡ true → member seen k ≡ true) → InstallRule c (install_scene w) → InstallRule c (install_scene x)
-  install-looked w x n v seen is clock base done own more r = subst (InstallRule c) (sym path) (law (install_scene w) r more)
+      → ((k : ℕ) → member (w.views n).gate.checked k ≡ true → member seen k ≡ true) → InstallRule c (install_projection w) → InstallRule c (install_projection x)
+  install-looked w x n v seen is clock base done own more r = subst (InstallRule c) (sym path) (law (install_projection w) r more)
     where
-      path : install_scene x ≡ record (install_scene w) { views = put (install_scene w).views n (record (w.views n).gate { checked = seen }) }
-      path = λ i. record { clock = clock i; base = base i; done = done i; views = (ap (parts (λ (u : View). u.gate)) is ∙ (parts-put (λ (u : View). u.gate) w.views n v ∙ ap (put (install_scene w).views n) own)) i }
+      path : install_projection x ≡ record (install_projection w) { views = put (install_projection w).views n (record (w.views n).gate { checked = seen }) }
+      path = λ i. record { clock = clock i; base = base i; done = done i; views = (ap (parts (λ (u : View). u.gate)) is ∙ (parts-put (λ (u : View). u.gate) w.views n v ∙ ap (put (install_projection w).views n) own)) i }
 
-      law : (s : InstallScene) → InstallRule c s → ((k : ℕ) → member (s.views n).checked k ≡ true → member seen k ≡ true) → InstallRule c (record s { views = put s.views n (record (s.views n) { checked = seen }) })
+      law : (s : InstallProjection) → InstallRule c s → ((k : ℕ) → member (s.views n).checked k ≡ true → member seen k ≡ true) → InstallRule c (record s { views = put s.views n (record (s.views n) { checked = seen }) })
       law s r more = record {
         base = r.base;
         done = r.done;
@@ -156,13 +156,13 @@ module _ (c : Config) where
       }
 
   -- the holder changes the fence
-  pub install-stood : (w x : World) (n number : ℕ) (v : View) → x.views ≡ put w.views n v → x.clock ≡ w.clock → x.base ≡ w.base → x.done ≡ w.done → v.gate ≡ record (w.views n).gate { fence = number } → InstallRule c (install_scene w) → InstallRule c (install_scene x)
-  install-stood w x n number v is clock base done own r = subst (InstallRule c) (sym path) (law (install_scene w) r)
+  pub install-stood : (w x : World) (n number : ℕ) (v : View) → x.views ≡ put w.views n v → x.clock ≡ w.clock → x.base ≡ w.base → x.done ≡ w.done → v.gate ≡ record (w.views n).gate { fence = number } → InstallRule c (install_projection w) → InstallRule c (install_projection x)
+  install-stood w x n number v is clock base done own r = subst (InstallRule c) (sym path) (law (install_projection w) r)
     where
-      path : install_scene x ≡ record (install_scene w) { views = put (install_scene w).views n (record (w.views n).gate { fence = number }) }
-      path = λ i. record { clock = clock i; base = base i; done = done i; views = (ap (parts (λ (u : View). u.gate)) is ∙ (parts-put (λ (u : View). u.gate) w.views n v ∙ ap (put (install_scene w).views n) own)) i }
+      path : install_projection x ≡ record (install_projection w) { views = put (install_projection w).views n (record (w.views n).gate { fence = number }) }
+      path = λ i. record { clock = clock i; base = base i; done = done i; views = (ap (parts (λ (u : View). u.gate)) is ∙ (parts-put (λ (u : View). u.gate) w.views n v ∙ ap (put (install_projection w).views n) own)) i }
 
-      law : (s : InstallScene) → InstallRule c s → InstallRule c (record s { views = put s.views n (record (s.views n) { fence = number }) })
+      law : (s : InstallProjection) → InstallRule c s → InstallRule c (record s { views = put s.views n (record (s.views n) { fence = number }) })
       law s r = record {
         base = r.base;
         done = r.done;
@@ -177,27 +177,27 @@ module _ (c : Config) where
       }
 
   -- the holder, which had loaded the clock, gave a fence back by an entry at t: BASE and DONE are to be stored again
-  pub given-install : (w x : World) (n t : ℕ) (v : View) → x.views ≡ put w.views n v → x.clock ≡ t → x.base ≡ w.base → x.done ≡ w.done → v.gate ≡ record (w.views n).gate { time = t; rebased = false; completed = false; giving = true } → w.clock ≤ t → (w.views n).gate.calm ≡ true → (w.views n).gate.phase ≡ Closing
-      → GateRule c.callers (gate_scene w) → InstallRule c (install_scene w) → InstallRule c (install_scene x)
-  given-install w x n t v is clock base done own up calm closing g r = subst (InstallRule c) (sym path) (law (install_scene w) r up calm closing (λ m e. sole w n m calm e g r))
+  pub given-install : (w x : World) (n t : ℕ) (v : View) → x.views ≡ put w.views n v → x.clock ≡ t → x.base ≡ w.base → x.done ≡ w.done → v.gate ≡ record (w.views n).gate { time = t; rebased = false; completed = false; giving = true } → w.clock ≤ t → (w.views n).gate.quiescent ≡ true → (w.views n).gate.phase ≡ Closing
+      → GateRule c.callers (gate_projection w) → InstallRule c (install_projection w) → InstallRule c (install_projection x)
+  given-install w x n t v is clock base done own up quiescent closing g r = subst (InstallRule c) (sym path) (law (install_projection w) r up quiescent closing (λ m e. sole w n m quiescent e g r))
     where
-      sole : (w : World) (n m : ℕ) → (w.views n).gate.calm ≡ true → (w.views m).gate.calm ≡ true → GateRule c.callers (gate_scene w) → InstallRule c (install_scene w) → m ≡ n
-      sole w n m calm other g r =
-          let a = g.mine n (r.holding n calm) in
+      sole : (w : World) (n m : ℕ) → (w.views n).gate.quiescent ≡ true → (w.views m).gate.quiescent ≡ true → GateRule c.callers (gate_projection w) → InstallRule c (install_projection w) → m ≡ n
+      sole w n m quiescent other g r =
+          let a = g.mine n (r.holding n quiescent) in
           let b = g.mine m (r.holding m other) in omega arith
 
-      path : install_scene x ≡ record (install_scene w) { clock = t; views = put (install_scene w).views n (record (w.views n).gate { time = t; rebased = false; completed = false; giving = true }) }
-      path = λ i. record { clock = clock i; base = base i; done = done i; views = (ap (parts (λ (u : View). u.gate)) is ∙ (parts-put (λ (u : View). u.gate) w.views n v ∙ ap (put (install_scene w).views n) own)) i }
+      path : install_projection x ≡ record (install_projection w) { clock = t; views = put (install_projection w).views n (record (w.views n).gate { time = t; rebased = false; completed = false; giving = true }) }
+      path = λ i. record { clock = clock i; base = base i; done = done i; views = (ap (parts (λ (u : View). u.gate)) is ∙ (parts-put (λ (u : View). u.gate) w.views n v ∙ ap (put (install_projection w).views n) own)) i }
 
-      law : (s : InstallScene) → InstallRule c s → s.clock ≤ t → (s.views n).calm ≡ true → (s.views n).phase ≡ Closing → ((m : ℕ) → (s.views m).calm ≡ true → m ≡ n)
+      law : (s : InstallProjection) → InstallRule c s → s.clock ≤ t → (s.views n).quiescent ≡ true → (s.views n).phase ≡ Closing → ((m : ℕ) → (s.views m).quiescent ≡ true → m ≡ n)
           → InstallRule c (record s { clock = t; views = put s.views n (record (s.views n) { time = t; rebased = false; completed = false; giving = true }) })
-      law s r up calm closing sole = record {
+      law s r up quiescent closing sole = record {
         base = (let b = r.base in omega arith);
         done = (let d = r.done in omega arith);
         opened = r.opened;
         holding = λ m e. grind (arith, r.holding m, e);
         promoted = λ m e. grind (arith, r.promoted m, e);
-        giving = λ m e. grind (arith, r.giving m, e, calm, closing);
+        giving = λ m e. grind (arith, r.giving m, e, quiescent, closing);
         alone = λ m k e low other. grind (arith, r.alone m k, e, low, other);
         time = λ m e. grind (arith, sole m, e);
         rebased = λ m e. grind (arith, sole m, r.rebased m, e);
@@ -205,13 +205,13 @@ module _ (c : Config) where
       }
 
   -- the holder gave the fence back
-  pub install-given : (w x : World) (n number : ℕ) (v : View) → x.views ≡ put w.views n v → x.clock ≡ w.clock → x.base ≡ w.base → x.done ≡ w.done → v.gate ≡ record (w.views n).gate { fence = number; giving = false } → InstallRule c (install_scene w) → InstallRule c (install_scene x)
-  install-given w x n number v is clock base done own r = subst (InstallRule c) (sym path) (law (install_scene w) r)
+  pub install-given : (w x : World) (n number : ℕ) (v : View) → x.views ≡ put w.views n v → x.clock ≡ w.clock → x.base ≡ w.base → x.done ≡ w.done → v.gate ≡ record (w.views n).gate { fence = number; giving = false } → InstallRule c (install_projection w) → InstallRule c (install_projection x)
+  install-given w x n number v is clock base done own r = subst (InstallRule c) (sym path) (law (install_projection w) r)
     where
-      path : install_scene x ≡ record (install_scene w) { views = put (install_scene w).views n (record (w.views n).gate { fence = number; giving = false }) }
-      path = λ i. record { clock = clock i; base = base i; done = done i; views = (ap (parts (λ (u : View). u.gate)) is ∙ (parts-put (λ (u : View). u.gate) w.views n v ∙ ap (put (install_scene w).views n) own)) i }
+      path : install_projection x ≡ record (install_projection w) { views = put (install_projection w).views n (record (w.views n).gate { fence = number; giving = false }) }
+      path = λ i. record { clock = clock i; base = base i; done = done i; views = (ap (parts (λ (u : View). u.gate)) is ∙ (parts-put (λ (u : View). u.gate) w.views n v ∙ ap (put (install_projection w).views n) own)) i }
 
-      law : (s : InstallScene) → InstallRule c s → InstallRule c (record s { views = put s.views n (record (s.views n) { fence = number; giving = false }) })
+      law : (s : InstallProjection) → InstallRule c s → InstallRule c (record s { views = put s.views n (record (s.views n) { fence = number; giving = false }) })
       law s r = record {
         base = r.base;
         done = r.done;
@@ -226,16 +226,16 @@ module _ (c : Config) where
       }
 
   -- who has loaded the clock to install is the only one
-  pub sole-calm : (w : World) (n m : ℕ) → (w.views n).gate.calm ≡ true → (w.views m).gate.calm ≡ true → GateRule c.callers (gate_scene w) → InstallRule c (install_scene w) → m ≡ n
-  sole-calm w n m calm other g r =
-      let a = g.mine n (r.holding n calm) in
+  pub sole-quiescent : (w : World) (n m : ℕ) → (w.views n).gate.quiescent ≡ true → (w.views m).gate.quiescent ≡ true → GateRule c.callers (gate_projection w) → InstallRule c (install_projection w) → m ≡ n
+  sole-quiescent w n m quiescent other g r =
+      let a = g.mine n (r.holding n quiescent) in
       let b = g.mine m (r.holding m other) in omega arith
 
-  pub settle-install : (w : World) (n : ℕ) → CanSettle c.callers n (w.views n) → InstallRule c (install_scene w) → InstallRule c (install_scene (world_after settle n w))
-  settle-install w n may r = subst (InstallRule c) (sym (install_scene-put w (world_after settle n w) n (view_after settle w (w.views n) w.clock) refl)) (law (install_scene w) r may.holds may.quiet)
+  pub settle-install : (w : World) (n : ℕ) → CanSettle c.callers n (w.views n) → InstallRule c (install_projection w) → InstallRule c (install_projection (world_after settle n w))
+  settle-install w n may r = subst (InstallRule c) (sym (install_projection-put w (world_after settle n w) n (view_after settle w (w.views n) w.clock) refl)) (law (install_projection w) r may.holds may.quiet)
     where
-      law : (s : InstallScene) → InstallRule c s → (s.views n).holds ≡ true → ((k : ℕ) → k < c.callers → k ≢ n → member (s.views n).checked k ≡ true)
-          → InstallRule c (record s { views = put s.views n (record (s.views n) { calm = true; time = s.clock; rebased = false; completed = false }) })
+      law : (s : InstallProjection) → InstallRule c s → (s.views n).holds ≡ true → ((k : ℕ) → k < c.callers → k ≢ n → member (s.views n).checked k ≡ true)
+          → InstallRule c (record s { views = put s.views n (record (s.views n) { quiescent = true; time = s.clock; rebased = false; completed = false }) })
       law s r holds quiet = record {
         base = r.base;
         done = r.done;
@@ -249,14 +249,14 @@ module _ (c : Config) where
         completed = λ m e. grind (arith, r.completed m, e);
       }
 
-  pub even_clock-install : (t : ℕ) (w : World) (n : ℕ) → CanEvenClock t (w.views n) → GateRule c.callers (gate_scene w) → InstallRule c (install_scene w) → InstallRule c (install_scene (world_after (even_clock t) n w))
-  even_clock-install t w n may g r = subst (InstallRule c) (sym (install_scene-put w (world_after (even_clock t) n w) n (view_after (even_clock t) w (w.views n) t) refl))
-      (law (install_scene w) r may.calm may.next may.unbased may.uncompleted (λ m e. sole-calm w n m may.calm e g r))
+  pub even_clock-install : (t : ℕ) (w : World) (n : ℕ) → CanEvenClock t (w.views n) → GateRule c.callers (gate_projection w) → InstallRule c (install_projection w) → InstallRule c (install_projection (world_after (even_clock t) n w))
+  even_clock-install t w n may g r = subst (InstallRule c) (sym (install_projection-put w (world_after (even_clock t) n w) n (view_after (even_clock t) w (w.views n) t) refl))
+      (law (install_projection w) r may.quiescent may.next may.unbased may.uncompleted (λ m e. sole-quiescent w n m may.quiescent e g r))
     where
-      law : (s : InstallScene) → InstallRule c s → (s.views n).calm ≡ true → t ≡ (s.views n).time + 1 → (s.views n).rebased ≡ false → (s.views n).completed ≡ false → ((m : ℕ) → (s.views m).calm ≡ true → m ≡ n)
+      law : (s : InstallProjection) → InstallRule c s → (s.views n).quiescent ≡ true → t ≡ (s.views n).time + 1 → (s.views n).rebased ≡ false → (s.views n).completed ≡ false → ((m : ℕ) → (s.views m).quiescent ≡ true → m ≡ n)
           → InstallRule c (record s { clock = t; views = put s.views n (record (s.views n) { time = t }) })
-      law s r calm next unbased uncompleted sole =
-          let clock : s.clock ≡ (s.views n).time = r.time n calm in
+      law s r quiescent next unbased uncompleted sole =
+          let clock : s.clock ≡ (s.views n).time = r.time n quiescent in
           record {
             base = (let b = r.base in omega arith);
             done = (let d = r.done in omega arith);
@@ -270,14 +270,14 @@ module _ (c : Config) where
             completed = λ m e. grind (arith, sole m, r.completed m, e, uncompleted);
           }
 
-  pub store_base-install : (t : ℕ) (w : World) (n : ℕ) → CanMark t (w.views n) → GateRule c.callers (gate_scene w) → InstallRule c (install_scene w) → InstallRule c (install_scene (world_after (store_base t) n w))
-  store_base-install t w n may g r = subst (InstallRule c) (sym (install_scene-put w (world_after (store_base t) n w) n (view_after (store_base t) w (w.views n) t) refl))
-      (law (install_scene w) r may.calm may.time (λ m e. sole-calm w n m may.calm e g r))
+  pub store_base-install : (t : ℕ) (w : World) (n : ℕ) → CanMark t (w.views n) → GateRule c.callers (gate_projection w) → InstallRule c (install_projection w) → InstallRule c (install_projection (world_after (store_base t) n w))
+  store_base-install t w n may g r = subst (InstallRule c) (sym (install_projection-put w (world_after (store_base t) n w) n (view_after (store_base t) w (w.views n) t) refl))
+      (law (install_projection w) r may.quiescent may.time (λ m e. sole-quiescent w n m may.quiescent e g r))
     where
-      law : (s : InstallScene) → InstallRule c s → (s.views n).calm ≡ true → t ≡ (s.views n).time → ((m : ℕ) → (s.views m).calm ≡ true → m ≡ n)
+      law : (s : InstallProjection) → InstallRule c s → (s.views n).quiescent ≡ true → t ≡ (s.views n).time → ((m : ℕ) → (s.views m).quiescent ≡ true → m ≡ n)
           → InstallRule c (record s { base = t; views = put s.views n (record (s.views n) { rebased = true }) })
-      law s r calm is sole =
-          let clock : s.clock ≡ (s.views n).time = r.time n calm in
+      law s r quiescent is sole =
+          let clock : s.clock ≡ (s.views n).time = r.time n quiescent in
           record {
             base = omega arith;
             done = r.done;
@@ -287,18 +287,18 @@ module _ (c : Config) where
             giving = λ m e. grind (arith, r.giving m, e);
             alone = λ m k e low other. grind (arith, r.alone m k, e, low, other);
             time = λ m e. grind (arith, r.time m, e);
-            rebased = λ m e. grind (arith, sole m, r.rebased m, e, calm, is);
+            rebased = λ m e. grind (arith, sole m, r.rebased m, e, quiescent, is);
             completed = λ m e. grind (arith, r.completed m, e);
           }
 
-  pub store_done-install : (t : ℕ) (w : World) (n : ℕ) → CanMark t (w.views n) → GateRule c.callers (gate_scene w) → InstallRule c (install_scene w) → InstallRule c (install_scene (world_after (store_done t) n w))
-  store_done-install t w n may g r = subst (InstallRule c) (sym (install_scene-put w (world_after (store_done t) n w) n (view_after (store_done t) w (w.views n) t) refl))
-      (law (install_scene w) r may.calm may.time (λ m e. sole-calm w n m may.calm e g r))
+  pub store_done-install : (t : ℕ) (w : World) (n : ℕ) → CanMark t (w.views n) → GateRule c.callers (gate_projection w) → InstallRule c (install_projection w) → InstallRule c (install_projection (world_after (store_done t) n w))
+  store_done-install t w n may g r = subst (InstallRule c) (sym (install_projection-put w (world_after (store_done t) n w) n (view_after (store_done t) w (w.views n) t) refl))
+      (law (install_projection w) r may.quiescent may.time (λ m e. sole-quiescent w n m may.quiescent e g r))
     where
-      law : (s : InstallScene) → InstallRule c s → (s.views n).calm ≡ true → t ≡ (s.views n).time → ((m : ℕ) → (s.views m).calm ≡ true → m ≡ n)
+      law : (s : InstallProjection) → InstallRule c s → (s.views n).quiescent ≡ true → t ≡ (s.views n).time → ((m : ℕ) → (s.views m).quiescent ≡ true → m ≡ n)
           → InstallRule c (record s { done = t; views = put s.views n (record (s.views n) { completed = true }) })
-      law s r calm is sole =
-          let clock : s.clock ≡ (s.views n).time = r.time n calm in
+      law s r quiescent is sole =
+          let clock : s.clock ≡ (s.views n).time = r.time n quiescent in
           record {
             base = r.base;
             done = omega arith;
@@ -309,13 +309,13 @@ module _ (c : Config) where
             alone = λ m k e low other. grind (arith, r.alone m k, e, low, other);
             time = λ m e. grind (arith, r.time m, e);
             rebased = λ m e. grind (arith, r.rebased m, e);
-            completed = λ m e. grind (arith, sole m, r.completed m, e, calm, is);
+            completed = λ m e. grind (arith, sole m, r.completed m, e, quiescent, is);
           }
 
-  pub install-install : (fence : ℕ) (alg : Alg) (w : World) (n : ℕ) → InstallRule c (install_scene w) → InstallRule c (install_scene (world_after (install n fence alg) n w))
-  install-install fence alg w n r = subst (InstallRule c) (sym (install_scene-put w (world_after (install n fence alg) n w) n (view_after (install n fence alg) w (w.views n) (gate_word fence (1 + n) alg)) refl)) (law (install_scene w) r)
+  pub install-install : (fence : ℕ) (alg : Alg) (w : World) (n : ℕ) → InstallRule c (install_projection w) → InstallRule c (install_projection (world_after (install n fence alg) n w))
+  install-install fence alg w n r = subst (InstallRule c) (sym (install_projection-put w (world_after (install n fence alg) n w) n (view_after (install n fence alg) w (w.views n) (gate_word fence (1 + n) alg)) refl)) (law (install_projection w) r)
     where
-      law : (s : InstallScene) → InstallRule c s → InstallRule c (record s { views = put s.views n (record (s.views n) { algorithm = alg }) })
+      law : (s : InstallProjection) → InstallRule c s → InstallRule c (record s { views = put s.views n (record (s.views n) { algorithm = alg }) })
       law s r = record {
         base = r.base;
         done = r.done;
@@ -329,13 +329,13 @@ module _ (c : Config) where
         completed = λ m e. grind (arith, r.completed m, e);
       }
 
-  pub depart-install : (w : World) (n : ℕ) → CanDepart (w.views n) → InstallRule c (install_scene w) → InstallRule c (install_scene (world_after (depart n) n w))
-  depart-install w n may r = subst (InstallRule c) (sym (install_scene-put w (world_after (depart n) n w) n (view_after (depart n) w (w.views n) 0) refl)) (law (install_scene w) r may.reopened)
+  pub depart-install : (w : World) (n : ℕ) → CanDepart (w.views n) → InstallRule c (install_projection w) → InstallRule c (install_projection (world_after (depart n) n w))
+  depart-install w n may r = subst (InstallRule c) (sym (install_projection-put w (world_after (depart n) n w) n (view_after (depart n) w (w.views n) 0) refl)) (law (install_projection w) r may.reopened)
     where
-      ungranted : (s : InstallScene) → InstallRule c s → ((s.views n).phase ≡ In → (s.views n).holds ≡ false) → (s.views n).granted ≡ true → ⊥
+      ungranted : (s : InstallProjection) → InstallRule c s → ((s.views n).phase ≡ In → (s.views n).holds ≡ false) → (s.views n).granted ≡ true → ⊥
       ungranted s r reopened e = let p = r.promoted n e in let f : true ≡ false = sym (r.holding n p.0) ∙ reopened p.1 in cc
 
-      law : (s : InstallScene) → InstallRule c s → ((s.views n).phase ≡ In → (s.views n).holds ≡ false) → InstallRule c (record s { views = put s.views n (record (s.views n) { phase = departed (s.views n).phase; present = false }) })
+      law : (s : InstallProjection) → InstallRule c s → ((s.views n).phase ≡ In → (s.views n).holds ≡ false) → InstallRule c (record s { views = put s.views n (record (s.views n) { phase = departed (s.views n).phase; present = false }) })
       law s r reopened = record {
         base = r.base;
         done = r.done;
@@ -351,13 +351,13 @@ module _ (c : Config) where
 
   -- the attempt of who holds the gate and has seen all others idle is promoted, at the clock
   pub grant-install : (w x : World) (n : ℕ) (v : View) → x.views ≡ put w.views n v → x.clock ≡ w.clock → x.base ≡ w.base → x.done ≡ w.done → v.gate ≡ granted_at w.clock (w.views n).gate → (w.views n).gate.phase ≡ In → (w.views n).gate.holds ≡ true → HasChecked c.callers n (w.views n)
-      → InstallRule c (install_scene w) → InstallRule c (install_scene x)
-  grant-install w x n v is clock base done own inside holds quiet r = subst (InstallRule c) (sym path) (law (install_scene w) r inside holds quiet)
+      → InstallRule c (install_projection w) → InstallRule c (install_projection x)
+  grant-install w x n v is clock base done own inside holds quiet r = subst (InstallRule c) (sym path) (law (install_projection w) r inside holds quiet)
     where
-      path : install_scene x ≡ record (install_scene w) { views = put (install_scene w).views n (granted_at w.clock (w.views n).gate) }
-      path = λ i. record { clock = clock i; base = base i; done = done i; views = (ap (parts (λ (u : View). u.gate)) is ∙ (parts-put (λ (u : View). u.gate) w.views n v ∙ ap (put (install_scene w).views n) own)) i }
+      path : install_projection x ≡ record (install_projection w) { views = put (install_projection w).views n (granted_at w.clock (w.views n).gate) }
+      path = λ i. record { clock = clock i; base = base i; done = done i; views = (ap (parts (λ (u : View). u.gate)) is ∙ (parts-put (λ (u : View). u.gate) w.views n v ∙ ap (put (install_projection w).views n) own)) i }
 
-      law : (s : InstallScene) → InstallRule c s → (s.views n).phase ≡ In → (s.views n).holds ≡ true → ((k : ℕ) → k < c.callers → k ≢ n → member (s.views n).checked k ≡ true)
+      law : (s : InstallProjection) → InstallRule c s → (s.views n).phase ≡ In → (s.views n).holds ≡ true → ((k : ℕ) → k < c.callers → k ≢ n → member (s.views n).checked k ≡ true)
           → InstallRule c (record s { views = put s.views n (granted_at s.clock (s.views n)) })
       law s r inside holds quiet = record {
         base = r.base;
@@ -373,14 +373,14 @@ module _ (c : Config) where
       }
 
   -- the gate's holder, which had loaded the clock, raised it to t: BASE and DONE are to be stored again
-  pub ticked-install : (w x : World) (n t : ℕ) (v : View) → x.views ≡ put w.views n v → x.clock ≡ t → x.base ≡ w.base → x.done ≡ w.done → v.gate ≡ record (w.views n).gate { time = t; rebased = false; completed = false } → w.clock ≤ t → (w.views n).gate.calm ≡ true
-      → GateRule c.callers (gate_scene w) → InstallRule c (install_scene w) → InstallRule c (install_scene x)
-  ticked-install w x n t v is clock base done own up calm g r = subst (InstallRule c) (sym path) (law (install_scene w) r up (λ m e. sole-calm w n m calm e g r))
+  pub ticked-install : (w x : World) (n t : ℕ) (v : View) → x.views ≡ put w.views n v → x.clock ≡ t → x.base ≡ w.base → x.done ≡ w.done → v.gate ≡ record (w.views n).gate { time = t; rebased = false; completed = false } → w.clock ≤ t → (w.views n).gate.quiescent ≡ true
+      → GateRule c.callers (gate_projection w) → InstallRule c (install_projection w) → InstallRule c (install_projection x)
+  ticked-install w x n t v is clock base done own up quiescent g r = subst (InstallRule c) (sym path) (law (install_projection w) r up (λ m e. sole-quiescent w n m quiescent e g r))
     where
-      path : install_scene x ≡ record (install_scene w) { clock = t; views = put (install_scene w).views n (record (w.views n).gate { time = t; rebased = false; completed = false }) }
-      path = λ i. record { clock = clock i; base = base i; done = done i; views = (ap (parts (λ (u : View). u.gate)) is ∙ (parts-put (λ (u : View). u.gate) w.views n v ∙ ap (put (install_scene w).views n) own)) i }
+      path : install_projection x ≡ record (install_projection w) { clock = t; views = put (install_projection w).views n (record (w.views n).gate { time = t; rebased = false; completed = false }) }
+      path = λ i. record { clock = clock i; base = base i; done = done i; views = (ap (parts (λ (u : View). u.gate)) is ∙ (parts-put (λ (u : View). u.gate) w.views n v ∙ ap (put (install_projection w).views n) own)) i }
 
-      law : (s : InstallScene) → InstallRule c s → s.clock ≤ t → ((m : ℕ) → (s.views m).calm ≡ true → m ≡ n)
+      law : (s : InstallProjection) → InstallRule c s → s.clock ≤ t → ((m : ℕ) → (s.views m).quiescent ≡ true → m ≡ n)
           → InstallRule c (record s { clock = t; views = put s.views n (record (s.views n) { time = t; rebased = false; completed = false }) })
       law s r up sole = record {
         base = (let b = r.base in omega arith);

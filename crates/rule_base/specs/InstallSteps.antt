@@ -17,7 +17,7 @@ abbrev pub settle : StepKind
 settle = record {
   place = Clock;
   act = Load;
-  after = λ w v clock. record v { gate = record v.gate { calm = true; time = clock; rebased = false; completed = false } };
+  after = λ w v clock. record v { gate = record v.gate { quiescent = true; time = clock; rebased = false; completed = false } };
   grown = same_history;
 }
 
@@ -49,7 +49,7 @@ even_clock t = record {
 pub record CanEvenClock (t : ℕ) (v : View) : Type 0 where
   pub phase : v.gate.phase ≡ Closing
   pub ungiven : v.gate.giving ≡ false
-  pub calm : v.gate.calm ≡ true
+  pub quiescent : v.gate.quiescent ≡ true
   pub odd : v.gate.time % 2 ≡ 1
   pub next : t ≡ v.gate.time + 1
   pub unbased : v.gate.rebased ≡ false
@@ -76,7 +76,7 @@ store_done t = record {
 pub record CanMark (t : ℕ) (v : View) : Type 0 where
   -- who installs, or whose attempt was promoted
   pub closing : v.gate.granted ≡ false → v.gate.phase ≡ Closing
-  pub calm : v.gate.calm ≡ true
+  pub quiescent : v.gate.quiescent ≡ true
   pub time : t ≡ v.gate.time
 
 -- store the gate, still held, with the new algorithm
@@ -96,7 +96,7 @@ pub record CanInstall (fence : ℕ) (alg : Alg) (v : View) : Type 0 where
   pub phase : v.gate.phase ≡ Closing
   pub guarded : v.gate.fence ≡ fence
   pub ungiven : v.gate.giving ≡ false
-  pub calm : v.gate.calm ≡ true
+  pub quiescent : v.gate.quiescent ≡ true
   pub rebased : v.gate.rebased ≡ true
   pub completed : v.gate.completed ≡ true
   pub even : alg ≡ Tml → v.gate.time % 2 ≡ 0

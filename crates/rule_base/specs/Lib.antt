@@ -37,7 +37,7 @@ pub mod ListLemmas
 pub mod SeatLemmas
 pub mod NoteLemmas
 pub mod SeenLemmas
-pub mod RunScene
+pub mod RunProjection
 pub mod Regime
 pub mod RegimeLemmas
 pub mod Ranks

@@ -10,8 +10,8 @@ use Rattle.rule_base.specs.World.{World}
 abbrev pub first_view : Config → View
 first_view c = record {
   history = record { made = []; seen = []; front = c.clock; told = record { seen = []; front = c.clock }; whole = record { seen = []; front = 0 } };
-  steps = record { trail = []; rises = 0; rises_at_begin = 0; installs = [] };
-  gate = record { phase = Idle; present = false; algorithm = Cgl; fence = 0; aim = 0; holds = false; checked = []; calm = false; time = 0; rebased = false; completed = false; granted = false; giving = false };
+  steps = record { step_trace = []; rises = 0; rises_at_begin = 0; installs = [] };
+  gate = record { phase = Idle; present = false; algorithm = Cgl; fence = 0; aim = 0; holds = false; checked = []; quiescent = false; time = 0; rebased = false; completed = false; granted = false; giving = false };
   attempt = record { start = 0; reads = []; stores = []; entered = false };
   lock = record { taken = false; started = false; clocked = false; undo = []; irrevocable = false };
   tml = record { inside = false; writer = false; loaded = false; from = 0; value = 0 };

@@ -7,9 +7,9 @@ use Rattle.stm_model.specs.declared.config.Config.{Config}
 use Rattle.rule_base.specs.declared.views.Phase.TheVariants.{In, Closing}
 use Rattle.rule_base.specs.declared.views.View.{View}
 use Rattle.rule_base.specs.Encodings.{alg_of, holder_of}
-use Rattle.rule_base.specs.GateRule.{rests, gate_scene, GateRule}
+use Rattle.rule_base.specs.GateRule.{rests, gate_projection, GateRule}
 use Rattle.rule_base.specs.InstallLaws.{others-out}
-use Rattle.rule_base.specs.InstallRule.{install_scene, InstallRule}
+use Rattle.rule_base.specs.InstallRule.{install_projection, InstallRule}
 use Rattle.rule_base.specs.PutLemmas.{parts-kept}
 use Rattle.rule_base.specs.Regime.{mode_of, regime_by, regime_at, regime_of, regime, named_in}
 use Rattle.rule_base.specs.Regime.Regime.{Running, Promoted, Giving}
@@ -58,13 +58,13 @@ regime-promoted w n h granted = regime-holder w n Grants h (ap (λ (b : Bool). i
 pub regime-giving : (w : World) (n : ℕ) → holder_of w.gate ≡ 1 + n → (w.views n).gate.granted ≡ false → (w.views n).gate.giving ≡ true → regime w ≡ Giving (alg_of w.gate)
 regime-giving w n h plain giving = regime-holder w n Gives h (ap (λ (b : Bool). if b then Grants else (if (w.views n).gate.giving then Gives else Plain)) plain ∙ ap (λ (b : Bool). if b then Gives else Plain) giving)
 
-module _ (c : Config) (w : World) (n : ℕ) (g : GateRule c.callers (gate_scene w)) (r : InstallRule c (install_scene w)) where
+module _ (c : Config) (w : World) (n : ℕ) (g : GateRule c.callers (gate_projection w)) (r : InstallRule c (install_projection w)) where
   -- while a caller is in an attempt that isn't promoted, the algorithm that it loaded runs
   pub regime-inside : (w.views n).gate.phase ≡ In → (w.views n).gate.granted ≡ false → regime w ≡ Running (w.views n).gate.algorithm
   regime-inside inside plain = regime-running w (λ m h. plain-mode (w.views m).gate (ungranted m (w.views m).gate.granted refl) (ungiven m (w.views m).gate.giving refl)) ∙ ap Running (g.named n inside)
     where
-      busy : (m : ℕ) → (w.views m).gate.calm ≡ true → m ≢ n → ⊥
-      busy m calm other = let o = others-out c w m calm g r n (λ same. other (sym same)) in let f : false ≡ true = sym (ap rests inside) ∙ o in cc
+      busy : (m : ℕ) → (w.views m).gate.quiescent ≡ true → m ≢ n → ⊥
+      busy m quiescent other = let o = others-out c w m quiescent g r n (λ same. other (sym same)) in let f : false ≡ true = sym (ap rests inside) ∙ o in cc
 
       ungranted : (m : ℕ) (b : Bool) → (w.views m).gate.granted ≡ b → (w.views m).gate.granted ≡ false
       ungranted m true e = absurd (apart (m == n) refl)

@@ -30,7 +30,7 @@ pub enum Act {
 
 /// A step that was taken: the word, the act, and what a load, an exchange or a fetch_max found there. Nobody is told what
 /// the load of a split or a join of seats finds.
-pub struct TrailItem {
+pub struct TracedStep {
     pub place: At,
     pub act: Act,
     pub found: Option<u64>,
@@ -38,7 +38,7 @@ pub struct TrailItem {
 
 /// What a caller's steps add up to.
 pub struct Steps {
-    pub trail: LinkedList<TrailItem>,
+    pub step_trace: LinkedList<TracedStep>,
     /// By how much its own steps raised the clock.
     pub rises: u64,
     /// The same when its attempt began.
@@ -78,7 +78,7 @@ pub struct GateView {
     /// The callers that it has seen idle since.
     pub checked: LinkedList<u64>,
     /// It saw all others idle, and loaded the clock since: it is `time`.
-    pub calm: bool,
+    pub quiescent: bool,
     pub time: u64,
     /// BASE is `time`.
     pub rebased: bool,

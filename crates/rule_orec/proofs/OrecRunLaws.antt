@@ -4,10 +4,10 @@ use Rattle.stm_model.specs.declared.config.Config.{Config}
 use Rattle.rule_base.specs.RunLemmas.{keeps-along}
 use Rattle.rule_base.specs.StepKinds.{world_after}
 use Rattle.rule_base.specs.World.{World}
-use Rattle.rule_orec.specs.OrecRule.{orec_scene, OrecWorld}
+use Rattle.rule_orec.specs.OrecRule.{orec_projection, OrecWorld}
 use Rattle.rule_orec.specs.OrecRely.{stamp-grows}
 use Rattle.rule_orec.specs.OrecRuns.{OrecStep, orec_kind, OrecMay, OrecKeepsAlong, StampsGrow}
-use Rattle.rule_orec.specs.OrecRuns.OrecStep.{orec_begins, orec_samples, orec_loads, orec_confirms, orec_clocks, orec_clocks_all, orec_passes, orec_lasts, orec_looks, orec_limits, orec_locks, orec_commits, orec_writes_back, orec_times, orec_olds, orec_ups, orec_own_loads, orec_saves, orec_places, orec_restores, orec_lifts}
+use Rattle.rule_orec.specs.OrecRuns.OrecStep.{orec_begins, orec_samples, orec_loads, orec_confirms, orec_clocks, orec_clocks_all, orec_passes, orec_lasts, orec_looks, orec_limits, orec_locks, orec_commits, orec_writes_back, orec_times, orec_olds, orec_ups, orec_own_loads, orec_saves, orec_places, orec_restores, orec_raises_clock}
 use Rattle.rule_orec.specs.OrecLaws.{Ranks}
 use Rattle.rule_orec.specs.OrecLaws as laws
 
@@ -32,7 +32,7 @@ one_step good c n (orec_own_loads a) w g m = (laws.orec_own_loads good c n a w g
 one_step good c n (orec_saves a) w g m = (laws.orec_saves good c n a w g m.1).rule
 one_step good c n (orec_places a x) w g m = (laws.orec_places good c n a x w g m.1).rule
 one_step good c n (orec_restores a x) w g m = (laws.orec_restores good c n a x w g m.1).rule
-one_step good c n (orec_lifts least) w g m = (laws.orec_lifts good c n least m.0 w g m.1).rule
+one_step good c n (orec_raises_clock least) w g m = (laws.orec_raises_clock good c n least m.0 w g m.1).rule
 
 pub orec_keeps_along_lem : (good : (ℕ → ℕ) → Type 0) (c : Config) → OrecKeepsAlong good c
 orec_keeps_along_lem good c = keeps-along orec_kind (OrecMay good c) (OrecWorld good c) (one_step good c)
@@ -58,7 +58,7 @@ ranks good c n (orec_own_loads a) w g m = laws.orec_own_loads-ranks good c n a w
 ranks good c n (orec_saves a) w g m = laws.orec_saves-ranks good c n a w g m.1
 ranks good c n (orec_places a x) w g m = laws.orec_places-ranks good c n a x w g m.1
 ranks good c n (orec_restores a x) w g m = laws.orec_restores-ranks good c n a x w g m.1
-ranks good c n (orec_lifts least) w g m = laws.orec_lifts-ranks good c n least w g m.1
+ranks good c n (orec_raises_clock least) w g m = laws.orec_raises_clock-ranks good c n least w g m.1
 
 pub stamps_grow_lem : (good : (ℕ → ℕ) → Type 0) (c : Config) → StampsGrow good c
-stamps_grow_lem good c n s w r m q = stamp-grows (orec_scene w) (orec_scene (world_after (orec_kind n s) n w)) q (ranks good c n s w r m q)
+stamps_grow_lem good c n s w r m q = stamp-grows (orec_projection w) (orec_projection (world_after (orec_kind n s) n w)) q (ranks good c n s w r m q)

@@ -12,32 +12,32 @@ use Rattle.rule_base.specs.declared.views.View.{View}
 use Rattle.rule_base.specs.EncodingLemmas.{is_owned-free, version_of-free, is_owned-owned, owner_of-owned}
 use Rattle.rule_base.specs.Encodings.{free_record, owned_record, is_owned, version_of, owner_of}
 use Rattle.rule_base.specs.History.{over, touches, word_at, word_now, Explains, Below, upto, Follows, Legal}
-use Rattle.rule_base.specs.HistoryRule.{HistoryRule, history_scene}
+use Rattle.rule_base.specs.HistoryRule.{HistoryRule, history_projection}
 use Rattle.rule_base.specs.HistoryLemmas.{word_at-all, word_now-upto, below-upto, legal-upto, legal-good, legal-small}
 use Rattle.rule_base.specs.HistoryRuleLemmas.{advances-same, advances-entry, history-kept, history-seen, history-upto, history-raised, history-entry}
 use Rattle.rule_base.specs.PutLemmas.{put-all, parts-put, parts-kept}
 use Rattle.rule_base.specs.Ranks.{Rec, rec_of}
 use Rattle.rule_base.specs.Ranks.Rec.{Free, Taken}
-use Rattle.rule_base.specs.RecordRule.{record_scene, RecordRule}
-use Rattle.rule_base.specs.RunScene.{run_scene}
-use Rattle.rule_base.specs.StepKinds.{StepKind, Advances, view_after, world_after, answer, Nothing, Outcome, StepLaw}
+use Rattle.rule_base.specs.RecordRule.{record_projection, RecordRule}
+use Rattle.rule_base.specs.RunProjection.{run_projection}
+use Rattle.rule_base.specs.StepKinds.{StepKind, Advances, view_after, world_after, answer, Nothing, StepOutcome, StepLaw}
 use Rattle.rule_base.specs.StepsLemmas.{steps-kept, steps-raised}
-use Rattle.rule_base.specs.StepsRule.{StepsRule, steps_scene}
+use Rattle.rule_base.specs.StepsRule.{StepsRule, steps_projection}
 use Rattle.rule_base.specs.World.{World, put, parts}
-use Rattle.rule_seq.specs.AttemptRule.{attempt_scene, AttemptRule}
+use Rattle.rule_seq.specs.AttemptRule.{attempt_projection, AttemptRule}
 use Rattle.rule_seq.specs.AttemptLemmas.{busy-owned, attempts-in}
 use Rattle.rule_seq.specs.CglSteps.{Begins}
-use Rattle.rule_seq.specs.LockRule.{lock_scene, LockRule}
-use Rattle.rule_seq.specs.LockLemmas.{lock_scene-kept}
+use Rattle.rule_seq.specs.LockRule.{lock_projection, LockRule}
+use Rattle.rule_seq.specs.LockLemmas.{lock_projection-kept}
 use Rattle.rule_seq.specs.TmlSteps.{TmlSees}
-use Rattle.rule_orec.specs.OrecRule.{orec_view, OrecScene, rank, orec_scene, OwnReads, Own, OrecRule, OrecRuns, OrecWorld}
+use Rattle.rule_orec.specs.OrecRule.{orec_view, OrecProjection, rank, orec_projection, OwnReads, Own, OrecRule, OrecRuns, OrecWorld}
 use Rattle.rule_base.specs.Ranks.{home_of}
 use Rattle.rule_orec.specs.OrecRely.{Full, Next, full_of, rule_of, fresh, quiet, with_view}
 use Rattle.rule_orec.specs.OrecReading as reading
 use Rattle.rule_orec.specs.OrecOwning as owning
 use Rattle.rule_orec.specs.OrecReading.{no_sample, no_check, checks, passed, fresh_owned, begun-fresh}
-use Rattle.rule_orec.specs.OrecOwning.{holding, entered_at, written, placed, restored, released, saved, lifted, Ready}
-use Rattle.rule_orec.specs.OrecSteps.{is_eager, orec_begin, CanOrecBegin, orec_sample, CanOrecSample, orec_load, CanOrecLoad, confirms, orec_confirm, CanOrecConfirm, OrecConfirms, orec_clock, CanOrecClock, OrecClocks, orec_clock_all, passes, orec_pass, CanOrecPass, orec_last, CanOrecLast, HasOrec, orec_look, orec_limit, orec_lock, CanOrecLock, orec_entry, orec_commit, CanOrecCommit, orec_write_back, CanOrecWriteBack, orec_release, CanOrecTime, CanOrecOld, CanOrecUp, orec_own_load, CanOrecOwnLoad, OrecOwnLoads, orec_save, CanOrecSave, orec_place, CanOrecPlace, orec_restore, CanOrecRestore, orec_lift, CanOrecLift}
+use Rattle.rule_orec.specs.OrecOwning.{holding, entered_at, written, placed, restored, released, saved, clock_raised, Ready}
+use Rattle.rule_orec.specs.OrecSteps.{is_eager, orec_begin, CanOrecBegin, orec_sample, CanOrecSample, orec_load, CanOrecLoad, confirms, orec_confirm, CanOrecConfirm, OrecConfirms, orec_clock, CanOrecClock, OrecClocks, orec_clock_all, passes, orec_pass, CanOrecPass, orec_last, CanOrecLast, HasOrec, orec_look, orec_limit, orec_lock, CanOrecLock, orec_entry, orec_commit, CanOrecCommit, orec_write_back, CanOrecWriteBack, orec_release, CanOrecTime, CanOrecOld, CanOrecUp, orec_own_load, CanOrecOwnLoad, OrecOwnLoads, orec_save, CanOrecSave, orec_place, CanOrecPlace, orec_restore, CanOrecRestore, orec_raise_clock, CanOrecRaiseClock}
 
 -- what a record word says
 pub rec-free : (word : ℕ) → is_owned word ≡ false → rec_of word ≡ Free (version_of word)
@@ -74,31 +74,31 @@ passed-at x v e = go (is_owned x) refl e
     go true q k = absurd cc
     go false q k = (refl, grind (arith, nat_tests, k))
 
--- the scene after one view changed
-abbrev pub scene_put : World → World → ℕ → View → OrecScene
-scene_put w x n v = record { clock = x.clock; base = x.base; records = parts rec_of x.records; heap = x.heap; history = x.history; views = put (orec_scene w).views n (orec_view v) }
+-- the projection after one view changed
+abbrev pub projection_put : World → World → ℕ → View → OrecProjection
+projection_put w x n v = record { clock = x.clock; base = x.base; records = parts rec_of x.records; heap = x.heap; history = x.history; views = put (orec_projection w).views n (orec_view v) }
 
-pub orec_scene-put : (w x : World) (n : ℕ) (v : View) → x.views ≡ put w.views n v → orec_scene x ≡ scene_put w x n v
-orec_scene-put w x n v is = λ i. record { clock = x.clock; base = x.base; records = parts rec_of x.records; heap = x.heap; history = x.history; views = (ap (parts orec_view) is ∙ parts-put orec_view w.views n v) i }
+pub orec_projection-put : (w x : World) (n : ℕ) (v : View) → x.views ≡ put w.views n v → orec_projection x ≡ projection_put w x n v
+orec_projection-put w x n v is = λ i. record { clock = x.clock; base = x.base; records = parts rec_of x.records; heap = x.heap; history = x.history; views = (ap (parts orec_view) is ∙ parts-put orec_view w.views n v) i }
 
 -- and after one record did
-records_put : (w : World) (r word : ℕ) (k : Rec) → rec_of word ≡ k → parts rec_of (put w.records r word) ≡ put (orec_scene w).records r k
-records_put w r word k e = parts-put rec_of w.records r word ∙ ap (put (orec_scene w).records r) e
+records_put : (w : World) (r word : ℕ) (k : Rec) → rec_of word ≡ k → parts rec_of (put w.records r word) ≡ put (orec_projection w).records r k
+records_put w r word k e = parts-put rec_of w.records r word ∙ ap (put (orec_projection w).records r) e
 
 module _ (good : (ℕ → ℕ) → Type 0) (c : Config) where
-  abbrev Fulls : OrecScene → Type 0
+  abbrev Fulls : OrecProjection → Type 0
   Fulls s = Full (home_of c) c.words s
 
-  abbrev Nexts : OrecScene → OrecScene → Type 0
+  abbrev Nexts : OrecProjection → OrecProjection → Type 0
   Nexts = Next (home_of c) c.words
 
-  pub full-world : (w : World) → OrecWorld good c w → Fulls (orec_scene w)
-  full-world w r = full_of (home_of c) c.words (orec_scene w) r.history.below
+  pub full-world : (w : World) → OrecWorld good c w → Fulls (orec_projection w)
+  full-world w r = full_of (home_of c) c.words (orec_projection w) r.history.below
       (λ q v e. let k = free-rec (w.records q) v e in subst (λ (u : ℕ). u ≤ w.clock) k.1 (r.records.free q k.0))
       (λ q m e. let k = taken-rec (w.records q) m e in subst (λ (u : ℕ). touches (w.views u).owned.held q ≡ true) k.1 (r.records.owned q k.0)) r.runs
 
   -- the clauses of the records that stand under every algorithm follow
-  pub records-full : (x : World) → Fulls (orec_scene x) → AttemptRule (attempt_scene x) → RecordRule (record_scene x)
+  pub records-full : (x : World) → Fulls (orec_projection x) → AttemptRule (attempt_projection x) → RecordRule (record_projection x)
   records-full x g a = record {
     free = λ r e. g.whole.free r (version_of (x.records r)) (rec-free (x.records r) e);
     owned = λ r e. g.whole.owned r (owner_of (x.records r)) (rec-taken (x.records r) e);
@@ -112,9 +112,9 @@ module _ (good : (ℕ → ℕ) → Type 0) (c : Config) where
   module _ (n : ℕ) where
     -- the clauses but for those of the steps, which speak of the step as it stands
     abbrev Parts : World → Type 0
-    Parts y = HistoryRule good c (history_scene y) × LockRule (lock_scene y) × AttemptRule (attempt_scene y) × RecordRule (record_scene y) × OrecRuns c (run_scene y)
+    Parts y = HistoryRule good c (history_projection y) × LockRule (lock_projection y) × AttemptRule (attempt_projection y) × RecordRule (record_projection y) × OrecRuns c (run_projection y)
 
-    whole_of : (y : World) → Parts y → StepsRule c (steps_scene y) → OrecWorld good c y
+    whole_of : (y : World) → Parts y → StepsRule c (steps_projection y) → OrecWorld good c y
     whole_of y p s = record { history = p.0; steps = s; lock = p.1; attempts = p.2; records = p.3; runs = p.4 }
 
     -- the step leaves the lock and the phase alone, and of TML whether its caller is inside
@@ -125,26 +125,26 @@ module _ (good : (ℕ → ℕ) → Type 0) (c : Config) where
       pub inside : v.tml.inside ≡ (w.views n).tml.inside
       pub writer : v.tml.writer ≡ (w.views n).tml.writer
 
-    parts_of : (w x : World) (v : View) → x.views ≡ put w.views n v → LeavesOthers w x v → (w.views n).gate.phase ≡ In → HistoryRule good c (history_scene x) → Fulls (scene_put w x n v) → OrecWorld good c w → Parts x
-    parts_of w x v is leaves phase history full r = (history, subst LockRule (sym (lock_scene-kept w x n v is leaves.lock leaves.taken leaves.phase)) r.lock, attempts, records-full x at attempts, rule_of (home_of c) c.words (orec_scene x) at)
+    parts_of : (w x : World) (v : View) → x.views ≡ put w.views n v → LeavesOthers w x v → (w.views n).gate.phase ≡ In → HistoryRule good c (history_projection x) → Fulls (projection_put w x n v) → OrecWorld good c w → Parts x
+    parts_of w x v is leaves phase history full r = (history, subst LockRule (sym (lock_projection-kept w x n v is leaves.lock leaves.taken leaves.phase)) r.lock, attempts, records-full x at attempts, rule_of (home_of c) c.words (orec_projection x) at)
       where
         in_it : v.gate.phase ≡ In
         in_it = leaves.phase ∙ phase
 
-        attempts : AttemptRule (attempt_scene x)
+        attempts : AttemptRule (attempt_projection x)
         attempts = attempts-in w x n v is in_it r.attempts
 
-        at : Fulls (orec_scene x)
-        at = subst Fulls (sym (orec_scene-put w x n v is)) full
+        at : Fulls (orec_projection x)
+        at = subst Fulls (sym (orec_projection-put w x n v is)) full
 
     -- no rank fell
     abbrev pub Ranks : World → World → Type 0
-    Ranks w x = (q : ℕ) → rank (orec_scene w) q ≤ rank (orec_scene x) q
+    Ranks w x = (q : ℕ) → rank (orec_projection w) q ≤ rank (orec_projection x) q
 
-    ranks_of : (w x : World) (v : View) → x.views ≡ put w.views n v → Nexts (orec_scene w) (scene_put w x n v) → Ranks w x
-    ranks_of w x v is next = subst (λ (s : OrecScene). (q : ℕ) → rank (orec_scene w) q ≤ rank s q) (sym (orec_scene-put w x n v is)) next.1
+    ranks_of : (w x : World) (v : View) → x.views ≡ put w.views n v → Nexts (orec_projection w) (projection_put w x n v) → Ranks w x
+    ranks_of w x v is next = subst (λ (s : OrecProjection). (q : ℕ) → rank (orec_projection w) q ≤ rank s q) (sym (orec_projection-put w x n v is)) next.1
 
-    both_of : (w x : World) (v : View) → x.views ≡ put w.views n v → LeavesOthers w x v → (w.views n).gate.phase ≡ In → HistoryRule good c (history_scene x) → Nexts (orec_scene w) (scene_put w x n v) → OrecWorld good c w → Parts x × Ranks w x
+    both_of : (w x : World) (v : View) → x.views ≡ put w.views n v → LeavesOthers w x v → (w.views n).gate.phase ≡ In → HistoryRule good c (history_projection x) → Nexts (orec_projection w) (projection_put w x n v) → OrecWorld good c w → Parts x × Ranks w x
     both_of w x v is leaves phase history next r = (parts_of w x v is leaves phase history next.0 r, ranks_of w x v is next)
 
     -- what an attempt sees with these reads
@@ -173,19 +173,19 @@ module _ (good : (ℕ → ℕ) → Type 0) (c : Config) where
         v : View
         v = view_after orec_begin w (w.views n) w.clock
 
-        g : Fulls (orec_scene w)
+        g : Fulls (orec_projection w)
         g = full-world w r
 
         apart : (q : ℕ) → rec_of (w.records q) ≡ Taken n → ⊥
         apart q e = let t = g.whole.owned q n e in let f : true ≡ false = sym t ∙ ap (λ (cs : List Cell). touches cs q) may.disowned in cc
 
-        f : OrecRule (home_of c) c.words (scene_put w x n v) × ((q : ℕ) → rank (orec_scene w) q ≤ rank (scene_put w x n v) q)
-        f = fresh (home_of c) c.words (orec_scene w) n (orec_view v) apart (λ q. refl) (λ i. begun-fresh (home_of c) c.words (orec_scene w) n (is_eager (w.views n).gate.algorithm) v.attempt refl refl r.runs.based) r.runs
+        f : OrecRule (home_of c) c.words (projection_put w x n v) × ((q : ℕ) → rank (orec_projection w) q ≤ rank (projection_put w x n v) q)
+        f = fresh (home_of c) c.words (orec_projection w) n (orec_view v) apart (λ q. refl) (λ i. begun-fresh (home_of c) c.words (orec_projection w) n (is_eager (w.views n).gate.algorithm) v.attempt refl refl r.runs.based) r.runs
 
-        next : Nexts (orec_scene w) (scene_put w x n v)
+        next : Nexts (orec_projection w) (projection_put w x n v)
         next = (
-          full_of (home_of c) c.words (scene_put w x n v) g.whole.below g.whole.free
-              (λ q m e. put-all (orec_scene w).views n (orec_view v) (λ k u. (orec_scene w).records q ≡ Taken k → touches u.owned.held q ≡ true) (λ t. absurd (apart q t)) (λ k d t. g.whole.owned q k t) m e) f.0,
+          full_of (home_of c) c.words (projection_put w x n v) g.whole.below g.whole.free
+              (λ q m e. put-all (orec_projection w).views n (orec_view v) (λ k u. (orec_projection w).records q ≡ Taken k → touches u.owned.held q ≡ true) (λ t. absurd (apart q t)) (λ k d t. g.whole.owned q k t) m e) f.0,
           f.1,
         )
 
@@ -199,9 +199,9 @@ module _ (good : (ℕ → ℕ) → Type 0) (c : Config) where
     -- a step of an attempt that leaves the clock, the history and what is seen of it alone, after which these clauses stand
     plainly : (kind : StepKind) (shows : World → View → ℕ → Type 0) (w : World) → OrecWorld good c w → (w.views n).gate.phase ≡ In
         → ((world_after kind n w).clock ≡ w.clock) × ((world_after kind n w).lock ≡ w.lock) × ((world_after kind n w).done ≡ w.done) × ((world_after kind n w).gate ≡ w.gate) × ((world_after kind n w).history ≡ w.history)
-        → ((kind.after w (w.views n) (answer kind w)).history ≡ (w.views n).history) × ((kind.after w (w.views n) (answer kind w)).steps.trail ≡ (w.views n).steps.trail) × ((kind.after w (w.views n) (answer kind w)).steps.rises ≡ (w.views n).steps.rises)
+        → ((kind.after w (w.views n) (answer kind w)).history ≡ (w.views n).history) × ((kind.after w (w.views n) (answer kind w)).steps.step_trace ≡ (w.views n).steps.step_trace) × ((kind.after w (w.views n) (answer kind w)).steps.rises ≡ (w.views n).steps.rises)
         → LeavesOthers w (world_after kind n w) (view_after kind w (w.views n) (answer kind w))
-        → Fulls (scene_put w (world_after kind n w) n (view_after kind w (w.views n) (answer kind w))) → shows w (w.views n) (answer kind w) → Outcome (OrecWorld good c) kind shows n w
+        → Fulls (projection_put w (world_after kind n w) n (view_after kind w (w.views n) (answer kind w))) → shows w (w.views n) (answer kind w) → StepOutcome (OrecWorld good c) kind shows n w
     plainly kind shows w r phase words own leaves full shown = record {
       rule = whole_of x (parts_of w x v refl leaves phase (history-kept good c w x n v refl words.0 words.4 own.0 r.history) full r) (steps-kept c kind n w words.0 own.1 own.2 r.steps);
       advances = advances-same w x words.3 (subst (λ (k : ℕ). w.clock ≤ k) (sym words.0) (le_refl w.clock)) (subst (λ (k : ℕ). w.done ≤ k) (sym words.2) (le_refl w.done)) words.4;
@@ -214,61 +214,61 @@ module _ (good : (ℕ → ℕ) → Type 0) (c : Config) where
         v : View
         v = view_after kind w (w.views n) (answer kind w)
 
-    orec_looks-next : (q : ℕ) → (w : World) → OrecWorld good c w → HasOrec (w.views n) → Nexts (orec_scene w) (scene_put w (world_after (orec_look q) n w) n (view_after (orec_look q) w (w.views n) (answer (orec_look q) w)))
-    orec_looks-next q w r may = quiet (home_of c) c.words (orec_scene w) n (orec_view (w.views n)) refl (r.runs.own n) (full-world w r)
+    orec_looks-next : (q : ℕ) → (w : World) → OrecWorld good c w → HasOrec (w.views n) → Nexts (orec_projection w) (projection_put w (world_after (orec_look q) n w) n (view_after (orec_look q) w (w.views n) (answer (orec_look q) w)))
+    orec_looks-next q w r may = quiet (home_of c) c.words (orec_projection w) n (orec_view (w.views n)) refl (r.runs.own n) (full-world w r)
 
     pub orec_looks : (q : ℕ) → StepLaw (OrecWorld good c) (orec_look q) Nothing n HasOrec
     orec_looks q w r may = plainly (orec_look q) Nothing w r may.runs.phase (refl, refl, refl, refl, refl) (refl, refl, refl) (record { lock = refl; taken = refl; phase = refl; inside = refl; writer = refl })
         (orec_looks-next q w r may).0
         tt
 
-    orec_limits-next : (w : World) → OrecWorld good c w → HasOrec (w.views n) → Nexts (orec_scene w) (scene_put w (world_after orec_limit n w) n (view_after orec_limit w (w.views n) (answer orec_limit w)))
-    orec_limits-next w r may = quiet (home_of c) c.words (orec_scene w) n (orec_view (w.views n)) refl (r.runs.own n) (full-world w r)
+    orec_limits-next : (w : World) → OrecWorld good c w → HasOrec (w.views n) → Nexts (orec_projection w) (projection_put w (world_after orec_limit n w) n (view_after orec_limit w (w.views n) (answer orec_limit w)))
+    orec_limits-next w r may = quiet (home_of c) c.words (orec_projection w) n (orec_view (w.views n)) refl (r.runs.own n) (full-world w r)
 
     pub orec_limits : StepLaw (OrecWorld good c) orec_limit OrecClocks n HasOrec
     orec_limits w r may = plainly orec_limit OrecClocks w r may.runs.phase (refl, refl, refl, refl, refl) (refl, refl, refl) (record { lock = refl; taken = refl; phase = refl; inside = refl; writer = refl })
         (orec_limits-next w r may).0
-        (record { sampled = reading.sample-old (home_of c) c.words (orec_scene w) n (full-world w r) may.inside })
+        (record { sampled = reading.sample-old (home_of c) c.words (orec_projection w) n (full-world w r) may.inside })
 
-    orec_samples-next : (q : ℕ) → (a : ℕ) → (w : World) → OrecWorld good c w → (CanOrecSample (home_of c) q a) (w.views n) → Nexts (orec_scene w) (scene_put w (world_after (orec_sample q a) n w) n (view_after (orec_sample q a) w (w.views n) (answer (orec_sample q a) w)))
+    orec_samples-next : (q : ℕ) → (a : ℕ) → (w : World) → OrecWorld good c w → (CanOrecSample (home_of c) q a) (w.views n) → Nexts (orec_projection w) (projection_put w (world_after (orec_sample q a) n w) n (view_after (orec_sample q a) w (w.views n) (answer (orec_sample q a) w)))
     orec_samples-next q a w r may = go (is_owned (w.records q)) refl
       where
-        go : (b : Bool) → is_owned (w.records q) ≡ b → Nexts (orec_scene w) (with_view (home_of c) c.words (orec_scene w) n (record (orec_view (w.views n)) { sample = if b then no_sample else record { sampled = true; loaded = false; from = a; version = version_of (w.records q); value = 0 } }))
-        go true e = reading.unsample-kept (home_of c) c.words (orec_scene w) n (full-world w r)
-        go false e = reading.sample-kept (home_of c) c.words (orec_scene w) n a (version_of (w.records q)) (ap (λ (k : ℕ). rec_of (w.records k)) may.its ∙ rec-free (w.records q) e) (full-world w r)
+        go : (b : Bool) → is_owned (w.records q) ≡ b → Nexts (orec_projection w) (with_view (home_of c) c.words (orec_projection w) n (record (orec_view (w.views n)) { sample = if b then no_sample else record { sampled = true; loaded = false; from = a; version = version_of (w.records q); value = 0 } }))
+        go true e = reading.unsample-kept (home_of c) c.words (orec_projection w) n (full-world w r)
+        go false e = reading.sample-kept (home_of c) c.words (orec_projection w) n a (version_of (w.records q)) (ap (λ (k : ℕ). rec_of (w.records k)) may.its ∙ rec-free (w.records q) e) (full-world w r)
 
     pub orec_samples : (q : ℕ) → (a : ℕ) → StepLaw (OrecWorld good c) (orec_sample q a) Nothing n (CanOrecSample (home_of c) q a)
     orec_samples q a w r may = plainly (orec_sample q a) Nothing w r may.has.runs.phase (refl, refl, refl, refl, refl) (refl, refl, refl) (record { lock = refl; taken = refl; phase = refl; inside = refl; writer = refl })
         (orec_samples-next q a w r may).0
         tt
 
-    orec_loads-next : (a : ℕ) → (w : World) → OrecWorld good c w → (CanOrecLoad a) (w.views n) → Nexts (orec_scene w) (scene_put w (world_after (orec_load a) n w) n (view_after (orec_load a) w (w.views n) (answer (orec_load a) w)))
-    orec_loads-next a w r may = reading.load-kept (home_of c) c.words (orec_scene w) n a may.has.inside may.sampled may.from may.version (full-world w r)
+    orec_loads-next : (a : ℕ) → (w : World) → OrecWorld good c w → (CanOrecLoad a) (w.views n) → Nexts (orec_projection w) (projection_put w (world_after (orec_load a) n w) n (view_after (orec_load a) w (w.views n) (answer (orec_load a) w)))
+    orec_loads-next a w r may = reading.load-kept (home_of c) c.words (orec_projection w) n a may.has.inside may.sampled may.from may.version (full-world w r)
 
     pub orec_loads : (a : ℕ) → StepLaw (OrecWorld good c) (orec_load a) Nothing n (CanOrecLoad a)
     orec_loads a w r may = plainly (orec_load a) Nothing w r may.has.runs.phase (refl, refl, refl, refl, refl) (refl, refl, refl) (record { lock = refl; taken = refl; phase = refl; inside = refl; writer = refl })
         (orec_loads-next a w r may).0
         tt
 
-    orec_confirms-next : (q : ℕ) → (w : World) → OrecWorld good c w → (CanOrecConfirm (home_of c) c.words q) (w.views n) → Nexts (orec_scene w) (scene_put w (world_after (orec_confirm q) n w) n (view_after (orec_confirm q) w (w.views n) (answer (orec_confirm q) w)))
+    orec_confirms-next : (q : ℕ) → (w : World) → OrecWorld good c w → (CanOrecConfirm (home_of c) c.words q) (w.views n) → Nexts (orec_projection w) (projection_put w (world_after (orec_confirm q) n w) n (view_after (orec_confirm q) w (w.views n) (answer (orec_confirm q) w)))
     orec_confirms-next q w r may = go (w.records q == free_record (w.views n).sample.version) (λ e. eqb-true (w.records q) (free_record (w.views n).sample.version) e)
       where
         value : w.records q ≡ free_record (w.views n).sample.version → (w.views n).sample.value ≡ word_at w.history (w.views n).attempt.start (w.views n).sample.from
-        value e = reading.confirmed (home_of c) c.words (orec_scene w) n may.opens.has.inside may.loaded (ap (λ (k : ℕ). rec_of (w.records k)) may.its ∙ ap rec_of e ∙ rec_of-free (w.views n).sample.version) (full-world w r)
+        value e = reading.confirmed (home_of c) c.words (orec_projection w) n may.opens.has.inside may.loaded (ap (λ (k : ℕ). rec_of (w.records k)) may.its ∙ ap rec_of e ∙ rec_of-free (w.views n).sample.version) (full-world w r)
 
         reads : Bool → List Cell
         reads b = if b then record { at = (w.views n).sample.from; value = (w.views n).sample.value } ∷ (w.views n).attempt.reads else (w.views n).attempt.reads
 
-        own : OwnReads c.words (orec_scene w) (w.views n).attempt
+        own : OwnReads c.words (orec_projection w) (w.views n).attempt
         own = (r.runs.own n may.opens.has.inside).attempt
 
         sees : (b : Bool) → (b ≡ true → w.records q ≡ free_record (w.views n).sample.version) → (a : ℕ) → over (reads b) a (word_at w.history (w.views n).attempt.start a) ≡ word_at w.history (w.views n).attempt.start a
         sees true e a = grind (arith, own.sees a, value (e refl))
         sees false e a = own.sees a
 
-        go : (b : Bool) → (b ≡ true → w.records q ≡ free_record (w.views n).sample.version) → Nexts (orec_scene w) (with_view (home_of c) c.words (orec_scene w) n (record (orec_view (w.views n)) { attempt = record (w.views n).attempt { reads = reads b }; sample = no_sample; check = no_check }))
-        go true e = reading.read-kept (home_of c) c.words (orec_scene w) n (w.views n).sample.from (w.views n).sample.value may.inside (λ i. value (e refl)) (full-world w r)
-        go false e = reading.forget-kept (home_of c) c.words (orec_scene w) n (full-world w r)
+        go : (b : Bool) → (b ≡ true → w.records q ≡ free_record (w.views n).sample.version) → Nexts (orec_projection w) (with_view (home_of c) c.words (orec_projection w) n (record (orec_view (w.views n)) { attempt = record (w.views n).attempt { reads = reads b }; sample = no_sample; check = no_check }))
+        go true e = reading.read-kept (home_of c) c.words (orec_projection w) n (w.views n).sample.from (w.views n).sample.value may.inside (λ i. value (e refl)) (full-world w r)
+        go false e = reading.forget-kept (home_of c) c.words (orec_projection w) n (full-world w r)
 
     pub orec_confirms : (q : ℕ) → StepLaw (OrecWorld good c) (orec_confirm q) (OrecConfirms good c) n (CanOrecConfirm (home_of c) c.words q)
     orec_confirms q w r may = plainly (orec_confirm q) (OrecConfirms good c) w r may.opens.has.runs.phase (refl, refl, refl, refl, refl) (refl, refl, refl) (record { lock = refl; taken = refl; phase = refl; inside = refl; writer = refl })
@@ -276,45 +276,45 @@ module _ (good : (ℕ → ℕ) → Type 0) (c : Config) where
         (record { value = λ e. value e ∙ sym (seen_word w r may.opens.has.inside may.opens.open_yet (w.views n).sample.from); sees = sees_of w r may.opens.has.inside may.opens.open_yet (confirms (w.records q) (w.views n)) (sees (w.records q == free_record (w.views n).sample.version) (λ e. eqb-true (w.records q) (free_record (w.views n).sample.version) e)) })
       where
         value : w.records q ≡ free_record (w.views n).sample.version → (w.views n).sample.value ≡ word_at w.history (w.views n).attempt.start (w.views n).sample.from
-        value e = reading.confirmed (home_of c) c.words (orec_scene w) n may.opens.has.inside may.loaded (ap (λ (k : ℕ). rec_of (w.records k)) may.its ∙ ap rec_of e ∙ rec_of-free (w.views n).sample.version) (full-world w r)
+        value e = reading.confirmed (home_of c) c.words (orec_projection w) n may.opens.has.inside may.loaded (ap (λ (k : ℕ). rec_of (w.records k)) may.its ∙ ap rec_of e ∙ rec_of-free (w.views n).sample.version) (full-world w r)
 
         reads : Bool → List Cell
         reads b = if b then record { at = (w.views n).sample.from; value = (w.views n).sample.value } ∷ (w.views n).attempt.reads else (w.views n).attempt.reads
 
-        own : OwnReads c.words (orec_scene w) (w.views n).attempt
+        own : OwnReads c.words (orec_projection w) (w.views n).attempt
         own = (r.runs.own n may.opens.has.inside).attempt
 
         sees : (b : Bool) → (b ≡ true → w.records q ≡ free_record (w.views n).sample.version) → (a : ℕ) → over (reads b) a (word_at w.history (w.views n).attempt.start a) ≡ word_at w.history (w.views n).attempt.start a
         sees true e a = grind (arith, own.sees a, value (e refl))
         sees false e a = own.sees a
 
-    orec_clocks-next : (todo : List Cell) → (w : World) → OrecWorld good c w → (CanOrecClock (home_of c) todo) (w.views n) → Nexts (orec_scene w) (scene_put w (world_after (orec_clock todo) n w) n (view_after (orec_clock todo) w (w.views n) (answer (orec_clock todo) w)))
-    orec_clocks-next todo w r may = reading.begin-kept (home_of c) c.words (orec_scene w) n todo may.opens.open_yet may.mine may.old (full-world w r)
+    orec_clocks-next : (todo : List Cell) → (w : World) → OrecWorld good c w → (CanOrecClock (home_of c) todo) (w.views n) → Nexts (orec_projection w) (projection_put w (world_after (orec_clock todo) n w) n (view_after (orec_clock todo) w (w.views n) (answer (orec_clock todo) w)))
+    orec_clocks-next todo w r may = reading.begin-kept (home_of c) c.words (orec_projection w) n todo may.opens.open_yet may.mine may.old (full-world w r)
 
     pub orec_clocks : (todo : List Cell) → StepLaw (OrecWorld good c) (orec_clock todo) OrecClocks n (CanOrecClock (home_of c) todo)
     orec_clocks todo w r may = plainly (orec_clock todo) OrecClocks w r may.opens.has.runs.phase (refl, refl, refl, refl, refl) (refl, refl, refl) (record { lock = refl; taken = refl; phase = refl; inside = refl; writer = refl })
         (orec_clocks-next todo w r may).0
-        (record { sampled = reading.sample-old (home_of c) c.words (orec_scene w) n (full-world w r) may.opens.has.inside })
+        (record { sampled = reading.sample-old (home_of c) c.words (orec_projection w) n (full-world w r) may.opens.has.inside })
 
-    orec_passes-next : (q : ℕ) → (b : ℕ) → (w : World) → OrecWorld good c w → (CanOrecPass (home_of c) q b) (w.views n) → Nexts (orec_scene w) (scene_put w (world_after (orec_pass q b) n w) n (view_after (orec_pass q b) w (w.views n) (answer (orec_pass q b) w)))
+    orec_passes-next : (q : ℕ) → (b : ℕ) → (w : World) → OrecWorld good c w → (CanOrecPass (home_of c) q b) (w.views n) → Nexts (orec_projection w) (projection_put w (world_after (orec_pass q b) n w) n (view_after (orec_pass q b) w (w.views n) (answer (orec_pass q b) w)))
     orec_passes-next q b w r may = go (passes (w.records q) (w.views n)) refl
       where
-        go : (t : Bool) → passes (w.records q) (w.views n) ≡ t → Nexts (orec_scene w) (with_view (home_of c) c.words (orec_scene w) n (record (orec_view (w.views n)) { check = if t then passed b (w.views n).check else no_check }))
-        go true e = let p = passed-at (w.records q) (w.views n) e in reading.pass-kept (home_of c) c.words (orec_scene w) n b (version_of (w.records q)) (ap (λ (k : ℕ). rec_of (w.records k)) may.its ∙ rec-free (w.records q) p.0) p.1 (full-world w r)
-        go false e = reading.uncheck-kept (home_of c) c.words (orec_scene w) n (full-world w r)
+        go : (t : Bool) → passes (w.records q) (w.views n) ≡ t → Nexts (orec_projection w) (with_view (home_of c) c.words (orec_projection w) n (record (orec_view (w.views n)) { check = if t then passed b (w.views n).check else no_check }))
+        go true e = let p = passed-at (w.records q) (w.views n) e in reading.pass-kept (home_of c) c.words (orec_projection w) n b (version_of (w.records q)) (ap (λ (k : ℕ). rec_of (w.records k)) may.its ∙ rec-free (w.records q) p.0) p.1 (full-world w r)
+        go false e = reading.uncheck-kept (home_of c) c.words (orec_projection w) n (full-world w r)
 
     pub orec_passes : (q : ℕ) → (b : ℕ) → StepLaw (OrecWorld good c) (orec_pass q b) Nothing n (CanOrecPass (home_of c) q b)
     orec_passes q b w r may = plainly (orec_pass q b) Nothing w r may.has.runs.phase (refl, refl, refl, refl, refl) (refl, refl, refl) (record { lock = refl; taken = refl; phase = refl; inside = refl; writer = refl })
         (orec_passes-next q b w r may).0
         tt
 
-    orec_own_loads-next : (a : ℕ) → (w : World) → OrecWorld good c w → (CanOrecOwnLoad (home_of c) c.words a) (w.views n) → Nexts (orec_scene w) (scene_put w (world_after (orec_own_load a) n w) n (view_after (orec_own_load a) w (w.views n) (answer (orec_own_load a) w)))
-    orec_own_loads-next a w r may = reading.read-kept (home_of c) c.words (orec_scene w) n a (w.heap a) may.inside (λ i. value) (full-world w r)
+    orec_own_loads-next : (a : ℕ) → (w : World) → OrecWorld good c w → (CanOrecOwnLoad (home_of c) c.words a) (w.views n) → Nexts (orec_projection w) (projection_put w (world_after (orec_own_load a) n w) n (view_after (orec_own_load a) w (w.views n) (answer (orec_own_load a) w)))
+    orec_own_loads-next a w r may = reading.read-kept (home_of c) c.words (orec_projection w) n a (w.heap a) may.inside (λ i. value) (full-world w r)
       where
         value : w.heap a ≡ word_at w.history (w.views n).attempt.start a
-        value = reading.own-value (home_of c) c.words (orec_scene w) n a may.opens.has.inside may.opens.open_yet may.eager may.held may.unwritten (full-world w r)
+        value = reading.own-value (home_of c) c.words (orec_projection w) n a may.opens.has.inside may.opens.open_yet may.eager may.held may.unwritten (full-world w r)
 
-        own : OwnReads c.words (orec_scene w) (w.views n).attempt
+        own : OwnReads c.words (orec_projection w) (w.views n).attempt
         own = (r.runs.own n may.opens.has.inside).attempt
 
         sees : (b : ℕ) → over (record { at = a; value = w.heap a } ∷ (w.views n).attempt.reads) b (word_at w.history (w.views n).attempt.start b) ≡ word_at w.history (w.views n).attempt.start b
@@ -326,96 +326,96 @@ module _ (good : (ℕ → ℕ) → Type 0) (c : Config) where
         (record { value = value ∙ sym (seen_word w r may.opens.has.inside may.opens.open_yet a); sees = sees_of w r may.opens.has.inside may.opens.open_yet (record { at = a; value = w.heap a } ∷ (w.views n).attempt.reads) sees })
       where
         value : w.heap a ≡ word_at w.history (w.views n).attempt.start a
-        value = reading.own-value (home_of c) c.words (orec_scene w) n a may.opens.has.inside may.opens.open_yet may.eager may.held may.unwritten (full-world w r)
+        value = reading.own-value (home_of c) c.words (orec_projection w) n a may.opens.has.inside may.opens.open_yet may.eager may.held may.unwritten (full-world w r)
 
-        own : OwnReads c.words (orec_scene w) (w.views n).attempt
+        own : OwnReads c.words (orec_projection w) (w.views n).attempt
         own = (r.runs.own n may.opens.has.inside).attempt
 
         sees : (b : ℕ) → over (record { at = a; value = w.heap a } ∷ (w.views n).attempt.reads) b (word_at w.history (w.views n).attempt.start b) ≡ word_at w.history (w.views n).attempt.start b
         sees b = grind (arith, own.sees b, value)
 
-    orec_saves-next : (a : ℕ) → (w : World) → OrecWorld good c w → (CanOrecSave (home_of c) a) (w.views n) → Nexts (orec_scene w) (scene_put w (world_after (orec_save a) n w) n (view_after (orec_save a) w (w.views n) (answer (orec_save a) w)))
-    orec_saves-next a w r may = owning.save-kept (home_of c) c.words (orec_scene w) n a may.opens.has.inside may.held may.opens.open_yet may.unwritten (full-world w r)
+    orec_saves-next : (a : ℕ) → (w : World) → OrecWorld good c w → (CanOrecSave (home_of c) a) (w.views n) → Nexts (orec_projection w) (projection_put w (world_after (orec_save a) n w) n (view_after (orec_save a) w (w.views n) (answer (orec_save a) w)))
+    orec_saves-next a w r may = owning.save-kept (home_of c) c.words (orec_projection w) n a may.opens.has.inside may.held may.opens.open_yet may.unwritten (full-world w r)
 
     pub orec_saves : (a : ℕ) → StepLaw (OrecWorld good c) (orec_save a) Nothing n (CanOrecSave (home_of c) a)
     orec_saves a w r may = plainly (orec_save a) Nothing w r may.opens.has.runs.phase (refl, refl, refl, refl, refl) (refl, refl, refl) (record { lock = refl; taken = refl; phase = refl; inside = refl; writer = refl })
         (orec_saves-next a w r may).0
         tt
 
-    orec_places-next : (a : ℕ) → (k : ℕ) → (w : World) → OrecWorld good c w → (CanOrecPlace a) (w.views n) → Nexts (orec_scene w) (scene_put w (world_after (orec_place a k) n w) n (view_after (orec_place a k) w (w.views n) (answer (orec_place a k) w)))
-    orec_places-next a k w r may = owning.place-kept (home_of c) c.words (orec_scene w) n a k may.opens.has.inside may.eager may.opens.open_yet may.undoable (full-world w r)
+    orec_places-next : (a : ℕ) → (k : ℕ) → (w : World) → OrecWorld good c w → (CanOrecPlace a) (w.views n) → Nexts (orec_projection w) (projection_put w (world_after (orec_place a k) n w) n (view_after (orec_place a k) w (w.views n) (answer (orec_place a k) w)))
+    orec_places-next a k w r may = owning.place-kept (home_of c) c.words (orec_projection w) n a k may.opens.has.inside may.eager may.opens.open_yet may.undoable (full-world w r)
 
     pub orec_places : (a : ℕ) → (k : ℕ) → StepLaw (OrecWorld good c) (orec_place a k) Nothing n (CanOrecPlace a)
     orec_places a k w r may = plainly (orec_place a k) Nothing w r may.opens.has.runs.phase (refl, refl, refl, refl, refl) (refl, refl, refl) (record { lock = refl; taken = refl; phase = refl; inside = refl; writer = refl })
         (orec_places-next a k w r may).0
         tt
 
-    orec_restores-next : (a : ℕ) → (k : ℕ) → (w : World) → OrecWorld good c w → (CanOrecRestore a k) (w.views n) → Nexts (orec_scene w) (scene_put w (world_after (orec_restore a k) n w) n (view_after (orec_restore a k) w (w.views n) (answer (orec_restore a k) w)))
-    orec_restores-next a k w r may = owning.restore-kept (home_of c) c.words (orec_scene w) n a k may.has.inside may.logged may.value (full-world w r)
+    orec_restores-next : (a : ℕ) → (k : ℕ) → (w : World) → OrecWorld good c w → (CanOrecRestore a k) (w.views n) → Nexts (orec_projection w) (projection_put w (world_after (orec_restore a k) n w) n (view_after (orec_restore a k) w (w.views n) (answer (orec_restore a k) w)))
+    orec_restores-next a k w r may = owning.restore-kept (home_of c) c.words (orec_projection w) n a k may.has.inside may.logged may.value (full-world w r)
 
     pub orec_restores : (a : ℕ) → (k : ℕ) → StepLaw (OrecWorld good c) (orec_restore a k) Nothing n (CanOrecRestore a k)
     orec_restores a k w r may = plainly (orec_restore a k) Nothing w r may.has.runs.phase (refl, refl, refl, refl, refl) (refl, refl, refl) (record { lock = refl; taken = refl; phase = refl; inside = refl; writer = refl })
         (orec_restores-next a k w r may).0
         tt
 
-    orec_writes_back-next : (a : ℕ) → (k : ℕ) → (w : World) → OrecWorld good c w → (CanOrecWriteBack a k) (w.views n) → Nexts (orec_scene w) (scene_put w (world_after (orec_write_back a k) n w) n (view_after (orec_write_back a k) w (w.views n) (answer (orec_write_back a k) w)))
-    orec_writes_back-next a k w r may = owning.write_back-kept (home_of c) c.words (orec_scene w) n a k may.has.inside may.owed may.value (full-world w r)
+    orec_writes_back-next : (a : ℕ) → (k : ℕ) → (w : World) → OrecWorld good c w → (CanOrecWriteBack a k) (w.views n) → Nexts (orec_projection w) (projection_put w (world_after (orec_write_back a k) n w) n (view_after (orec_write_back a k) w (w.views n) (answer (orec_write_back a k) w)))
+    orec_writes_back-next a k w r may = owning.write_back-kept (home_of c) c.words (orec_projection w) n a k may.has.inside may.owed may.value (full-world w r)
 
     pub orec_writes_back : (a : ℕ) → (k : ℕ) → StepLaw (OrecWorld good c) (orec_write_back a k) Nothing n (CanOrecWriteBack a k)
     orec_writes_back a k w r may = plainly (orec_write_back a k) Nothing w r may.has.runs.phase (refl, refl, refl, refl, refl) (refl, refl, refl) (record { lock = refl; taken = refl; phase = refl; inside = refl; writer = refl })
         (orec_writes_back-next a k w r may).0
         tt
 
-    orec_locks-next : (q : ℕ) → (version : ℕ) → (w : World) → OrecWorld good c w → (CanOrecLock version) (w.views n) → Nexts (orec_scene w) (scene_put w (world_after (orec_lock n q version) n w) n (view_after (orec_lock n q version) w (w.views n) (answer (orec_lock n q version) w)))
+    orec_locks-next : (q : ℕ) → (version : ℕ) → (w : World) → OrecWorld good c w → (CanOrecLock version) (w.views n) → Nexts (orec_projection w) (projection_put w (world_after (orec_lock n q version) n w) n (view_after (orec_lock n q version) w (w.views n) (answer (orec_lock n q version) w)))
     orec_locks-next q version w r may = go (w.records q == free_record version) (λ e. eqb-true (w.records q) (free_record version) e)
       where
-        go : (b : Bool) → (b ≡ true → w.records q ≡ free_record version) → Nexts (orec_scene w) (record (orec_scene w) { records = parts rec_of (put w.records q (if b then owned_record n else w.records q)); views = put (orec_scene w).views n (record (orec_view (w.views n)) { owned = if b then holding q version (w.views n).owned else (w.views n).owned }) })
-        go true e = subst (λ (k : ℕ → Rec). Nexts (orec_scene w) (record (orec_scene w) { records = k; views = put (orec_scene w).views n (record (orec_view (w.views n)) { owned = holding q version (w.views n).owned }) })) (sym (records_put w q (owned_record n) (Taken n) (rec_of-owned n)))
-            (owning.lock-kept (home_of c) c.words (orec_scene w) n q version may.opens.has.inside may.opens.open_yet may.unraised (ap rec_of (e refl) ∙ rec_of-free version) may.new (full-world w r))
-        go false e = subst (λ (k : ℕ → Rec). Nexts (orec_scene w) (record (orec_scene w) { records = k; views = put (orec_scene w).views n (orec_view (w.views n)) })) (sym (parts-kept rec_of w.records q (w.records q) refl))
-            (quiet (home_of c) c.words (orec_scene w) n (orec_view (w.views n)) refl (r.runs.own n) (full-world w r))
+        go : (b : Bool) → (b ≡ true → w.records q ≡ free_record version) → Nexts (orec_projection w) (record (orec_projection w) { records = parts rec_of (put w.records q (if b then owned_record n else w.records q)); views = put (orec_projection w).views n (record (orec_view (w.views n)) { owned = if b then holding q version (w.views n).owned else (w.views n).owned }) })
+        go true e = subst (λ (k : ℕ → Rec). Nexts (orec_projection w) (record (orec_projection w) { records = k; views = put (orec_projection w).views n (record (orec_view (w.views n)) { owned = holding q version (w.views n).owned }) })) (sym (records_put w q (owned_record n) (Taken n) (rec_of-owned n)))
+            (owning.lock-kept (home_of c) c.words (orec_projection w) n q version may.opens.has.inside may.opens.open_yet may.unraised (ap rec_of (e refl) ∙ rec_of-free version) may.new (full-world w r))
+        go false e = subst (λ (k : ℕ → Rec). Nexts (orec_projection w) (record (orec_projection w) { records = k; views = put (orec_projection w).views n (orec_view (w.views n)) })) (sym (parts-kept rec_of w.records q (w.records q) refl))
+            (quiet (home_of c) c.words (orec_projection w) n (orec_view (w.views n)) refl (r.runs.own n) (full-world w r))
 
     pub orec_locks : (q : ℕ) → (version : ℕ) → StepLaw (OrecWorld good c) (orec_lock n q version) Nothing n (CanOrecLock version)
     orec_locks q version w r may = plainly (orec_lock n q version) Nothing w r may.opens.has.runs.phase (refl, refl, refl, refl, refl) (refl, refl, refl) (record { lock = refl; taken = refl; phase = refl; inside = refl; writer = refl })
         (orec_locks-next q version w r may).0
         tt
 
-    orec_times-next : (q : ℕ) → (version : ℕ) → (w : World) → OrecWorld good c w → (CanOrecTime (home_of c) q version) (w.views n) → Nexts (orec_scene w) (scene_put w (world_after (orec_release q version) n w) n (view_after (orec_release q version) w (w.views n) (answer (orec_release q version) w)))
-    orec_times-next q version w r may = subst (λ (k : ℕ → Rec). Nexts (orec_scene w) (record (orec_scene w) { records = k; views = put (orec_scene w).views n (record (orec_view (w.views n)) { owned = released q (w.views n).owned }) })) (sym (records_put w q (free_record version) (Free version) (rec_of-free version)))
-        (owning.release_time-kept (home_of c) c.words (orec_scene w) n q version may.gives.has.inside may.gives.held may.gives.clear may.done may.time (full-world w r))
+    orec_times-next : (q : ℕ) → (version : ℕ) → (w : World) → OrecWorld good c w → (CanOrecTime (home_of c) q version) (w.views n) → Nexts (orec_projection w) (projection_put w (world_after (orec_release q version) n w) n (view_after (orec_release q version) w (w.views n) (answer (orec_release q version) w)))
+    orec_times-next q version w r may = subst (λ (k : ℕ → Rec). Nexts (orec_projection w) (record (orec_projection w) { records = k; views = put (orec_projection w).views n (record (orec_view (w.views n)) { owned = released q (w.views n).owned }) })) (sym (records_put w q (free_record version) (Free version) (rec_of-free version)))
+        (owning.release_time-kept (home_of c) c.words (orec_projection w) n q version may.gives.has.inside may.gives.held may.gives.clear may.done may.time (full-world w r))
 
     pub orec_times : (q : ℕ) → (version : ℕ) → StepLaw (OrecWorld good c) (orec_release q version) Nothing n (CanOrecTime (home_of c) q version)
     orec_times q version w r may = plainly (orec_release q version) Nothing w r may.gives.has.runs.phase (refl, refl, refl, refl, refl) (refl, refl, refl) (record { lock = refl; taken = refl; phase = refl; inside = refl; writer = refl })
         (orec_times-next q version w r may).0
         tt
 
-    orec_olds-next : (q : ℕ) → (version : ℕ) → (w : World) → OrecWorld good c w → (CanOrecOld (home_of c) q version) (w.views n) → Nexts (orec_scene w) (scene_put w (world_after (orec_release q version) n w) n (view_after (orec_release q version) w (w.views n) (answer (orec_release q version) w)))
-    orec_olds-next q version w r may = subst (λ (k : ℕ → Rec). Nexts (orec_scene w) (record (orec_scene w) { records = k; views = put (orec_scene w).views n (record (orec_view (w.views n)) { owned = released q (w.views n).owned }) })) (sym (records_put w q (free_record version) (Free version) (rec_of-free version)))
-        (owning.release_old-kept (home_of c) c.words (orec_scene w) n q version may.gives.has.inside may.gives.held may.gives.clear may.undone may.lazy may.old (full-world w r))
+    orec_olds-next : (q : ℕ) → (version : ℕ) → (w : World) → OrecWorld good c w → (CanOrecOld (home_of c) q version) (w.views n) → Nexts (orec_projection w) (projection_put w (world_after (orec_release q version) n w) n (view_after (orec_release q version) w (w.views n) (answer (orec_release q version) w)))
+    orec_olds-next q version w r may = subst (λ (k : ℕ → Rec). Nexts (orec_projection w) (record (orec_projection w) { records = k; views = put (orec_projection w).views n (record (orec_view (w.views n)) { owned = released q (w.views n).owned }) })) (sym (records_put w q (free_record version) (Free version) (rec_of-free version)))
+        (owning.release_old-kept (home_of c) c.words (orec_projection w) n q version may.gives.has.inside may.gives.held may.gives.clear may.undone may.lazy may.old (full-world w r))
 
     pub orec_olds : (q : ℕ) → (version : ℕ) → StepLaw (OrecWorld good c) (orec_release q version) Nothing n (CanOrecOld (home_of c) q version)
     orec_olds q version w r may = plainly (orec_release q version) Nothing w r may.gives.has.runs.phase (refl, refl, refl, refl, refl) (refl, refl, refl) (record { lock = refl; taken = refl; phase = refl; inside = refl; writer = refl })
         (orec_olds-next q version w r may).0
         tt
 
-    orec_ups-next : (q : ℕ) → (version : ℕ) → (w : World) → OrecWorld good c w → (CanOrecUp (home_of c) q version) (w.views n) → Nexts (orec_scene w) (scene_put w (world_after (orec_release q version) n w) n (view_after (orec_release q version) w (w.views n) (answer (orec_release q version) w)))
-    orec_ups-next q version w r may = subst (λ (k : ℕ → Rec). Nexts (orec_scene w) (record (orec_scene w) { records = k; views = put (orec_scene w).views n (record (orec_view (w.views n)) { owned = released q (w.views n).owned }) })) (sym (records_put w q (free_record version) (Free version) (rec_of-free version)))
-        (owning.release_up-kept (home_of c) c.words (orec_scene w) n q version may.gives.has.inside may.gives.held may.gives.clear may.undone may.raised may.next (full-world w r))
+    orec_ups-next : (q : ℕ) → (version : ℕ) → (w : World) → OrecWorld good c w → (CanOrecUp (home_of c) q version) (w.views n) → Nexts (orec_projection w) (projection_put w (world_after (orec_release q version) n w) n (view_after (orec_release q version) w (w.views n) (answer (orec_release q version) w)))
+    orec_ups-next q version w r may = subst (λ (k : ℕ → Rec). Nexts (orec_projection w) (record (orec_projection w) { records = k; views = put (orec_projection w).views n (record (orec_view (w.views n)) { owned = released q (w.views n).owned }) })) (sym (records_put w q (free_record version) (Free version) (rec_of-free version)))
+        (owning.release_up-kept (home_of c) c.words (orec_projection w) n q version may.gives.has.inside may.gives.held may.gives.clear may.undone may.raised may.next (full-world w r))
 
     pub orec_ups : (q : ℕ) → (version : ℕ) → StepLaw (OrecWorld good c) (orec_release q version) Nothing n (CanOrecUp (home_of c) q version)
     orec_ups q version w r may = plainly (orec_release q version) Nothing w r may.gives.has.runs.phase (refl, refl, refl, refl, refl) (refl, refl, refl) (record { lock = refl; taken = refl; phase = refl; inside = refl; writer = refl })
         (orec_ups-next q version w r may).0
         tt
 
-    orec_clocks_all-next : (w : World) → OrecWorld good c w → CanOrecClock (home_of c) [] (w.views n) → Nexts (orec_scene w) (scene_put w (world_after orec_clock_all n w) n (view_after orec_clock_all w (w.views n) w.clock))
-    orec_clocks_all-next w r may = reading.all-kept (home_of c) c.words (orec_scene w) n may.opens.open_yet (λ a t. may.mine a t refl) (λ a t. may.old a t refl) (full-world w r)
+    orec_clocks_all-next : (w : World) → OrecWorld good c w → CanOrecClock (home_of c) [] (w.views n) → Nexts (orec_projection w) (projection_put w (world_after orec_clock_all n w) n (view_after orec_clock_all w (w.views n) w.clock))
+    orec_clocks_all-next w r may = reading.all-kept (home_of c) c.words (orec_projection w) n may.opens.open_yet (λ a t. may.mine a t refl) (λ a t. may.old a t refl) (full-world w r)
 
     pub orec_clocks_all : StepLaw (OrecWorld good c) orec_clock_all OrecClocks n (CanOrecClock (home_of c) [])
     orec_clocks_all w r may = record {
       rule = whole_of x (parts_of w x v refl (record { lock = refl; taken = refl; phase = refl; inside = refl; writer = refl }) may.opens.has.runs.phase (history-seen good c w x n v refl refl refl refl r.history)
           (orec_clocks_all-next w r may).0 r) (steps-kept c orec_clock_all n w refl refl refl r.steps);
       advances = advances-same w x refl (le_refl w.clock) (le_refl w.done) refl;
-      shown = record { sampled = reading.sample-old (home_of c) c.words (orec_scene w) n (full-world w r) may.opens.has.inside };
+      shown = record { sampled = reading.sample-old (home_of c) c.words (orec_projection w) n (full-world w r) may.opens.has.inside };
     }
       where
         x : World
@@ -437,16 +437,16 @@ module _ (good : (ℕ → ℕ) → Type 0) (c : Config) where
         at : Bool → World
         at t = record w { views = put w.views n (next t) }
 
-        own : Own (home_of c) c.words (orec_scene w) n (orec_view (w.views n))
+        own : Own (home_of c) c.words (orec_projection w) n (orec_view (w.views n))
         own = r.runs.own n may.opens.has.inside
 
         go : (t : Bool) → passes (w.records q) (w.views n) ≡ t → Parts (at t) × Ranks w (at t)
         go true e = let p = passed-at (w.records q) (w.views n) e in both_of w (at true) (next true) refl (record { lock = refl; taken = refl; phase = refl; inside = refl; writer = refl }) may.opens.has.runs.phase
             (history-upto good c w (at true) n (w.views n).check.upto (next true) refl refl refl refl (let s = own.front may.opens.open_yet in let u = own.check.onward may.checking in omega arith) (own.check.upto may.checking) r.history)
-            (reading.last-kept (home_of c) c.words (orec_scene w) n b (version_of (w.records q)) (ap (λ (k : ℕ). rec_of (w.records k)) may.its ∙ rec-free (w.records q) p.0) p.1 may.checking may.rest (full-world w r)) r
+            (reading.last-kept (home_of c) c.words (orec_projection w) n b (version_of (w.records q)) (ap (λ (k : ℕ). rec_of (w.records k)) may.its ∙ rec-free (w.records q) p.0) p.1 may.checking may.rest (full-world w r)) r
         go false e = both_of w (at false) (next false) refl (record { lock = refl; taken = refl; phase = refl; inside = refl; writer = refl }) may.opens.has.runs.phase
             (history-kept good c w (at false) n (next false) refl refl refl refl r.history)
-            (reading.uncheck-kept (home_of c) c.words (orec_scene w) n (full-world w r)) r
+            (reading.uncheck-kept (home_of c) c.words (orec_projection w) n (full-world w r)) r
 
     pub orec_lasts : (q b : ℕ) → StepLaw (OrecWorld good c) (orec_last q b) Nothing n (CanOrecLast (home_of c) q b)
     orec_lasts q b w r may = record {
@@ -455,23 +455,23 @@ module _ (good : (ℕ → ℕ) → Type 0) (c : Config) where
       shown = tt;
     }
 
-    orec_lifts-next : (least : ℕ) (w : World) → OrecWorld good c w → CanOrecLift least (w.views n) → Nexts (orec_scene w) (scene_put w (world_after (orec_lift least) n w) n (view_after (orec_lift least) w (w.views n) w.clock))
-    orec_lifts-next least w r may = owning.lift-kept (home_of c) c.words (orec_scene w) n (max w.clock least) may.has.inside may.restored (grind (arith, nat_tests)) (λ q t. let k = may.above q t in grind (arith, nat_tests)) (full-world w r)
+    orec_raises_clock-next : (least : ℕ) (w : World) → OrecWorld good c w → CanOrecRaiseClock least (w.views n) → Nexts (orec_projection w) (projection_put w (world_after (orec_raise_clock least) n w) n (view_after (orec_raise_clock least) w (w.views n) w.clock))
+    orec_raises_clock-next least w r may = owning.raise_clock-kept (home_of c) c.words (orec_projection w) n (max w.clock least) may.has.inside may.restored (grind (arith, nat_tests)) (λ q t. let k = may.above q t in grind (arith, nat_tests)) (full-world w r)
 
-    pub orec_lifts : (least : ℕ) → n < c.callers → StepLaw (OrecWorld good c) (orec_lift least) Nothing n (CanOrecLift least)
-    orec_lifts least low w r may = record {
+    pub orec_raises_clock : (least : ℕ) → n < c.callers → StepLaw (OrecWorld good c) (orec_raise_clock least) Nothing n (CanOrecRaiseClock least)
+    orec_raises_clock least low w r may = record {
       rule = whole_of x (parts_of w x v refl (record { lock = refl; taken = refl; phase = refl; inside = refl; writer = refl }) may.has.runs.phase
-          (subst (HistoryRule good c) (sym path) (history-raised good c (history_scene w) (max w.clock least) up limit r.history))
-          (orec_lifts-next least w r may).0 r) (steps (ltb w.clock least) refl);
+          (subst (HistoryRule good c) (sym path) (history-raised good c (history_projection w) (max w.clock least) up limit r.history))
+          (orec_raises_clock-next least w r may).0 r) (steps (ltb w.clock least) refl);
       advances = advances-same w x refl up (le_refl w.done) refl;
       shown = tt;
     }
       where
         x : World
-        x = world_after (orec_lift least) n w
+        x = world_after (orec_raise_clock least) n w
 
         v : View
-        v = view_after (orec_lift least) w (w.views n) w.clock
+        v = view_after (orec_raise_clock least) w (w.views n) w.clock
 
         -- at most one more
         most : least ≤ w.clock + 1
@@ -483,16 +483,16 @@ module _ (good : (ℕ → ℕ) → Type 0) (c : Config) where
         limit : max w.clock least ≤ CLOCK_LIMIT
         limit = let l = may.limit in let k = r.history.limit in grind (arith, nat_tests, l, k)
 
-        path : history_scene x ≡ record (history_scene w) { clock = max w.clock least }
+        path : history_projection x ≡ record (history_projection w) { clock = max w.clock least }
         path = λ i. record { clock = max w.clock least; history = w.history; views = parts-kept (λ (u : View). u.history) w.views n v refl i }
 
-        trail : (b : Bool) → (if b then record (w.views n).steps { rises = (w.views n).steps.rises + 1 } else (w.views n).steps).trail ≡ (w.views n).steps.trail
-        trail true = refl
-        trail false = refl
+        step_trace : (b : Bool) → (if b then record (w.views n).steps { rises = (w.views n).steps.rises + 1 } else (w.views n).steps).step_trace ≡ (w.views n).steps.step_trace
+        step_trace true = refl
+        step_trace false = refl
 
-        steps : (b : Bool) → ltb w.clock least ≡ b → StepsRule c (steps_scene x)
-        steps true q = steps-raised c (orec_lift least) n w 1 low (let m = most in grind (arith, nat_tests, q, m)) (trail (ltb w.clock least)) (ap (λ (b : Bool). (if b then record (w.views n).steps { rises = (w.views n).steps.rises + 1 } else (w.views n).steps).rises) q) r.steps
-        steps false q = steps-kept c (orec_lift least) n w (grind (arith, nat_tests, q)) (trail (ltb w.clock least)) (ap (λ (b : Bool). (if b then record (w.views n).steps { rises = (w.views n).steps.rises + 1 } else (w.views n).steps).rises) q) r.steps
+        steps : (b : Bool) → ltb w.clock least ≡ b → StepsRule c (steps_projection x)
+        steps true q = steps-raised c (orec_raise_clock least) n w 1 low (let m = most in grind (arith, nat_tests, q, m)) (step_trace (ltb w.clock least)) (ap (λ (b : Bool). (if b then record (w.views n).steps { rises = (w.views n).steps.rises + 1 } else (w.views n).steps).rises) q) r.steps
+        steps false q = steps-kept c (orec_raise_clock least) n w (grind (arith, nat_tests, q)) (step_trace (ltb w.clock least)) (ap (λ (b : Bool). (if b then record (w.views n).steps { rises = (w.views n).steps.rises + 1 } else (w.views n).steps).rises) q) r.steps
 
     -- the entry, or the exchange refused
     orec_commits-both : (start : ℕ) (writes back : List Cell) → n < c.callers → (w : World) → OrecWorld good c w → CanOrecCommit (home_of c) good c.words start writes back (w.views n) → Parts (world_after (orec_commit n start writes back) n w) × Ranks w (world_after (orec_commit n start writes back) n w)
@@ -510,13 +510,13 @@ module _ (good : (ℕ → ℕ) → Type 0) (c : Config) where
         at : Bool → World
         at b = record w { clock = if b then start + 1 else w.clock; history = if b then e ∷ w.history else w.history; views = put w.views n (next b) }
 
-        own : OwnReads c.words (orec_scene w) (w.views n).attempt
+        own : OwnReads c.words (orec_projection w) (w.views n).attempt
         own = (r.runs.own n may.has.inside).attempt
 
         go : (b : Bool) → (b ≡ true → w.clock ≡ start) → Parts (at b) × Ranks w (at b)
         go true q = both_of w (at true) (next true) refl (record { lock = refl; taken = refl; phase = refl; inside = refl; writer = refl }) may.has.runs.phase
             (history-entry good c w (at true) n e (next true) refl refl refl refl refl (let k = q refl in omega arith) may.limit follows r.history)
-            (owning.commit-kept (home_of c) c.words (orec_scene w) n e back may.has.inside (ap (λ k. k + 1) (sym (q refl))) may.ready (full-world w r)) r
+            (owning.commit-kept (home_of c) c.words (orec_projection w) n e back may.has.inside (ap (λ k. k + 1) (sym (q refl))) may.ready (full-world w r)) r
           where
             sees : Explains (word_now w.history) (w.views n).attempt.reads
             sees a = subst (λ (k : ℕ). over (w.views n).attempt.reads a k ≡ k) (word_at-all w.history (w.clock + 1) (w.views n).attempt.start a r.history.below (let k = q refl in let f = may.from in omega arith)) (own.sees a)
@@ -535,7 +535,7 @@ module _ (good : (ℕ → ℕ) → Type 0) (c : Config) where
             }
         go false q = both_of w (at false) (next false) refl (record { lock = refl; taken = refl; phase = refl; inside = refl; writer = refl }) may.has.runs.phase
             (history-kept good c w (at false) n (next false) refl refl refl refl r.history)
-            (quiet (home_of c) c.words (orec_scene w) n (orec_view (w.views n)) refl (r.runs.own n) (full-world w r)) r
+            (quiet (home_of c) c.words (orec_projection w) n (orec_view (w.views n)) refl (r.runs.own n) (full-world w r)) r
 
     pub orec_commits : (start : ℕ) (writes back : List Cell) → n < c.callers → StepLaw (OrecWorld good c) (orec_commit n start writes back) Nothing n (CanOrecCommit (home_of c) good c.words start writes back)
     orec_commits start writes back low w r may = record {
@@ -563,13 +563,13 @@ module _ (good : (ℕ → ℕ) → Type 0) (c : Config) where
         grows true q = let k = q refl in advances-entry w (at true) e refl (omega arith) (le_refl (start + 1)) (le_refl w.done) refl
         grows false q = advances-same w (at false) refl (le_refl w.clock) (le_refl w.done) refl
 
-        trail : (b : Bool) → (if b then record (w.views n).steps { rises = (w.views n).steps.rises + 1 } else (w.views n).steps).trail ≡ (w.views n).steps.trail
-        trail true = refl
-        trail false = refl
+        step_trace : (b : Bool) → (if b then record (w.views n).steps { rises = (w.views n).steps.rises + 1 } else (w.views n).steps).step_trace ≡ (w.views n).steps.step_trace
+        step_trace true = refl
+        step_trace false = refl
 
-        steps : (b : Bool) → (w.clock == start) ≡ b → (b ≡ true → w.clock ≡ start) → StepsRule c (steps_scene x)
-        steps true q k = steps-raised c (orec_commit n start writes back) n w 1 low (ap (λ (b : Bool). if b then start + 1 else w.clock) q ∙ ap (λ u. u + 1) (sym (k refl))) (trail (w.clock == start)) (ap (λ (b : Bool). (if b then record (w.views n).steps { rises = (w.views n).steps.rises + 1 } else (w.views n).steps).rises) q) r.steps
-        steps false q k = steps-kept c (orec_commit n start writes back) n w (ap (λ (b : Bool). if b then start + 1 else w.clock) q) (trail (w.clock == start)) (ap (λ (b : Bool). (if b then record (w.views n).steps { rises = (w.views n).steps.rises + 1 } else (w.views n).steps).rises) q) r.steps
+        steps : (b : Bool) → (w.clock == start) ≡ b → (b ≡ true → w.clock ≡ start) → StepsRule c (steps_projection x)
+        steps true q k = steps-raised c (orec_commit n start writes back) n w 1 low (ap (λ (b : Bool). if b then start + 1 else w.clock) q ∙ ap (λ u. u + 1) (sym (k refl))) (step_trace (w.clock == start)) (ap (λ (b : Bool). (if b then record (w.views n).steps { rises = (w.views n).steps.rises + 1 } else (w.views n).steps).rises) q) r.steps
+        steps false q k = steps-kept c (orec_commit n start writes back) n w (ap (λ (b : Bool). if b then start + 1 else w.clock) q) (step_trace (w.clock == start)) (ap (λ (b : Bool). (if b then record (w.views n).steps { rises = (w.views n).steps.rises + 1 } else (w.views n).steps).rises) q) r.steps
 
     -- no kind lets a rank fall
     pub orec_begins-ranks : (w : World) → OrecWorld good c w → CanOrecBegin (w.views n) → Ranks w (world_after (orec_begin) n w)
@@ -632,5 +632,5 @@ module _ (good : (ℕ → ℕ) → Type 0) (c : Config) where
     pub orec_restores-ranks : (a : ℕ) (x : ℕ) → (w : World) → OrecWorld good c w → CanOrecRestore a x (w.views n) → Ranks w (world_after (orec_restore a x) n w)
     orec_restores-ranks a x w g may = ranks_of w (world_after (orec_restore a x) n w) (view_after (orec_restore a x) w (w.views n) (answer (orec_restore a x) w)) refl (orec_restores-next a x w g may)
 
-    pub orec_lifts-ranks : (least : ℕ) → (w : World) → OrecWorld good c w → CanOrecLift least (w.views n) → Ranks w (world_after (orec_lift least) n w)
-    orec_lifts-ranks least w g may = ranks_of w (world_after (orec_lift least) n w) (view_after (orec_lift least) w (w.views n) (answer (orec_lift least) w)) refl (orec_lifts-next least w g may)
+    pub orec_raises_clock-ranks : (least : ℕ) → (w : World) → OrecWorld good c w → CanOrecRaiseClock least (w.views n) → Ranks w (world_after (orec_raise_clock least) n w)
+    orec_raises_clock-ranks least w g may = ranks_of w (world_after (orec_raise_clock least) n w) (view_after (orec_raise_clock least) w (w.views n) (answer (orec_raise_clock least) w)) refl (orec_raises_clock-next least w g may)

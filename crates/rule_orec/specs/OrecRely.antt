@@ -10,17 +10,17 @@ use Rattle.rule_base.specs.PutLemmas.{put-all}
 use Rattle.rule_base.specs.Ranks.{Rec, rank_in}
 use Rattle.rule_base.specs.Ranks.Rec.{Free, Taken}
 use Rattle.rule_base.specs.World.{put}
-use Rattle.rule_orec.specs.OrecRule.{OrecView, OrecScene, rank, rank_of, stamp, stamp_of, OwnReads, OwnOwned, OwnSample, OwnCheck, Own, OrecRule}
+use Rattle.rule_orec.specs.OrecRule.{OrecView, OrecProjection, rank, rank_of, stamp, stamp_of, OwnReads, OwnOwned, OwnSample, OwnCheck, Own, OrecRule}
 
 -- what no step undoes: the clock and the ranks never fall, and the memory at a time that is past stands
-pub record Grows (w x : OrecScene) : Type 0 where
+pub record Grows (w x : OrecProjection) : Type 0 where
   pub clock : w.clock ≤ x.clock
   pub base : x.base ≡ w.base
   pub old : (s a : ℕ) → s ≤ w.clock → word_at x.history s a ≡ word_at w.history s a
   pub rank : (r : ℕ) → rank w r ≤ rank x r
 
 -- what a step of another leaves to who owns records
-pub record Spares (home : ℕ → ℕ) (w x : OrecScene) (n : ℕ) : Type 0 where
+pub record Spares (home : ℕ → ℕ) (w x : OrecProjection) (n : ℕ) : Type 0 where
   pub records : (r : ℕ) → w.records r ≡ Taken n → x.records r ≡ Taken n
   pub now : (a : ℕ) → w.records (home a) ≡ Taken n → word_now x.history a ≡ word_now w.history a
   pub last : (a : ℕ) → w.records (home a) ≡ Taken n → last_write x.history a ≡ last_write w.history a
@@ -31,11 +31,11 @@ half vs r (Free v) = grind arith
 half vs r (Taken n) = grind arith
 
 -- THE STAMP NEVER FALLS, where the rank doesn't
-pub stamp-grows : (w x : OrecScene) (r : ℕ) → rank w r ≤ rank x r → stamp w r ≤ stamp x r
+pub stamp-grows : (w x : OrecProjection) (r : ℕ) → rank w r ≤ rank x r → stamp w r ≤ stamp x r
 stamp-grows w x r l = grind (arith, l, half w.views r (w.records r), half x.views r (x.records r))
 
 module _ (home : ℕ → ℕ) (words : ℕ) where
-  reads-stable : (w x : OrecScene) (v : Attempt) → Grows w x → OwnReads words w v → OwnReads words x v
+  reads-stable : (w x : OrecProjection) (v : Attempt) → Grows w x → OwnReads words w v → OwnReads words x v
   reads-stable w x v y o = record {
     start = grind (arith, y.clock, o.start);
     based = grind (arith, y.base, o.based);
@@ -43,7 +43,7 @@ module _ (home : ℕ → ℕ) (words : ℕ) where
     reads_inside = o.reads_inside;
   }
 
-  owned-stable : (w x : OrecScene) (n s : ℕ) (v : Ownership) → Grows w x → Spares home w x n → OwnOwned home w n s v → OwnOwned home x n s v
+  owned-stable : (w x : OrecProjection) (n s : ℕ) (v : Ownership) → Grows w x → Spares home w x n → OwnOwned home w n s v → OwnOwned home x n s v
   owned-stable w x n s v y z o = record {
     held = λ r h. z.records r (o.held r h);
     olds = λ r h. grind (arith, y.clock, o.olds r h);
@@ -62,14 +62,14 @@ module _ (home : ℕ → ℕ) (words : ℕ) where
     raised = λ r d h. grind (arith, y.clock, o.raised r d h);
   }
 
-  sample-stable : (w x : OrecScene) (s : ℕ) (v : Sample) → Grows w x → s ≤ w.clock → OwnSample home w s v → OwnSample home x s v
+  sample-stable : (w x : OrecProjection) (s : ℕ) (v : Sample) → Grows w x → s ≤ w.clock → OwnSample home w s v → OwnSample home x s v
   sample-stable w x s v y b o = record {
     sampled = λ d. grind (arith, y.rank (home v.from), o.sampled d);
     sample_old = λ d. grind (arith, y.clock, o.sample_old d);
     loaded = λ d l. grind (arith, y.rank (home v.from), o.loaded d, y.old s v.from b);
   }
 
-  check-stable : (w x : OrecScene) (t : Attempt) (v : Validation) → Grows w x → OwnCheck w t v → OwnCheck x t v
+  check-stable : (w x : OrecProjection) (t : Attempt) (v : Validation) → Grows w x → OwnCheck w t v → OwnCheck x t v
   check-stable w x t v y o = record {
     upto = λ d. grind (arith, y.clock, o.upto d);
     onward = o.onward;
@@ -77,7 +77,7 @@ module _ (home : ℕ → ℕ) (words : ℕ) where
   }
 
   -- STABLE: what stands of one caller outlasts a step of another
-  pub stable : (w x : OrecScene) (n : ℕ) (v : OrecView) → Grows w x → Spares home w x n → Own home words w n v → Own home words x n v
+  pub stable : (w x : OrecProjection) (n : ℕ) (v : OrecView) → Grows w x → Spares home w x n → Own home words w n v → Own home words x n v
   stable w x n v y z o = record {
     attempt = reads-stable w x v.attempt y o.attempt;
     front = o.front;
@@ -87,7 +87,7 @@ module _ (home : ℕ → ℕ) (words : ℕ) where
   }
 
   -- the clauses with those of the records that stand under every algorithm, and that no entry is later than the clock
-  pub record Words (s : OrecScene) : Type 0 where
+  pub record Words (s : OrecProjection) : Type 0 where
     pub below : Below s.history (s.clock + 1)
     pub based : s.base ≤ s.clock
     pub free : (r v : ℕ) → s.records r ≡ Free v → v ≤ s.clock
@@ -97,22 +97,22 @@ module _ (home : ℕ → ℕ) (words : ℕ) where
     pub clean : (a v : ℕ) → s.records (home a) ≡ Free v → s.heap a ≡ word_now s.history a
     pub mixed : (a n : ℕ) → s.records (home a) ≡ Taken n → touches (s.views n).owned.back a ≡ false → s.heap a ≡ over (s.views n).owned.in_place a (word_now s.history a)
 
-  pub record Full (s : OrecScene) : Type 0 where
+  pub record Full (s : OrecProjection) : Type 0 where
     pub whole : Words s
     pub own : (n : ℕ) → (s.views n).owned.inside ≡ true → Own home words s n (s.views n)
 
   -- after a step: the clauses, and no rank fell
-  abbrev pub Next : OrecScene → OrecScene → Type 0
+  abbrev pub Next : OrecProjection → OrecProjection → Type 0
   Next w x = Full x × ((r : ℕ) → rank w r ≤ rank x r)
 
-  pub rule_of : (s : OrecScene) → Full s → OrecRule home words s
+  pub rule_of : (s : OrecProjection) → Full s → OrecRule home words s
   rule_of s g = record { based = g.whole.based; shut = g.whole.shut; stamped = g.whole.stamped; clean = g.whole.clean; mixed = g.whole.mixed; own = g.own }
 
-  pub full_of : (s : OrecScene) → Below s.history (s.clock + 1) → ((r v : ℕ) → s.records r ≡ Free v → v ≤ s.clock) → ((r n : ℕ) → s.records r ≡ Taken n → touches (s.views n).owned.held r ≡ true) → OrecRule home words s → Full s
+  pub full_of : (s : OrecProjection) → Below s.history (s.clock + 1) → ((r v : ℕ) → s.records r ≡ Free v → v ≤ s.clock) → ((r n : ℕ) → s.records r ≡ Taken n → touches (s.views n).owned.held r ≡ true) → OrecRule home words s → Full s
   full_of s below free owned g = record { whole = record { below = below; based = g.based; free = free; owned = owned; shut = g.shut; stamped = g.stamped; clean = g.clean; mixed = g.mixed }; own = g.own }
 
   -- who owns a record is in an attempt
-  pub owner-in : (s : OrecScene) → Words s → (r n : ℕ) → s.records r ≡ Taken n → (s.views n).owned.inside ≡ true
+  pub owner-in : (s : OrecProjection) → Words s → (r n : ℕ) → s.records r ≡ Taken n → (s.views n).owned.inside ≡ true
   owner-in s g r n is = go (s.views n).owned.inside refl
     where
       go : (b : Bool) → (s.views n).owned.inside ≡ b → b ≡ true
@@ -120,7 +120,7 @@ module _ (home : ℕ → ℕ) (words : ℕ) where
       go false e = absurd (grind (arith, g.owned r n is, g.shut n e r))
 
   -- w with another view of n
-  abbrev pub with_view : OrecScene → ℕ → OrecView → OrecScene
+  abbrev pub with_view : OrecProjection → ℕ → OrecView → OrecProjection
   with_view w n v = record w { views = put w.views n v }
 
   rank-same : (vs : ℕ → OrecView) (n r : ℕ) (v : OrecView) (k : Rec) → v.owned ≡ (vs n).owned → rank_of (put vs n v) r k ≡ rank_of vs r k
@@ -131,7 +131,7 @@ module _ (home : ℕ → ℕ) (words : ℕ) where
       marks vs n r m v l = grind (arith, l)
 
   -- QUIET: a step that changes what n has read or knows, and nothing that it owns or owes
-  pub quiet : (w : OrecScene) (n : ℕ) (v : OrecView) → v.owned ≡ (w.views n).owned → (v.owned.inside ≡ true → Own home words w n v) → Full w → Next w (with_view w n v)
+  pub quiet : (w : OrecProjection) (n : ℕ) (v : OrecView) → v.owned ≡ (w.views n).owned → (v.owned.inside ≡ true → Own home words w n v) → Full w → Next w (with_view w n v)
   quiet w n v l o g = (
     record {
       whole = record {
@@ -156,11 +156,11 @@ module _ (home : ℕ → ℕ) (words : ℕ) where
       spares m = record { records = λ r h. h; now = λ a h. refl; last = λ a h. refl }
 
   -- y with this in the place of what n owns in w
-  abbrev pub seated : OrecScene → OrecScene → ℕ → Ownership → OrecScene
+  abbrev pub seated : OrecProjection → OrecProjection → ℕ → Ownership → OrecProjection
   seated w y n h = record y { views = put w.views n (record (w.views n) { owned = h }) }
 
   -- BY PARTS: a step of n, in an attempt, that changes what it owns and a word: the words, what grows, what n owns, and what is left to the others
-  pub by_parts : (w y : OrecScene) (n : ℕ) (h : Ownership) (front : ℕ) → Full w → (w.views n).owned.inside ≡ true → h.inside ≡ true → (h.committed ≡ false → front ≡ (w.views n).attempt.start)
+  pub by_parts : (w y : OrecProjection) (n : ℕ) (h : Ownership) (front : ℕ) → Full w → (w.views n).owned.inside ≡ true → h.inside ≡ true → (h.committed ≡ false → front ≡ (w.views n).attempt.start)
       → Words (record y { views = put w.views n (record (w.views n) { owned = h; front = front }) }) → Grows w (record y { views = put w.views n (record (w.views n) { owned = h; front = front }) })
       → OwnOwned home (record y { views = put w.views n (record (w.views n) { owned = h; front = front }) }) n (w.views n).attempt.start h
       → ((m : ℕ) → (m ≡ n → ⊥) → Spares home w (record y { views = put w.views n (record (w.views n) { owned = h; front = front }) }) m)
@@ -181,7 +181,7 @@ module _ (home : ℕ → ℕ) (words : ℕ) where
     grows.rank,
   )
     where
-      x : OrecScene
+      x : OrecProjection
       x = record y { views = put w.views n (record (w.views n) { owned = h; front = front }) }
 
   rank-fresh : (vs : ℕ → OrecView) (n r : ℕ) (v : OrecView) (k : Rec) → (k ≡ Taken n → ⊥) → rank_of (put vs n v) r k ≡ rank_of vs r k
@@ -189,7 +189,7 @@ module _ (home : ℕ → ℕ) (words : ℕ) where
   rank-fresh vs n r v (Taken m) l = grind (arith, l)
 
   -- FRESH: n, whose is no record, owns nothing afterwards: it begins, or is outside
-  pub fresh : (w : OrecScene) (n : ℕ) (v : OrecView) → ((r : ℕ) → w.records r ≡ Taken n → ⊥) → ((r : ℕ) → touches v.owned.held r ≡ false) → (v.owned.inside ≡ true → Own home words w n v) → OrecRule home words w → OrecRule home words (with_view w n v) × ((r : ℕ) → rank w r ≤ rank (with_view w n v) r)
+  pub fresh : (w : OrecProjection) (n : ℕ) (v : OrecView) → ((r : ℕ) → w.records r ≡ Taken n → ⊥) → ((r : ℕ) → touches v.owned.held r ≡ false) → (v.owned.inside ≡ true → Own home words w n v) → OrecRule home words w → OrecRule home words (with_view w n v) × ((r : ℕ) → rank w r ≤ rank (with_view w n v) r)
   fresh w n v apart none o g = (
     record {
       based = g.based;
@@ -209,7 +209,7 @@ module _ (home : ℕ → ℕ) (words : ℕ) where
       spares m = record { records = λ r h. h; now = λ a h. refl; last = λ a h. refl }
 
 -- FROM REST: nobody is in an attempt, each record is free, the memory lies in the heap, and no entry is later than BASE
-pub orec-from-rest : (home : ℕ → ℕ) (words : ℕ) (s : OrecScene) → ((n : ℕ) → (s.views n).owned.inside ≡ true → ⊥) → ((n r : ℕ) → touches (s.views n).owned.held r ≡ true → ⊥) → ((r n : ℕ) → s.records r ≡ Taken n → ⊥) → Below s.history (s.clock + 1) → ((a : ℕ) → s.heap a ≡ word_now s.history a) → s.base ≡ s.clock → OrecRule home words s
+pub orec-from-rest : (home : ℕ → ℕ) (words : ℕ) (s : OrecProjection) → ((n : ℕ) → (s.views n).owned.inside ≡ true → ⊥) → ((n r : ℕ) → touches (s.views n).owned.held r ≡ true → ⊥) → ((r n : ℕ) → s.records r ≡ Taken n → ⊥) → Below s.history (s.clock + 1) → ((a : ℕ) → s.heap a ≡ word_now s.history a) → s.base ≡ s.clock → OrecRule home words s
 orec-from-rest home words s nobody none free below heap based = record {
   based = grind (arith, based);
   shut = λ n e r. grind (arith, none n r);
@@ -220,7 +220,7 @@ orec-from-rest home words s nobody none free below heap based = record {
 }
 
 -- STILL AT REST, with BASE anywhere: each record vouches for what is later
-pub orec-vouched : (home : ℕ → ℕ) (words : ℕ) (s : OrecScene) → ((n : ℕ) → (s.views n).owned.inside ≡ true → ⊥) → ((n r : ℕ) → touches (s.views n).owned.held r ≡ true → ⊥) → ((r n : ℕ) → s.records r ≡ Taken n → ⊥) → s.base ≤ s.clock → ((a : ℕ) → s.heap a ≡ word_now s.history a)
+pub orec-vouched : (home : ℕ → ℕ) (words : ℕ) (s : OrecProjection) → ((n : ℕ) → (s.views n).owned.inside ≡ true → ⊥) → ((n r : ℕ) → touches (s.views n).owned.held r ≡ true → ⊥) → ((r n : ℕ) → s.records r ≡ Taken n → ⊥) → s.base ≤ s.clock → ((a : ℕ) → s.heap a ≡ word_now s.history a)
     → ((a : ℕ) → s.base < last_write s.history a → (v : ℕ) → s.records (home a) ≡ Free v → 2 * last_write s.history a ≤ 2 * v + 1) → OrecRule home words s
 orec-vouched home words s nobody none free based heap stamps = record {
   based = based;
@@ -236,7 +236,7 @@ orec-vouched home words s nobody none free based heap stamps = record {
     go a b (Taken n) is = absurd (free (home a) n is)
 
 -- AT REST: where each record is free, the memory lies in the heap
-pub orec-at-rest : (home : ℕ → ℕ) (words : ℕ) (s : OrecScene) → ((r n : ℕ) → s.records r ≡ Taken n → ⊥) → OrecRule home words s → (a : ℕ) → s.heap a ≡ word_now s.history a
+pub orec-at-rest : (home : ℕ → ℕ) (words : ℕ) (s : OrecProjection) → ((r n : ℕ) → s.records r ≡ Taken n → ⊥) → OrecRule home words s → (a : ℕ) → s.heap a ≡ word_now s.history a
 orec-at-rest home words s free g a = go (s.records (home a)) refl
   where
     go : (k : Rec) → s.records (home a) ≡ k → s.heap a ≡ word_now s.history a

@@ -14,7 +14,7 @@ use Rattle.rule_base.specs.declared.views.View.{View}
 use Rattle.rule_base.specs.History.{over, touches, word_at, word_now, last_write, Inside}
 use Rattle.rule_base.specs.Ranks.{Rec, rec_of, rank_in, home_of}
 use Rattle.rule_base.specs.Ranks.Rec.{Free, Taken}
-use Rattle.rule_base.specs.RunScene.{RunView, RunScene}
+use Rattle.rule_base.specs.RunProjection.{RunView, RunProjection}
 use Rattle.rule_base.specs.World.{World, parts}
 use Rattle.rule_seq.specs.RunWorld.{RunWorld}
 
@@ -29,7 +29,7 @@ pub record OrecView : Type 0 where
 abbrev pub orec_view : View → OrecView
 orec_view v = record { attempt = v.attempt; owned = v.owned; sample = v.sample; check = v.check; front = v.history.front }
 
-pub record OrecScene : Type 0 where
+pub record OrecProjection : Type 0 where
   pub clock : ℕ
   pub base : ℕ
   pub records : ℕ → Rec
@@ -37,14 +37,14 @@ pub record OrecScene : Type 0 where
   pub history : List Entry
   pub views : ℕ → OrecView
 
-abbrev pub orec_scene : World → OrecScene
-orec_scene w = record { clock = w.clock; base = w.base; records = parts rec_of w.records; heap = w.heap; history = w.history; views = parts orec_view w.views }
+abbrev pub orec_projection : World → OrecProjection
+orec_projection w = record { clock = w.clock; base = w.base; records = parts rec_of w.records; heap = w.heap; history = w.history; views = parts orec_view w.views }
 
 abbrev pub rank_of : (ℕ → OrecView) → ℕ → Rec → ℕ
 rank_of vs r (Free v) = 2 * v + 1
 rank_of vs r (Taken n) = rank_in (vs n).owned r
 
-abbrev pub rank : OrecScene → ℕ → ℕ
+abbrev pub rank : OrecProjection → ℕ → ℕ
 rank s r = rank_of s.views r (s.records r)
 
 -- what record r's version will be at least
@@ -52,11 +52,11 @@ abbrev pub stamp_of : (ℕ → OrecView) → ℕ → Rec → ℕ
 stamp_of vs r (Free v) = v
 stamp_of vs r (Taken n) = if (vs n).owned.committed then (vs n).owned.time else (if (vs n).owned.eager then over (vs n).owned.held r 0 + 1 else over (vs n).owned.held r 0)
 
-abbrev pub stamp : OrecScene → ℕ → ℕ
+abbrev pub stamp : OrecProjection → ℕ → ℕ
 stamp s r = stamp_of s.views r (s.records r)
 
 -- the reads of an attempt
-pub record OwnReads (words : ℕ) (s : OrecScene) (t : Attempt) : Type 0 where
+pub record OwnReads (words : ℕ) (s : OrecProjection) (t : Attempt) : Type 0 where
   pub start : t.start ≤ s.clock
   -- the records vouch for what is later than BASE
   pub based : s.base ≤ t.start
@@ -65,7 +65,7 @@ pub record OwnReads (words : ℕ) (s : OrecScene) (t : Attempt) : Type 0 where
   pub reads_inside : Inside words t.reads
 
 -- a validation up to a number of the clock: what is not left to do holds at that number
-pub record OwnCheck (s : OrecScene) (t : Attempt) (v : Validation) : Type 0 where
+pub record OwnCheck (s : OrecProjection) (t : Attempt) (v : Validation) : Type 0 where
   pub upto : v.checking ≡ true → v.upto ≤ s.clock
   pub onward : v.checking ≡ true → t.start ≤ v.upto
   pub checked : (a : ℕ) → v.checking ≡ true → touches v.todo a ≡ false → over t.reads a (word_at s.history v.upto a) ≡ word_at s.history v.upto a
@@ -73,14 +73,14 @@ pub record OwnCheck (s : OrecScene) (t : Attempt) (v : Validation) : Type 0 wher
 -- home a is the record of a
 module _ (home : ℕ → ℕ) where
   -- a read under way
-  pub record OwnSample (s : OrecScene) (start : ℕ) (v : Sample) : Type 0 where
+  pub record OwnSample (s : OrecProjection) (start : ℕ) (v : Sample) : Type 0 where
     pub sampled : v.sampled ≡ true → 2 * v.version + 1 ≤ rank s (home v.from)
     pub sample_old : v.sampled ≡ true → v.version ≤ s.clock
     -- if the record still has that version, the word loaded is the one at the start: nobody stored there between
     pub loaded : v.loaded ≡ true → rank s (home v.from) ≤ 2 * v.version + 1 → word_at s.history start v.from ≡ v.value
 
   -- what is owned, and what is owed to the heap
-  pub record OwnOwned (s : OrecScene) (n start : ℕ) (v : Ownership) : Type 0 where
+  pub record OwnOwned (s : OrecProjection) (n start : ℕ) (v : Ownership) : Type 0 where
     pub held : (r : ℕ) → touches v.held r ≡ true → s.records r ≡ Taken n
     pub olds : (r : ℕ) → touches v.held r ≡ true → over v.held r 0 ≤ s.clock
     -- until its owner's entry the old version vouches for a record's words
@@ -102,7 +102,7 @@ module _ (home : ℕ → ℕ) where
     pub raised : (r : ℕ) → v.raised ≡ true → touches v.held r ≡ true → over v.held r 0 < s.clock
 
   -- what stands of who is in an attempt
-  pub record Own (words : ℕ) (s : OrecScene) (n : ℕ) (v : OrecView) : Type 0 where
+  pub record Own (words : ℕ) (s : OrecProjection) (n : ℕ) (v : OrecView) : Type 0 where
     pub attempt : OwnReads words s v.attempt
     -- it has seen the history up to its start
     pub front : v.owned.committed ≡ false → v.front ≡ v.attempt.start
@@ -110,7 +110,7 @@ module _ (home : ℕ → ℕ) where
     pub sample : OwnSample s v.attempt.start v.sample
     pub check : OwnCheck s v.attempt v.check
 
-  pub record OrecRule (words : ℕ) (s : OrecScene) : Type 0 where
+  pub record OrecRule (words : ℕ) (s : OrecProjection) : Type 0 where
     pub based : s.base ≤ s.clock
     -- who is outside owns nothing
     pub shut : (n : ℕ) → (s.views n).owned.inside ≡ false → (r : ℕ) → touches (s.views n).owned.held r ≡ false
@@ -121,11 +121,11 @@ module _ (home : ℕ → ℕ) where
     pub mixed : (a n : ℕ) → s.records (home a) ≡ Taken n → touches (s.views n).owned.back a ≡ false → s.heap a ≡ over (s.views n).owned.in_place a (word_now s.history a)
     pub own : (n : ℕ) → (s.views n).owned.inside ≡ true → Own words s n (s.views n)
 
--- of the scene of what runs
-abbrev pub orec_part : RunScene → OrecScene
+-- of the projection of what runs
+abbrev pub orec_part : RunProjection → OrecProjection
 orec_part s = record { clock = s.clock; base = s.base; records = parts rec_of s.records; heap = s.heap; history = s.history; views = parts (λ (v : RunView). record { attempt = v.attempt; owned = v.owned; sample = v.sample; check = v.check; front = v.front }) s.views }
 
-abbrev pub OrecRuns : Config → RunScene → Type 0
+abbrev pub OrecRuns : Config → RunProjection → Type 0
 OrecRuns c s = OrecRule (home_of c) c.words (orec_part s)
 
 -- the rule while the gate names OrecLazy or OrecEager

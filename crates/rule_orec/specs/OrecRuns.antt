@@ -6,9 +6,9 @@ use Rattle.rule_base.specs.declared.views.View.{View}
 use Rattle.rule_base.specs.Runs.{KeepsAlong}
 use Rattle.rule_base.specs.StepKinds.{StepKind, world_after}
 use Rattle.rule_base.specs.World.{World}
-use Rattle.rule_orec.specs.OrecRule.{orec_scene, OrecWorld, stamp}
+use Rattle.rule_orec.specs.OrecRule.{orec_projection, OrecWorld, stamp}
 use Rattle.rule_base.specs.Ranks.{home_of}
-use Rattle.rule_orec.specs.OrecSteps.{orec_begin, CanOrecBegin, orec_sample, CanOrecSample, orec_load, CanOrecLoad, orec_confirm, CanOrecConfirm, orec_clock, CanOrecClock, orec_clock_all, orec_pass, CanOrecPass, orec_last, CanOrecLast, HasOrec, orec_look, orec_limit, orec_lock, CanOrecLock, orec_commit, CanOrecCommit, orec_write_back, CanOrecWriteBack, orec_release, CanOrecTime, CanOrecOld, CanOrecUp, orec_own_load, CanOrecOwnLoad, orec_save, CanOrecSave, orec_place, CanOrecPlace, orec_restore, CanOrecRestore, orec_lift, CanOrecLift}
+use Rattle.rule_orec.specs.OrecSteps.{orec_begin, CanOrecBegin, orec_sample, CanOrecSample, orec_load, CanOrecLoad, orec_confirm, CanOrecConfirm, orec_clock, CanOrecClock, orec_clock_all, orec_pass, CanOrecPass, orec_last, CanOrecLast, HasOrec, orec_look, orec_limit, orec_lock, CanOrecLock, orec_commit, CanOrecCommit, orec_write_back, CanOrecWriteBack, orec_release, CanOrecTime, CanOrecOld, CanOrecUp, orec_own_load, CanOrecOwnLoad, orec_save, CanOrecSave, orec_place, CanOrecPlace, orec_restore, CanOrecRestore, orec_raise_clock, CanOrecRaiseClock}
 
 -- a step by its kind and its numbers
 pub data OrecStep : Type 0 where
@@ -32,7 +32,7 @@ pub data OrecStep : Type 0 where
   orec_saves : (a : ℕ) → OrecStep
   orec_places : (a : ℕ) (x : ℕ) → OrecStep
   orec_restores : (a : ℕ) (x : ℕ) → OrecStep
-  orec_lifts : (least : ℕ) → OrecStep
+  orec_raises_clock : (least : ℕ) → OrecStep
 
 abbrev pub orec_kind : ℕ → OrecStep → StepKind
 orec_kind n orec_begins = orec_begin
@@ -55,7 +55,7 @@ orec_kind n (orec_own_loads a) = orec_own_load a
 orec_kind n (orec_saves a) = orec_save a
 orec_kind n (orec_places a x) = orec_place a x
 orec_kind n (orec_restores a x) = orec_restore a x
-orec_kind n (orec_lifts least) = orec_lift least
+orec_kind n (orec_raises_clock least) = orec_raise_clock least
 
 module _ (good : (ℕ → ℕ) → Type 0) (c : Config) where
   abbrev pub OrecMayAs : OrecStep → View → Type 0
@@ -79,7 +79,7 @@ module _ (good : (ℕ → ℕ) → Type 0) (c : Config) where
   OrecMayAs (orec_saves a) v = CanOrecSave (home_of c) a v
   OrecMayAs (orec_places a x) v = CanOrecPlace a v
   OrecMayAs (orec_restores a x) v = CanOrecRestore a x v
-  OrecMayAs (orec_lifts least) v = CanOrecLift least v
+  OrecMayAs (orec_raises_clock least) v = CanOrecRaiseClock least v
 
   -- a caller of this memory may take the step where its view allows it
   abbrev pub OrecMay : ℕ → OrecStep → View → Type 0
@@ -91,4 +91,4 @@ module _ (good : (ℕ → ℕ) → Type 0) (c : Config) where
 
   -- and at none of them does the stamp of a record fall
   abbrev pub StampsGrow : Type 0
-  StampsGrow = (n : ℕ) (s : OrecStep) (w : World) → OrecWorld good c w → OrecMay n s (w.views n) → (r : ℕ) → stamp (orec_scene w) r ≤ stamp (orec_scene (world_after (orec_kind n s) n w)) r
+  StampsGrow = (n : ℕ) (s : OrecStep) (w : World) → OrecWorld good c w → OrecMay n s (w.views n) → (r : ℕ) → stamp (orec_projection w) r ≤ stamp (orec_projection (world_after (orec_kind n s) n w)) r

@@ -21,7 +21,7 @@ use Rattle.rule_base.specs.declared.views.Act.TheVariants.{Load, Store, Exchange
 use Rattle.rule_base.specs.World.{World}
 use Rattle.rule_seq.specs.TmlSteps.{TmlSees}
 use Rattle.rule_orec.specs.OrecReading.{no_sample, no_check, checks, passed, fresh_owned}
-use Rattle.rule_orec.specs.OrecOwning.{holding, entered_at, written, placed, restored, released, saved, lifted, Ready, Clear}
+use Rattle.rule_orec.specs.OrecOwning.{holding, entered_at, written, placed, restored, released, saved, clock_raised, Ready, Clear}
 
 -- the algorithm that stores in place
 abbrev pub is_eager : Alg → Bool
@@ -230,7 +230,7 @@ orec_commit n start writes back = record {
 pub record CanOrecCommit (home : ℕ → ℕ) (good : (ℕ → ℕ) → Type 0) (words start : ℕ) (writes back : List Cell) (v : View) : Type 0 where
   pub has : HasOrec v
   -- who knows the clock as the gate's holder is to be promoted
-  pub uncalm : v.gate.calm ≡ false
+  pub not_quiescent : v.gate.quiescent ≡ false
   pub from : start ≡ v.attempt.start
   pub limit : start + 1 ≤ CLOCK_LIMIT
   pub ready : Ready home v.owned writes back
@@ -350,23 +350,23 @@ pub record CanOrecRestore (a x : ℕ) (v : View) : Type 0 where
   pub value : x ≡ over v.owned.undo a 0
 
 -- raise the clock above the old versions
-abbrev pub orec_lift : ℕ → StepKind
-orec_lift least = record {
+abbrev pub orec_raise_clock : ℕ → StepKind
+orec_raise_clock least = record {
   place = Clock;
   act = Raise least;
   after = λ w v found. record v {
     steps = if ltb found least then record v.steps { rises = v.steps.rises + 1 } else v.steps;
-    owned = lifted v.owned;
+    owned = clock_raised v.owned;
   };
   grown = same_history;
 }
 
-pub record CanOrecLift (least : ℕ) (v : View) : Type 0 where
+pub record CanOrecRaiseClock (least : ℕ) (v : View) : Type 0 where
   pub has : HasOrec v
   -- what was stored in place is restored: no old value is needed any more
   pub restored : v.owned.in_place ≡ []
   -- who knows the clock as the gate's holder doesn't raise it: its validation failed at a later number than its start
-  pub uncalm : v.gate.calm ≡ true → least ≤ v.gate.time
+  pub not_quiescent : v.gate.quiescent ≡ true → least ≤ v.gate.time
   pub limit : least ≤ CLOCK_LIMIT
   pub above : (r : ℕ) → touches v.owned.held r ≡ true → over v.owned.held r 0 < least
   -- the least number that does: the greatest old version and one more
@@ -404,7 +404,7 @@ pub record HasStores (words : ℕ) (v : View) : Type 0 where
 pub record CanOrecGrant (home : ℕ → ℕ) (words r b : ℕ) (v : View) : Type 0 where
   pub last : CanOrecLast home r b v
   -- all others were seen idle, and the clock was loaded since, to which the validation goes
-  pub calm : v.gate.calm ≡ true
+  pub quiescent : v.gate.quiescent ≡ true
   pub upto : v.check.upto ≡ v.gate.time
   pub stores : HasStores words v
 

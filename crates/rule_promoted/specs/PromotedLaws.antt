@@ -10,7 +10,7 @@ use Rattle.stm_model.specs.declared.config.Config.{Config}
 use Rattle.rule_base.specs.declared.views.Ownership.{Ownership}
 use Rattle.rule_base.specs.declared.views.View.{View}
 use Rattle.rule_base.specs.History.{over, touches, without, word_now, Inside, Below, upto, Follows, last_write}
-use Rattle.rule_base.specs.RunScene.{run_view, run_scene}
+use Rattle.rule_base.specs.RunProjection.{run_view, run_projection}
 use Rattle.rule_base.specs.Encodings.{free_record, is_owned}
 use Rattle.rule_base.specs.StepKinds.{view_after, world_after, Nothing, StepLaw}
 use Rattle.rule_base.specs.World.{World, put, parts}
@@ -22,24 +22,24 @@ use Rattle.rule_base.specs.Ranks.{rec_of, rank_one, home_of}
 use Rattle.rule_base.specs.StepsLemmas.{steps-kept, steps-raised}
 use Rattle.rule_seq.specs.AttemptLemmas.{attempts-stay, attempts-in}
 use Rattle.rule_seq.specs.LockRule.{LockRule}
-use Rattle.rule_seq.specs.LockLemmas.{lock_scene-kept}
+use Rattle.rule_seq.specs.LockLemmas.{lock_projection-kept}
 use Rattle.rule_seq.specs.CglLaws.{logged_sees, logged_inside, loads_of}
 use Rattle.rule_seq.specs.CglSteps.{Loads, cgl_entry, Commits}
-use Rattle.rule_promoted.specs.PromotedRule.{direct_view, direct_scene, DirectRule, Suits, DirectRuns, DirectWorld, suit_view, SuitScene, suit_scene, OrecSuits}
+use Rattle.rule_promoted.specs.PromotedRule.{direct_view, direct_projection, DirectRule, Suits, DirectRuns, DirectWorld, suit_view, SuitProjection, suit_projection, OrecSuits}
 use Rattle.stm_model.specs.Algorithms.{entry_rise}
 use Rattle.rule_ring.specs.RingPromoted.{RingKeeps, keeps-put}
 use Rattle.rule_promoted.specs.PromotedSteps.{direct_load, CanDirectLoad, direct_store, CanDirectStore, direct_commit, CanDirectCommit, direct_release, CanDirectRelease}
-use Rattle.rule_seq.specs.TmlRule.{tml_scene, TmlRule, TmlReader}
+use Rattle.rule_seq.specs.TmlRule.{tml_projection, TmlRule, TmlReader}
 
 -- the own view after a step of the attempt, and after one of another
-pub direct_scene-own : (w x : World) (n : ℕ) (v : View) → x.views ≡ put w.views n v → direct_scene n x ≡ record { clock = x.clock; heap = x.heap; history = x.history; own = direct_view v }
-direct_scene-own w x n v is = λ i. record { clock = x.clock; heap = x.heap; history = x.history; own = ap direct_view (ap (λ (f : ℕ → View). f n) is ∙ put-here w.views n v) i }
+pub direct_projection-own : (w x : World) (n : ℕ) (v : View) → x.views ≡ put w.views n v → direct_projection n x ≡ record { clock = x.clock; heap = x.heap; history = x.history; own = direct_view v }
+direct_projection-own w x n v is = λ i. record { clock = x.clock; heap = x.heap; history = x.history; own = ap direct_view (ap (λ (f : ℕ → View). f n) is ∙ put-here w.views n v) i }
 
-pub suit_scene-own : (w x : World) (n : ℕ) (v : View) → x.views ≡ put w.views n v → suit_scene n x ≡ record { clock = x.clock; base = x.base; records = x.records; history = x.history; own = suit_view v }
-suit_scene-own w x n v is = λ i. record { clock = x.clock; base = x.base; records = x.records; history = x.history; own = ap suit_view (ap (λ (f : ℕ → View). f n) is ∙ put-here w.views n v) i }
+pub suit_projection-own : (w x : World) (n : ℕ) (v : View) → x.views ≡ put w.views n v → suit_projection n x ≡ record { clock = x.clock; base = x.base; records = x.records; history = x.history; own = suit_view v }
+suit_projection-own w x n v is = λ i. record { clock = x.clock; base = x.base; records = x.records; history = x.history; own = ap suit_view (ap (λ (f : ℕ → View). f n) is ∙ put-here w.views n v) i }
 
 -- what a step of the attempt leaves alone
-pub record Alike (s t : SuitScene) : Type 0 where
+pub record Alike (s t : SuitProjection) : Type 0 where
   pub tml : t.own.tml.writer ≡ s.own.tml.writer
   -- the stamps, but after the entry
   pub base : s.base ≤ t.base
@@ -52,7 +52,7 @@ pub record Alike (s t : SuitScene) : Type 0 where
   pub raised : t.own.owned.raised ≡ s.own.owned.raised
   pub committed : t.own.owned.committed ≡ s.own.owned.committed
 
-orec-alike : (home : ℕ → ℕ) (s t : SuitScene) → Alike s t → OrecSuits home s → OrecSuits home t
+orec-alike : (home : ℕ → ℕ) (s t : SuitProjection) → Alike s t → OrecSuits home s → OrecSuits home t
 orec-alike home s t l k = record {
   stamped = λ e a b. go (l.stamps e) a b;
   uncommitted = l.committed ∙ k.uncommitted;
@@ -69,7 +69,7 @@ orec-alike home s t l k = record {
         (subst (λ (o : Ownership). 2 * last_write s.history a ≤ rank_one o (home a) (rec_of (s.records (home a)))) (sym q.2) (k.stamped q.3 a was)))
 
 -- a number of the clock that suits
-pub suits-later : (home : ℕ → ℕ) (alg : Alg) (s t : SuitScene) → t.clock % 2 ≡ s.clock % 2 → Alike s t → Suits home alg s → Suits home alg t
+pub suits-later : (home : ℕ → ℕ) (alg : Alg) (s t : SuitProjection) → t.clock % 2 ≡ s.clock % 2 → Alike s t → Suits home alg s → Suits home alg t
 suits-later home Cgl s t clock l k = k
 suits-later home Tml s t clock l k = record { even = clock ∙ k.even; unwritten = l.tml ∙ k.unwritten }
 suits-later home OrecLazy s t clock l k = orec-alike home s t l k
@@ -81,7 +81,7 @@ two_more : (k : ℕ) → (k + 2) % 2 ≡ k % 2
 two_more k = omega arith
 
 -- the commit's time suits the algorithm
-pub suits-ticked : (home : ℕ → ℕ) (alg : Alg) (s t : SuitScene) → t.clock ≡ s.clock + entry_rise alg → Alike s t → Suits home alg s → Suits home alg t
+pub suits-ticked : (home : ℕ → ℕ) (alg : Alg) (s t : SuitProjection) → t.clock ≡ s.clock + entry_rise alg → Alike s t → Suits home alg s → Suits home alg t
 suits-ticked home Cgl s t clock l k = k
 suits-ticked home Tml s t clock l k = suits-later home Tml s t (ap (λ k. k % 2) clock ∙ two_more s.clock) l k
 suits-ticked home OrecLazy s t clock l k = orec-alike home s t l k
@@ -98,8 +98,8 @@ entry_rise-some RingSw = omega arith
 entry_rise-some Serial = omega arith
 
 -- THE GRANT UNDER TML: a reader whose start is the clock, alone, meets the clauses of a promoted attempt
-pub tml-granted : (c : Config) (n : ℕ) (w : World) → TmlRule c.words (tml_scene w) → Below w.history (w.clock + 1) → (w.views n).tml.inside ≡ true → (w.views n).tml.writer ≡ false → (w.views n).lock.taken ≡ false → ((m : ℕ) → m ≢ n → (w.views m).tml.writer ≡ true → ⊥) → w.clock ≡ (w.views n).attempt.start
-    → DirectRuns c Tml n (run_scene w)
+pub tml-granted : (c : Config) (n : ℕ) (w : World) → TmlRule c.words (tml_projection w) → Below w.history (w.clock + 1) → (w.views n).tml.inside ≡ true → (w.views n).tml.writer ≡ false → (w.views n).lock.taken ≡ false → ((m : ℕ) → m ≢ n → (w.views m).tml.writer ≡ true → ⊥) → w.clock ≡ (w.views n).attempt.start
+    → DirectRuns c Tml n (run_projection w)
 tml-granted c n w r below inside reads unlocked others now = record {
   direct = record {
     stored = λ a. (r.free nobody).1 a ∙ ap (λ (k : List Cell). over k a (word_now w.history a)) (sym (h.unstored reads));
@@ -115,7 +115,7 @@ tml-granted c n w r below inside reads unlocked others now = record {
   ring = λ e. absurd cc;
 }
   where
-    h : TmlReader c.words w.clock w.history ((tml_scene w).views n)
+    h : TmlReader c.words w.clock w.history ((tml_projection w).views n)
     h = r.reader n inside
 
     nobody : (m : ℕ) → (w.views m).tml.writer ≡ true → ⊥
@@ -125,9 +125,9 @@ tml-granted c n w r below inside reads unlocked others now = record {
         by true e = let p : (w.views n).tml.writer ≡ true = subst (λ (k : ℕ). (w.views k).tml.writer ≡ true) (eqb-true m n e) t in let f : true ≡ false = sym p ∙ reads in cc
         by false e = others m (eqb-false m n e) t
 
--- the scene of what runs after a step of the attempt
-scene_put : (w x : World) (n : ℕ) (v : View) → x.views ≡ put w.views n v → x.clock ≡ w.clock → x.lock ≡ w.lock → x.base ≡ w.base → x.done ≡ w.done → x.records ≡ w.records → x.slots ≡ w.slots → x.history ≡ w.history → x.heap ≡ x.heap → run_scene x ≡ record (run_scene w) { heap = x.heap; views = put (run_scene w).views n (run_view v) }
-scene_put w x n v is clock lock base done records slots history heap = λ i. record {
+-- the projection of what runs after a step of the attempt
+projection_put : (w x : World) (n : ℕ) (v : View) → x.views ≡ put w.views n v → x.clock ≡ w.clock → x.lock ≡ w.lock → x.base ≡ w.base → x.done ≡ w.done → x.records ≡ w.records → x.slots ≡ w.slots → x.history ≡ w.history → x.heap ≡ x.heap → run_projection x ≡ record (run_projection w) { heap = x.heap; views = put (run_projection w).views n (run_view v) }
+projection_put w x n v is clock lock base done records slots history heap = λ i. record {
   clock = clock i;
   lock = lock i;
   base = base i;
@@ -148,11 +148,11 @@ module _ (good : (ℕ → ℕ) → Type 0) (c : Config) (alg : Alg) (n : ℕ) wh
     rule = record {
       history = history-kept good c w x n v refl refl refl refl r.history;
       steps = steps-kept c (direct_load a) n w refl refl refl r.steps;
-      lock = subst LockRule (sym (lock_scene-kept w x n v refl refl refl refl)) r.lock;
+      lock = subst LockRule (sym (lock_projection-kept w x n v refl refl refl refl)) r.lock;
       attempts = attempts-stay w x n v refl refl refl refl r.attempts;
       records = records-stay w x n v refl (le_refl w.clock) refl refl refl r.records;
       runs = record {
-        direct = subst (DirectRule c.words) (sym (direct_scene-own w x n v refl)) (record {
+        direct = subst (DirectRule c.words) (sym (direct_projection-own w x n v refl)) (record {
           stored = d.stored;
           start = d.start;
           front = d.front;
@@ -162,8 +162,8 @@ module _ (good : (ℕ → ℕ) → Type 0) (c : Config) (alg : Alg) (n : ℕ) wh
           stores_small = d.stores_small;
           unlocked = d.unlocked;
         });
-        suits = subst (Suits (home_of c) alg) (sym (suit_scene-own w x n v refl)) (suits-later (home_of c) alg (suit_scene n w) (record (suit_scene n w) { own = suit_view v }) refl (record { tml = refl; base = le_refl w.base; stamps = λ e. (refl, refl, refl, e); clock = le_refl w.clock; entered = λ e. inl e; held = λ r t. (t, refl, refl); raised = refl; committed = refl }) r.runs.suits);
-        ring = λ e. subst (RingKeeps c.ring n) (sym (scene_put w x n v refl refl refl refl refl refl refl refl refl)) (keeps-put c.ring n n (run_scene w) w.heap (run_view v) refl (λ d. absurd (d refl)) (r.runs.ring e));
+        suits = subst (Suits (home_of c) alg) (sym (suit_projection-own w x n v refl)) (suits-later (home_of c) alg (suit_projection n w) (record (suit_projection n w) { own = suit_view v }) refl (record { tml = refl; base = le_refl w.base; stamps = λ e. (refl, refl, refl, e); clock = le_refl w.clock; entered = λ e. inl e; held = λ r t. (t, refl, refl); raised = refl; committed = refl }) r.runs.suits);
+        ring = λ e. subst (RingKeeps c.ring n) (sym (projection_put w x n v refl refl refl refl refl refl refl refl refl)) (keeps-put c.ring n n (run_projection w) w.heap (run_view v) refl (λ d. absurd (d refl)) (r.runs.ring e));
       };
     };
     advances = advances-same w x refl (le_refl w.clock) (le_refl w.done) refl;
@@ -176,7 +176,7 @@ module _ (good : (ℕ → ℕ) → Type 0) (c : Config) (alg : Alg) (n : ℕ) wh
       v : View
       v = view_after (direct_load a) w (w.views n) (w.heap a)
 
-      d : DirectRule c.words (direct_scene n w)
+      d : DirectRule c.words (direct_projection n w)
       d = r.runs.direct
 
   pub direct_stores : (a k : ℕ) → StepLaw (DirectWorld good c alg n) (direct_store a k) Nothing n (CanDirectStore c.words a k)
@@ -184,11 +184,11 @@ module _ (good : (ℕ → ℕ) → Type 0) (c : Config) (alg : Alg) (n : ℕ) wh
     rule = record {
       history = history-kept good c w x n v refl refl refl refl r.history;
       steps = steps-kept c (direct_store a k) n w refl refl refl r.steps;
-      lock = subst LockRule (sym (lock_scene-kept w x n v refl refl refl refl)) r.lock;
+      lock = subst LockRule (sym (lock_projection-kept w x n v refl refl refl refl)) r.lock;
       attempts = attempts-stay w x n v refl refl refl refl r.attempts;
       records = records-stay w x n v refl (le_refl w.clock) refl refl refl r.records;
       runs = record {
-        direct = subst (DirectRule c.words) (sym (direct_scene-own w x n v refl)) (record {
+        direct = subst (DirectRule c.words) (sym (direct_projection-own w x n v refl)) (record {
           stored = λ b. grind (arith, d.stored b);
           start = d.start;
           front = d.front;
@@ -198,8 +198,8 @@ module _ (good : (ℕ → ℕ) → Type 0) (c : Config) (alg : Alg) (n : ℕ) wh
           stores_small = small-more (record { at = a; value = k }) (w.views n).attempt.stores may.small d.stores_small;
           unlocked = d.unlocked;
         });
-        suits = subst (Suits (home_of c) alg) (sym (suit_scene-own w x n v refl)) (suits-later (home_of c) alg (suit_scene n w) (record (suit_scene n w) { own = suit_view v }) refl (record { tml = refl; base = le_refl w.base; stamps = λ e. (refl, refl, refl, e); clock = le_refl w.clock; entered = λ e. inl e; held = λ r t. (t, refl, refl); raised = refl; committed = refl }) r.runs.suits);
-        ring = λ e. subst (RingKeeps c.ring n) (sym (scene_put w x n v refl refl refl refl refl refl refl refl refl)) (keeps-put c.ring n n (run_scene w) (put w.heap a k) (run_view v) refl (λ d. absurd (d refl)) (r.runs.ring e));
+        suits = subst (Suits (home_of c) alg) (sym (suit_projection-own w x n v refl)) (suits-later (home_of c) alg (suit_projection n w) (record (suit_projection n w) { own = suit_view v }) refl (record { tml = refl; base = le_refl w.base; stamps = λ e. (refl, refl, refl, e); clock = le_refl w.clock; entered = λ e. inl e; held = λ r t. (t, refl, refl); raised = refl; committed = refl }) r.runs.suits);
+        ring = λ e. subst (RingKeeps c.ring n) (sym (projection_put w x n v refl refl refl refl refl refl refl refl refl)) (keeps-put c.ring n n (run_projection w) (put w.heap a k) (run_view v) refl (λ d. absurd (d refl)) (r.runs.ring e));
       };
     };
     advances = advances-same w x refl (le_refl w.clock) (le_refl w.done) refl;
@@ -212,7 +212,7 @@ module _ (good : (ℕ → ℕ) → Type 0) (c : Config) (alg : Alg) (n : ℕ) wh
       v : View
       v = view_after (direct_store a k) w (w.views n) k
 
-      d : DirectRule c.words (direct_scene n w)
+      d : DirectRule c.words (direct_projection n w)
       d = r.runs.direct
 
   -- the entry follows the history, and leaves the heap as the memory after it
@@ -221,11 +221,11 @@ module _ (good : (ℕ → ℕ) → Type 0) (c : Config) (alg : Alg) (n : ℕ) wh
     rule = record {
       history = history-entry good c w x n e v refl refl refl refl refl later may.limit follows r.history;
       steps = steps-raised c (direct_commit n alg t) n w (entry_rise alg) low next refl refl r.steps;
-      lock = subst LockRule (sym (lock_scene-kept w x n v refl refl refl refl)) r.lock;
+      lock = subst LockRule (sym (lock_projection-kept w x n v refl refl refl refl)) r.lock;
       attempts = attempts-in w x n v refl may.phase r.attempts;
       records = records-stay w x n v refl (let k = later in omega arith) refl refl refl r.records;
       runs = record {
-        direct = subst (DirectRule c.words) (sym (direct_scene-own w x n v refl)) (record {
+        direct = subst (DirectRule c.words) (sym (direct_projection-own w x n v refl)) (record {
           stored = d.stored;
           start = refl;
           front = refl;
@@ -235,7 +235,7 @@ module _ (good : (ℕ → ℕ) → Type 0) (c : Config) (alg : Alg) (n : ℕ) wh
           stores_small = λ a d l. l;
           unlocked = d.unlocked;
         });
-        suits = subst (Suits (home_of c) alg) (sym (suit_scene-own w x n v refl)) (suits-ticked (home_of c) alg (suit_scene n w) (record { clock = t; base = w.base; records = w.records; history = e ∷ w.history; own = suit_view v }) next (record { tml = refl; base = le_refl w.base; stamps = λ f. absurd cc; clock = (let k = later in omega arith); entered = λ f. inr later; held = λ r t. (t, refl, refl); raised = refl; committed = refl }) r.runs.suits);
+        suits = subst (Suits (home_of c) alg) (sym (suit_projection-own w x n v refl)) (suits-ticked (home_of c) alg (suit_projection n w) (record { clock = t; base = w.base; records = w.records; history = e ∷ w.history; own = suit_view v }) next (record { tml = refl; base = le_refl w.base; stamps = λ f. absurd cc; clock = (let k = later in omega arith); entered = λ f. inr later; held = λ r t. (t, refl, refl); raised = refl; committed = refl }) r.runs.suits);
         ring = λ q. let o = r.runs.ring q in record {
           base = le_trans o.base (let k = later in omega arith);
           done = le_trans o.done (let k = later in omega arith);
@@ -262,7 +262,7 @@ module _ (good : (ℕ → ℕ) → Type 0) (c : Config) (alg : Alg) (n : ℕ) wh
       e : Entry
       e = cgl_entry n t (w.views n)
 
-      d : DirectRule c.words (direct_scene n w)
+      d : DirectRule c.words (direct_projection n w)
       d = r.runs.direct
 
       marked : (put w.views n v n).attempt.entered ≡ false → ⊥
@@ -296,12 +296,12 @@ module _ (good : (ℕ → ℕ) → Type 0) (c : Config) (alg : Alg) (n : ℕ) wh
     rule = record {
       history = history-kept good c w x n v refl refl refl refl r.history;
       steps = steps-kept c (direct_release q t) n w refl refl refl r.steps;
-      lock = subst LockRule (sym (lock_scene-kept w x n v refl refl refl refl)) r.lock;
+      lock = subst LockRule (sym (lock_projection-kept w x n v refl refl refl refl)) r.lock;
       attempts = attempts-stay w x n v refl refl refl refl r.attempts;
       records = records-given w x n q t v refl refl refl refl refl (subst (λ (k : ℕ). t ≤ k) d.start (subst (λ (k : ℕ). t ≤ k) may.time (le_refl t))) r.records;
       runs = record {
-        direct = subst (DirectRule c.words) (sym (direct_scene-own w x n v refl)) (record { stored = d.stored; start = d.start; front = d.front; sees = d.sees; reads_inside = d.reads_inside; stores_inside = d.stores_inside; stores_small = d.stores_small; unlocked = d.unlocked });
-        suits = subst (Suits (home_of c) alg) (sym (suit_scene-own w x n v refl)) (suits-later (home_of c) alg (suit_scene n w) (record { clock = w.clock; base = w.base; records = put w.records q (free_record t); history = w.history; own = suit_view v }) refl (record { tml = refl; base = le_refl w.base; stamps = λ f. absurd (let k : true ≡ false = sym may.entered ∙ f in cc); clock = le_refl w.clock; entered = λ f. inl may.entered; held = less; raised = refl; committed = refl }) r.runs.suits);
+        direct = subst (DirectRule c.words) (sym (direct_projection-own w x n v refl)) (record { stored = d.stored; start = d.start; front = d.front; sees = d.sees; reads_inside = d.reads_inside; stores_inside = d.stores_inside; stores_small = d.stores_small; unlocked = d.unlocked });
+        suits = subst (Suits (home_of c) alg) (sym (suit_projection-own w x n v refl)) (suits-later (home_of c) alg (suit_projection n w) (record { clock = w.clock; base = w.base; records = put w.records q (free_record t); history = w.history; own = suit_view v }) refl (record { tml = refl; base = le_refl w.base; stamps = λ f. absurd (let k : true ≡ false = sym may.entered ∙ f in cc); clock = le_refl w.clock; entered = λ f. inl may.entered; held = less; raised = refl; committed = refl }) r.runs.suits);
         ring = λ e. let o = r.runs.ring e in record {
           base = o.base;
           done = o.done;
@@ -324,7 +324,7 @@ module _ (good : (ℕ → ℕ) → Type 0) (c : Config) (alg : Alg) (n : ℕ) wh
       marked : (put w.views n v n).attempt.entered ≡ false → ⊥
       marked f = let k : true ≡ false = sym (ap (λ (u : View). u.attempt.entered) (put-here w.views n v) ∙ may.entered) ∙ f in cc
 
-      d : DirectRule c.words (direct_scene n w)
+      d : DirectRule c.words (direct_projection n w)
       d = r.runs.direct
 
       -- what is held still was held, and its word is the same

@@ -16,7 +16,7 @@ use Rattle.rule_base.specs.declared.views.View.{View}
 use Rattle.rule_base.specs.Encodings.{is_owned}
 use Rattle.rule_base.specs.History.{over, touches, word_now, last_write, Inside, Small, Explains}
 use Rattle.rule_base.specs.Ranks.{rec_of, rank_one, home_of}
-use Rattle.rule_base.specs.RunScene.{RunScene}
+use Rattle.rule_base.specs.RunProjection.{RunProjection}
 use Rattle.rule_base.specs.World.{World}
 use Rattle.rule_ring.specs.RingPromoted.{RingKeeps}
 use Rattle.rule_seq.specs.RunWorld.{RunWorld}
@@ -31,16 +31,16 @@ pub record DirectView : Type 0 where
 abbrev pub direct_view : View → DirectView
 direct_view v = record { attempt = v.attempt; lock = v.lock; tml = v.tml; front = v.history.front }
 
-pub record DirectScene : Type 0 where
+pub record DirectProjection : Type 0 where
   pub clock : ℕ
   pub heap : ℕ → ℕ
   pub history : List Entry
   pub own : DirectView
 
-abbrev pub direct_scene : ℕ → World → DirectScene
-direct_scene n w = record { clock = w.clock; heap = w.heap; history = w.history; own = direct_view (w.views n) }
+abbrev pub direct_projection : ℕ → World → DirectProjection
+direct_projection n w = record { clock = w.clock; heap = w.heap; history = w.history; own = direct_view (w.views n) }
 
-pub record DirectRule (words : ℕ) (s : DirectScene) : Type 0 where
+pub record DirectRule (words : ℕ) (s : DirectProjection) : Type 0 where
   -- the heap is the memory after the history under its own stores
   pub stored : (a : ℕ) → s.heap a ≡ over s.own.attempt.stores a (word_now s.history a)
   -- its start is the clock, and it has seen the whole history: nobody else adds to it
@@ -63,23 +63,23 @@ pub record SuitView : Type 0 where
 abbrev pub suit_view : View → SuitView
 suit_view v = record { attempt = v.attempt; tml = v.tml; owned = v.owned }
 
-pub record SuitScene : Type 0 where
+pub record SuitProjection : Type 0 where
   pub clock : ℕ
   pub base : ℕ
   pub records : ℕ → ℕ
   pub history : List Entry
   pub own : SuitView
 
-abbrev pub suit_scene : ℕ → World → SuitScene
-suit_scene n w = record { clock = w.clock; base = w.base; records = w.records; history = w.history; own = suit_view (w.views n) }
+abbrev pub suit_projection : ℕ → World → SuitProjection
+suit_projection n w = record { clock = w.clock; base = w.base; records = w.records; history = w.history; own = suit_view (w.views n) }
 
 -- what the algorithm takes back when the attempt is over
-pub record TmlSuits (s : SuitScene) : Type 0 where
+pub record TmlSuits (s : SuitProjection) : Type 0 where
   pub even : s.clock % 2 ≡ 0
   pub unwritten : s.own.tml.writer ≡ false
 
 -- while the attempt has no entry the stamps vouch as before; afterwards nobody looks at them until BASE has its time
-pub record OrecSuits (home : ℕ → ℕ) (s : SuitScene) : Type 0 where
+pub record OrecSuits (home : ℕ → ℕ) (s : SuitProjection) : Type 0 where
   pub stamped : s.own.attempt.entered ≡ false → (a : ℕ) → s.base < last_write s.history a → 2 * last_write s.history a ≤ rank_one s.own.owned (home a) (rec_of (s.records (home a)))
   -- what it holds had versions at most the clock, and older ones once it has raised the clock: given back with that number no stamp falls
   pub uncommitted : s.own.owned.committed ≡ false
@@ -90,7 +90,7 @@ pub record OrecSuits (home : ℕ → ℕ) (s : SuitScene) : Type 0 where
   pub locked : (r : ℕ) → touches s.own.owned.held r ≡ true → is_owned (s.records r) ≡ true
 
 -- by the algorithm: of its own part; under CGL and Serial nothing is promoted
-abbrev pub Suits : (ℕ → ℕ) → Alg → SuitScene → Type 0
+abbrev pub Suits : (ℕ → ℕ) → Alg → SuitProjection → Type 0
 Suits home Cgl s = ⊥
 Suits home Tml s = TmlSuits s
 Suits home OrecLazy s = OrecSuits home s
@@ -98,14 +98,14 @@ Suits home OrecEager s = OrecSuits home s
 Suits home RingSw s = Unit {0}
 Suits home Serial s = ⊥
 
--- of the scene of what runs
-abbrev pub direct_part : ℕ → RunScene → DirectScene
+-- of the projection of what runs
+abbrev pub direct_part : ℕ → RunProjection → DirectProjection
 direct_part n s = record { clock = s.clock; heap = s.heap; history = s.history; own = record { attempt = (s.views n).attempt; lock = (s.views n).lock; tml = (s.views n).tml; front = (s.views n).front } }
 
-abbrev pub suit_part : ℕ → RunScene → SuitScene
+abbrev pub suit_part : ℕ → RunProjection → SuitProjection
 suit_part n s = record { clock = s.clock; base = s.base; records = s.records; history = s.history; own = record { attempt = (s.views n).attempt; tml = (s.views n).tml; owned = (s.views n).owned } }
 
-pub record DirectRuns (c : Config) (alg : Alg) (n : ℕ) (s : RunScene) : Type 0 where
+pub record DirectRuns (c : Config) (alg : Alg) (n : ℕ) (s : RunProjection) : Type 0 where
   pub direct : DirectRule c.words (direct_part n s)
   pub suits : Suits (home_of c) alg (suit_part n s)
   -- RingSW also takes back words and the parts of others

@@ -57,7 +57,7 @@ ring_move_grant = record {
 
 pub record CanRingGrant (v : View) : Type 0 where
   pub has : HasRing v
-  pub calm : v.gate.calm ≡ true
+  pub quiescent : v.gate.quiescent ≡ true
   pub limit : v.gate.time < CLOCK_LIMIT
   pub unlocked : v.lock.taken ≡ false
   pub uncommitted : v.ring_commit.committed ≡ false

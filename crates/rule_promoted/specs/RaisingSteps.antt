@@ -9,11 +9,11 @@ use Rattle.rule_base.specs.declared.views.View.{View}
 use Rattle.rule_base.specs.Encodings.{free_record}
 use Rattle.rule_base.specs.History.{over, touches}
 use Rattle.rule_base.specs.StepKinds.{StepKind, same_history}
-use Rattle.rule_orec.specs.OrecOwning.{lifted, released}
+use Rattle.rule_orec.specs.OrecOwning.{clock_raised, released}
 
 -- raise the clock to this number, where it is lower: it makes no entry, and its start is the clock still
-abbrev pub direct_lift : ℕ → StepKind
-direct_lift least = record {
+abbrev pub direct_raise_clock : ℕ → StepKind
+direct_raise_clock least = record {
   place = Clock;
   act = Raise least;
   after = λ w v found. record v {
@@ -21,12 +21,12 @@ direct_lift least = record {
     steps = if ltb found least then record v.steps { rises = v.steps.rises + 1 } else v.steps;
     gate = record v.gate { time = max found least; rebased = false; completed = false };
     attempt = record { start = max found least; reads = []; stores = []; entered = false };
-    owned = lifted v.owned;
+    owned = clock_raised v.owned;
   };
   grown = same_history;
 }
 
-pub record CanDirectLift (least : ℕ) (v : View) : Type 0 where
+pub record CanDirectRaiseClock (least : ℕ) (v : View) : Type 0 where
   pub phase : v.gate.phase ≡ In
   pub granted : v.gate.granted ≡ true
   pub named : v.gate.algorithm ≡ OrecEager

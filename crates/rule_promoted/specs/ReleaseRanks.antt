@@ -8,20 +8,20 @@ use Rattle.rule_base.specs.HistoryLemmas.{over-without}
 use Rattle.rule_base.specs.PutLemmas.{put-all, parts-put}
 use Rattle.rule_base.specs.Ranks.{Rec, rec_of, rank_in, rank_one}
 use Rattle.rule_base.specs.Ranks.Rec.{Free, Taken}
-use Rattle.rule_base.specs.RecordRule.{record_scene, RecordRule}
+use Rattle.rule_base.specs.RecordRule.{record_projection, RecordRule}
 use Rattle.rule_base.specs.World.{World, put, parts}
-use Rattle.rule_orec.specs.OrecLaws.{free-rec, taken-rec, rec_of-free, orec_scene-put}
+use Rattle.rule_orec.specs.OrecLaws.{free-rec, taken-rec, rec_of-free, orec_projection-put}
 use Rattle.rule_orec.specs.OrecOwning.{released}
-use Rattle.rule_orec.specs.OrecRule.{orec_view, OrecScene, orec_scene, rank, rank_of}
-use Rattle.rule_promoted.specs.PromotedRule.{suit_scene, OrecSuits}
+use Rattle.rule_orec.specs.OrecRule.{orec_view, OrecProjection, orec_projection, rank, rank_of}
+use Rattle.rule_promoted.specs.PromotedRule.{suit_projection, OrecSuits}
 
 -- the version t is as high as caller n owes of record q
 abbrev pub Covers : ℕ → ℕ → ℕ → World → Type 0
 Covers n q t w = rank_one (w.views n).owned q (rec_of (w.records q)) ≤ 2 * t + 1
 
-module _ (home : ℕ → ℕ) (n q t : ℕ) (w : World) (suits : OrecSuits home (suit_scene n w)) (held : touches (w.views n).owned.held q ≡ true) where
+module _ (home : ℕ → ℕ) (n q t : ℕ) (w : World) (suits : OrecSuits home (suit_projection n w)) (held : touches (w.views n).owned.held q ≡ true) where
   -- the entry's time is: the clock was raised above the old version
-  pub entry-covers : RecordRule (record_scene w) → (w.views n).attempt.entered ≡ true → t ≡ w.clock → Covers n q t w
+  pub entry-covers : RecordRule (record_projection w) → (w.views n).attempt.entered ≡ true → t ≡ w.clock → Covers n q t w
   entry-covers records entered time = go (rec_of (w.records q)) refl
     where
       go : (k : Rec) → rec_of (w.records q) ≡ k → rank_one (w.views n).owned q k ≤ 2 * t + 1
@@ -47,9 +47,9 @@ release-stamps n q t w high k = put-all w.records q (free_record t) (λ r word. 
     (λ r d low. le_trans low (other-one (w.views n).owned q r d (rec_of (w.records r))))
 
 -- the record is the caller's alone: x is the world after it, and v its view
-module _ (n q t : ℕ) (w x : World) (v : View) (views : x.views ≡ put w.views n v) (own : v.owned ≡ released q (w.views n).owned) (words : x.records ≡ put w.records q (free_record t)) (records : RecordRule (record_scene w)) (alone : (m : ℕ) → m ≢ n → touches (w.views m).owned.held q ≡ true → ⊥) (high : Covers n q t w) where
-  abbrev was : OrecScene
-  was = orec_scene w
+module _ (n q t : ℕ) (w x : World) (v : View) (views : x.views ≡ put w.views n v) (own : v.owned ≡ released q (w.views n).owned) (words : x.records ≡ put w.records q (free_record t)) (records : RecordRule (record_projection w)) (alone : (m : ℕ) → m ≢ n → touches (w.views m).owned.held q ≡ true → ⊥) (high : Covers n q t w) where
+  abbrev was : OrecProjection
+  was = orec_projection w
 
   here : (k : Rec) → rec_of (w.records q) ≡ k → rank_one (w.views n).owned q k ≤ 2 * t + 1 → rank_of was.views q k ≤ 2 * t + 1
   here (Free u) is low = low
@@ -65,7 +65,7 @@ module _ (n q t : ℕ) (w x : World) (v : View) (views : x.views ≡ put w.views
       (subst (λ (o : Ownership). rank_in (w.views n).owned r ≤ rank_in o r) (sym own) (grind (arith, d, over-without (w.views n).owned.held q r 0)))
       (λ j e. le_refl (rank_in (was.views j).owned r)) m
 
-  pub release-ranks : (r : ℕ) → rank (orec_scene w) r ≤ rank (orec_scene x) r
-  release-ranks r = subst (λ (s : OrecScene). rank was r ≤ rank s r) (sym (orec_scene-put w x n v views))
+  pub release-ranks : (r : ℕ) → rank (orec_projection w) r ≤ rank (orec_projection x) r
+  release-ranks r = subst (λ (s : OrecProjection). rank was r ≤ rank s r) (sym (orec_projection-put w x n v views))
       (subst (λ (f : ℕ → Rec). rank was r ≤ rank_of (put was.views n (orec_view v)) r (f r)) (sym (ap (parts rec_of) words ∙ (parts-put rec_of w.records q (free_record t) ∙ ap (put was.records q) (rec_of-free t))))
       (put-all was.records q (Free t) (λ i k. rank was i ≤ rank_of (put was.views n (orec_view v)) i k) (here (rec_of (w.records q)) refl high) (λ i d. kept i d (rec_of (w.records i))) r))

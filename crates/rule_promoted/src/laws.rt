@@ -7,7 +7,7 @@ ghost use Rattle.rule_base.specs.Bridge.{of_words};
 ghost use Rattle.rule_promoted.specs.PromotedRuns.{DirectKeepsAlong};
 ghost use Rattle.rule_base.specs.StepKinds.{StepLaw, Nothing};
 ghost use Rattle.rule_promoted.specs.PromotedRule.{DirectWorld};
-ghost use Rattle.rule_promoted.specs.RaisingSteps.{direct_lift, CanDirectLift, direct_up, CanDirectUp};
+ghost use Rattle.rule_promoted.specs.RaisingSteps.{direct_raise_clock, CanDirectRaiseClock, direct_up, CanDirectUp};
 ghost use Rattle.std.specs.Prelude.{◌<◌};
 
 use stm_model::alg::Alg;
@@ -22,6 +22,6 @@ pub fn direct_keeps_along<K: MemRule>()
 
 /// So they do where it raises the clock without an entry, and gives back records of words that it took back.
 pub fn direct_raises_along<K: MemRule>()
-    ensures lifts { (rule : K) (c : Config) (caller least : ℕ) → caller < c.callers → StepLaw (DirectWorld (of_words (K.good rule) c.words) c OrecEager caller) (direct_lift least) Nothing caller (CanDirectLift least) }
+    ensures raises_clock { (rule : K) (c : Config) (caller least : ℕ) → caller < c.callers → StepLaw (DirectWorld (of_words (K.good rule) c.words) c OrecEager caller) (direct_raise_clock least) Nothing caller (CanDirectRaiseClock least) }
     ensures ups { (rule : K) (c : Config) (caller r version : ℕ) → StepLaw (DirectWorld (of_words (K.good rule) c.words) c OrecEager caller) (direct_up r version) Nothing caller (CanDirectUp r version) }
 {}

@@ -17,13 +17,13 @@ use Rattle.rule_base.specs.StepsLemmas.{steps-kept, steps-raised}
 use Rattle.rule_base.specs.World.{World, put}
 use Rattle.rule_ring.specs.Filters.{Filters}
 use Rattle.rule_ring.specs.Slots.{slot_place, slot_place-apart, slots-apart, writes_of, has_entry, entry-before, word_at-later}
-use Rattle.rule_ring.specs.RingRule.{RingPart, ring_view, ring_scene, late, RingReader, RingTurn, RingRule, RingWorld}
-use Rattle.rule_ring.specs.RingLemmas.{ring_scene-put, ring_scene-kept, ring-own, late-before, entered-before, reader-done, reader-entry}
+use Rattle.rule_ring.specs.RingRule.{RingPart, ring_view, ring_projection, late, RingReader, RingTurn, RingRule, RingWorld}
+use Rattle.rule_ring.specs.RingLemmas.{ring_projection-put, ring_projection-kept, ring-own, late-before, entered-before, reader-done, reader-entry}
 use Rattle.rule_ring.specs.RingReadLaws.{not_late, unlate, unlate-but}
 use Rattle.rule_ring.specs.RingSteps.{no_turn, ring_lock, CanRingLock, ring_tick, HasTurn, ring_slot, CanRingSlot, ring_entry, ring_enter, CanRingEnter, RingEnters, ring_write, CanRingWrite, ring_done, CanRingDone, ring_free, CanRingFree}
 use Rattle.rule_seq.specs.AttemptLemmas.{attempts-in}
-use Rattle.rule_seq.specs.LockRule.{LockRule, lock_scene}
-use Rattle.rule_seq.specs.LockLemmas.{one-taker, lock_scene-put, lock_scene-kept}
+use Rattle.rule_seq.specs.LockRule.{LockRule, lock_projection}
+use Rattle.rule_seq.specs.LockLemmas.{one-taker, lock_projection-put, lock_projection-kept}
 use Rattle.rule_seq.specs.CglSteps.{fresh_lock}
 use Rattle.stm_model.specs.declared.alg.Alg.TheVariants.{RingSw}
 
@@ -42,11 +42,11 @@ same_back cs a b d e = grind (arith, over-without cs a b d, e)
 
 module _ (F : Filters) (good : (ℕ → ℕ) → Type 0) (c : Config) (n : ℕ) where
   -- the turn is made anew, and nobody else has the lock
-  turns : (w : World) (u : RingPart) (clock done : ℕ) (slots heap : ℕ → ℕ) (history : List Entry) → LockRule (lock_scene w) → (w.views n).lock.taken ≡ true → (u.lock.taken ≡ true → RingTurn F c.ring clock done slots heap history u.turn)
-      → (m : ℕ) → (put (ring_scene w).views n u m).lock.taken ≡ true → RingTurn F c.ring clock done slots heap history (put (ring_scene w).views n u m).turn
-  turns w u clock done slots heap history l has mine = put-all (ring_scene w).views n u (λ m k. k.lock.taken ≡ true → RingTurn F c.ring clock done slots heap history k.turn) mine (λ m d t. absurd (d (one-taker (lock_scene w) m n l t has)))
+  turns : (w : World) (u : RingPart) (clock done : ℕ) (slots heap : ℕ → ℕ) (history : List Entry) → LockRule (lock_projection w) → (w.views n).lock.taken ≡ true → (u.lock.taken ≡ true → RingTurn F c.ring clock done slots heap history u.turn)
+      → (m : ℕ) → (put (ring_projection w).views n u m).lock.taken ≡ true → RingTurn F c.ring clock done slots heap history (put (ring_projection w).views n u m).turn
+  turns w u clock done slots heap history l has mine = put-all (ring_projection w).views n u (λ m k. k.lock.taken ≡ true → RingTurn F c.ring clock done slots heap history k.turn) mine (λ m d t. absurd (d (one-taker (lock_projection w) m n l t has)))
 
-  not_free : (w : World) → LockRule (lock_scene w) → (w.views n).lock.taken ≡ true → w.lock ≡ 0 → ⊥
+  not_free : (w : World) → LockRule (lock_projection w) → (w.views n).lock.taken ≡ true → w.lock ≡ 0 → ⊥
   not_free w l t z = let e = l.mine n t in omega arith
 
   pub ring_locks : StepLaw (RingWorld F good c) (ring_lock n) Nothing n CanRingLock
@@ -81,26 +81,26 @@ module _ (F : Filters) (good : (ℕ → ℕ) → Type 0) (c : Config) (n : ℕ) 
       free : late (ring_view (w.views n)) ≡ false
       free = unlate F good c n w r.runs may.free
 
-      go : (b : Bool) → (b ≡ true → w.lock ≡ 0) → LockRule (lock_scene (at b)) × RingRule F c.ring c.words (ring_scene (at b))
+      go : (b : Bool) → (b ≡ true → w.lock ≡ 0) → LockRule (lock_projection (at b)) × RingRule F c.ring c.words (ring_projection (at b))
       go true e = (
-        subst LockRule (sym (lock_scene-put w (at true) n (next true) refl refl)) (record {
+        subst LockRule (sym (lock_projection-put w (at true) n (next true) refl refl)) (record {
           mine = λ m q. grind (arith, q, r.lock.mine m, e refl);
           owner = λ m q. grind (arith, q);
           inside = λ m q. grind (arith, q, r.lock.inside m, may.has.runs.phase);
         }),
-        subst (RingRule F c.ring c.words) (sym (ring_scene-put w (at true) n (next true) refl)) (record {
+        subst (RingRule F c.ring c.words) (sym (ring_projection-put w (at true) n (next true) refl)) (record {
           base = r.runs.base;
           done = r.runs.done;
           since = r.runs.since;
           slots = r.runs.slots;
           free = λ z. absurd (omega arith);
-          fresh = put-all (ring_scene w).views n (ring_view (next true)) (λ m q. late q ≡ false → q.front ≤ w.done) (λ l. r.runs.fresh n free) (λ m d. r.runs.fresh m);
-          covered = λ l. r.runs.covered (late-before (ring_scene w).views n (ring_view (next true)) (λ q. free) l);
-          level = λ l q. r.runs.level (late-before (ring_scene w).views n (ring_view (next true)) (λ q. free) l) (entered-before (ring_scene w).views n (ring_view (next true)) refl q);
-          reader = put-all (ring_scene w).views n (ring_view (next true)) (λ m q. q.read.inside ≡ true → RingReader F c.ring c.words w.clock w.done w.base w.history q)
+          fresh = put-all (ring_projection w).views n (ring_view (next true)) (λ m q. late q ≡ false → q.front ≤ w.done) (λ l. r.runs.fresh n free) (λ m d. r.runs.fresh m);
+          covered = λ l. r.runs.covered (late-before (ring_projection w).views n (ring_view (next true)) (λ q. free) l);
+          level = λ l q. r.runs.level (late-before (ring_projection w).views n (ring_view (next true)) (λ q. free) l) (entered-before (ring_projection w).views n (ring_view (next true)) refl q);
+          reader = put-all (ring_projection w).views n (ring_view (next true)) (λ m q. q.read.inside ≡ true → RingReader F c.ring c.words w.clock w.done w.base w.history q)
               (λ t. record { start = k.start; vouched = k.vouched; front = k.front; sees = k.sees; reads_inside = k.reads_inside; unstored = k.unstored; watched = k.watched; aim = k.aim; from = k.from; after = k.after; before = k.before; found = k.found; looked = k.looked; onward = k.onward; covers = k.covers; timely = k.timely; clear = k.clear; sure = k.sure })
               (λ m d. r.runs.reader m);
-          turn = put-all (ring_scene w).views n (ring_view (next true)) (λ m q. q.lock.taken ≡ true → RingTurn F c.ring w.clock w.done w.slots w.heap w.history q.turn)
+          turn = put-all (ring_projection w).views n (ring_view (next true)) (λ m q. q.lock.taken ≡ true → RingTurn F c.ring w.clock w.done w.slots w.heap w.history q.turn)
               (λ t. record {
                 tick = λ q. absurd cc;
                 entered = λ q. absurd cc;
@@ -111,12 +111,12 @@ module _ (F : Filters) (good : (ℕ → ℕ) → Type 0) (c : Config) (n : ℕ) 
                 backs = λ a. refl;
               })
               (λ m d t. absurd (let p = r.lock.mine m t in let z = e refl in omega arith));
-          locked = put-all (ring_scene w).views n (ring_view (next true)) (λ m q. q.turn.committed ≡ true → q.lock.taken ≡ true) (λ t. refl) (λ m d. r.runs.locked m);
+          locked = put-all (ring_projection w).views n (ring_view (next true)) (λ m q. q.turn.committed ≡ true → q.lock.taken ≡ true) (λ t. refl) (λ m d. r.runs.locked m);
         }),
       )
       go false e = (
-        subst LockRule (sym (lock_scene-kept w (at false) n (next false) refl refl refl refl)) r.lock,
-        subst (RingRule F c.ring c.words) (sym (ring_scene-kept w (at false) n (next false) refl refl refl refl refl refl refl refl refl)) r.runs,
+        subst LockRule (sym (lock_projection-kept w (at false) n (next false) refl refl refl refl)) r.lock,
+        subst (RingRule F c.ring c.words) (sym (ring_projection-kept w (at false) n (next false) refl refl refl refl refl refl refl refl refl)) r.runs,
       )
 
   pub ring_ticks : StepLaw (RingWorld F good c) ring_tick Nothing n HasTurn
@@ -125,9 +125,9 @@ module _ (F : Filters) (good : (ℕ → ℕ) → Type 0) (c : Config) (n : ℕ) 
       history = history-kept good c w x n v refl refl refl refl r.history;
       steps = steps-kept c ring_tick n w refl refl refl r.steps;
       records = records-stay w x n v refl (le_refl w.clock) refl refl refl r.records;
-      lock = subst LockRule (sym (lock_scene-kept w x n v refl refl refl refl)) r.lock;
+      lock = subst LockRule (sym (lock_projection-kept w x n v refl refl refl refl)) r.lock;
       attempts = attempts-in w x n v refl may.has.runs.phase r.attempts;
-      runs = subst (RingRule F c.ring c.words) (sym (ring_scene-put w x n v refl)) (ring-own F c.ring c.words n (ring_scene w) (ring_view v) refl refl refl refl (r.runs.fresh n)
+      runs = subst (RingRule F c.ring c.words) (sym (ring_projection-put w x n v refl)) (ring-own F c.ring c.words n (ring_projection w) (ring_view v) refl refl refl refl (r.runs.fresh n)
           (λ t. record { start = k.start; vouched = k.vouched; front = k.front; sees = k.sees; reads_inside = k.reads_inside; unstored = k.unstored; watched = k.watched; aim = k.aim; from = k.from; after = k.after; before = k.before; found = k.found; looked = k.looked; onward = k.onward; covers = k.covers; timely = k.timely; clear = k.clear; sure = k.sure })
           (λ t. record { tick = λ q. refl; entered = λ q. refl; slotted = o.slotted; back = o.back; clean = o.clean; behind = o.behind; backs = o.backs }) r.runs);
     };
@@ -153,23 +153,23 @@ module _ (F : Filters) (good : (ℕ → ℕ) → Type 0) (c : Config) (n : ℕ) 
       history = history-kept good c w x n v refl refl refl refl r.history;
       steps = steps-kept c (ring_slot F c.ring e i ws) n w refl refl refl r.steps;
       records = records-stay w x n v refl (le_refl w.clock) refl refl refl r.records;
-      lock = subst LockRule (sym (lock_scene-kept w x n v refl refl refl refl)) r.lock;
+      lock = subst LockRule (sym (lock_projection-kept w x n v refl refl refl refl)) r.lock;
       attempts = attempts-in w x n v refl may.turn.has.runs.phase r.attempts;
-      runs = subst (RingRule F c.ring c.words) (sym (ring_scene-put w x n v refl)) (record {
+      runs = subst (RingRule F c.ring c.words) (sym (ring_projection-put w x n v refl)) (record {
         base = r.runs.base;
         done = r.runs.done;
         since = r.runs.since;
         slots = λ f j b near m low. put-else w.slots (slot_place c.ring e i) (slot_place c.ring f j) (F.word ws i) (λ q. apart f j near m low q) ∙ r.runs.slots f j b near m low;
         free = r.runs.free;
-        fresh = put-all (ring_scene w).views n (ring_view v) (λ m q. late q ≡ false → q.front ≤ w.done) (r.runs.fresh n) (λ m d. r.runs.fresh m);
-        covered = λ l. r.runs.covered (late-before (ring_scene w).views n (ring_view v) (λ q. q) l);
-        level = λ l q. r.runs.level (late-before (ring_scene w).views n (ring_view v) (λ q. q) l) (entered-before (ring_scene w).views n (ring_view v) refl q);
-        reader = put-all (ring_scene w).views n (ring_view v) (λ m q. q.read.inside ≡ true → RingReader F c.ring c.words w.clock w.done w.base w.history q)
+        fresh = put-all (ring_projection w).views n (ring_view v) (λ m q. late q ≡ false → q.front ≤ w.done) (r.runs.fresh n) (λ m d. r.runs.fresh m);
+        covered = λ l. r.runs.covered (late-before (ring_projection w).views n (ring_view v) (λ q. q) l);
+        level = λ l q. r.runs.level (late-before (ring_projection w).views n (ring_view v) (λ q. q) l) (entered-before (ring_projection w).views n (ring_view v) refl q);
+        reader = put-all (ring_projection w).views n (ring_view v) (λ m q. q.read.inside ≡ true → RingReader F c.ring c.words w.clock w.done w.base w.history q)
             (λ t. record { start = k.start; vouched = k.vouched; front = k.front; sees = k.sees; reads_inside = k.reads_inside; unstored = k.unstored; watched = k.watched; aim = k.aim; from = k.from; after = k.after; before = k.before; found = k.found; looked = k.looked; onward = k.onward; covers = k.covers; timely = k.timely; clear = k.clear; sure = k.sure })
             (λ m d. r.runs.reader m);
         turn = turns w (ring_view v) w.clock w.done (put w.slots (slot_place c.ring e i) (F.word ws i)) w.heap w.history r.lock may.turn.taken
             (λ t. record { tick = o.tick; entered = o.entered; slotted = λ q j l. stored j l; back = o.back; clean = o.clean; behind = o.behind; backs = o.backs });
-        locked = put-all (ring_scene w).views n (ring_view v) (λ m q. q.turn.committed ≡ true → q.lock.taken ≡ true) (r.runs.locked n) (λ m d. r.runs.locked m);
+        locked = put-all (ring_projection w).views n (ring_view v) (λ m q. q.turn.committed ≡ true → q.lock.taken ≡ true) (r.runs.locked n) (λ m d. r.runs.locked m);
       });
     };
     advances = advances-same w x refl (le_refl w.clock) (le_refl w.done) refl;
@@ -215,19 +215,19 @@ module _ (F : Filters) (good : (ℕ → ℕ) → Type 0) (c : Config) (n : ℕ) 
     rule = record {
       history = history-entry good c w x n e v refl refl refl refl refl later may.limit follows r.history;
       steps = steps-raised c (ring_enter n t) n w 1 low next refl refl r.steps;
-      lock = subst LockRule (sym (lock_scene-kept w x n v refl refl refl refl)) r.lock;
+      lock = subst LockRule (sym (lock_projection-kept w x n v refl refl refl refl)) r.lock;
       attempts = attempts-in w x n v refl may.turn.has.runs.phase r.attempts;
       records = records-stay w x n v refl (let k = later in omega arith) refl refl refl r.records;
-      runs = subst (RingRule F c.ring c.words) (sym (ring_scene-put w x n v refl)) (record {
+      runs = subst (RingRule F c.ring c.words) (sym (ring_projection-put w x n v refl)) (record {
         base = le_trans r.runs.base (let k = later in omega arith);
         done = le_trans r.runs.done (let k = later in omega arith);
         since = λ f l m. since f l m (t == f) refl;
         slots = λ f j b near m below. slots f j b near m below (t == f) refl;
         free = λ z. absurd (not_free w r.lock may.turn.taken z);
-        fresh = put-all (ring_scene w).views n (ring_view v) (λ m q. late q ≡ false → q.front ≤ w.done) (λ l. absurd cc) (λ m d. r.runs.fresh m);
+        fresh = put-all (ring_projection w).views n (ring_view v) (λ m q. late q ≡ false → q.front ≤ w.done) (λ l. absurd cc) (λ m d. r.runs.fresh m);
         covered = λ l. absurd (behind l);
         level = λ l q. absurd (behind l);
-        reader = put-all (ring_scene w).views n (ring_view v) (λ m q. q.read.inside ≡ true → RingReader F c.ring c.words t w.done w.base (e ∷ w.history) q)
+        reader = put-all (ring_projection w).views n (ring_view v) (λ m q. q.read.inside ≡ true → RingReader F c.ring c.words t w.done w.base (e ∷ w.history) q)
             (λ q. absurd cc)
             (λ m d q. reader-entry F c.ring c.words w.clock w.done w.base w.history e (ring_view (w.views m)) later r.runs.done r.runs.base (r.runs.reader m q));
         turn = turns w (ring_view v) t w.done w.slots w.heap (e ∷ w.history) r.lock may.turn.taken
@@ -240,7 +240,7 @@ module _ (F : Filters) (good : (ℕ → ℕ) → Type 0) (c : Config) (n : ℕ) 
               behind = λ a q. now a ∙ (sym (word_at-all w.history (w.done + 1) w.done a covered (le_refl (w.done + 1))) ∙ sym (word_at-later w.history e w.done a (let k = later in let d = r.runs.done in omega arith)));
               backs = λ a. over_twice (w.views n).ring_commit.writes a (word_now w.history a);
             });
-        locked = put-all (ring_scene w).views n (ring_view v) (λ m q. q.turn.committed ≡ true → q.lock.taken ≡ true) (λ q. may.turn.taken) (λ m d. r.runs.locked m);
+        locked = put-all (ring_projection w).views n (ring_view v) (λ m q. q.turn.committed ≡ true → q.lock.taken ≡ true) (λ q. may.turn.taken) (λ m d. r.runs.locked m);
       });
     };
     advances = advances-entry w x e refl later (le_refl t) (le_refl w.done) refl;
@@ -286,8 +286,8 @@ module _ (F : Filters) (good : (ℕ → ℕ) → Type 0) (c : Config) (n : ℕ) 
           go true q = absurd (let f : true ≡ false = sym (o.back a q).0 ∙ may.turn.unentered in cc)
           go false q = q
 
-      behind : ((m : ℕ) → late (put (ring_scene w).views n (ring_view v) m) ≡ false) → ⊥
-      behind l = let f : true ≡ false = sym (ap late (put-here (ring_scene w).views n (ring_view v))) ∙ l n in cc
+      behind : ((m : ℕ) → late (put (ring_projection w).views n (ring_view v) m) ≡ false) → ⊥
+      behind l = let f : true ≡ false = sym (ap late (put-here (ring_projection w).views n (ring_view v))) ∙ l n in cc
 
       since : (f : ℕ) → w.done < f → has_entry (e ∷ w.history) f ≡ true → (b : Bool) → (t == f) ≡ b → w.base < f
       since f l m true q = let same : t ≡ f = eqb-true t f q in let u = r.runs.base in let a = later in omega arith
@@ -322,18 +322,18 @@ module _ (F : Filters) (good : (ℕ → ℕ) → Type 0) (c : Config) (n : ℕ) 
       history = history-kept good c w x n v refl refl refl refl r.history;
       steps = steps-kept c (ring_write a z) n w refl refl refl r.steps;
       records = records-stay w x n v refl (le_refl w.clock) refl refl refl r.records;
-      lock = subst LockRule (sym (lock_scene-kept w x n v refl refl refl refl)) r.lock;
+      lock = subst LockRule (sym (lock_projection-kept w x n v refl refl refl refl)) r.lock;
       attempts = attempts-in w x n v refl may.entered.runs.phase r.attempts;
-      runs = subst (RingRule F c.ring c.words) (sym (ring_scene-put w x n v refl)) (record {
+      runs = subst (RingRule F c.ring c.words) (sym (ring_projection-put w x n v refl)) (record {
         base = r.runs.base;
         done = r.runs.done;
         since = r.runs.since;
         slots = r.runs.slots;
         free = λ e. absurd (not_free w r.lock taken e);
-        fresh = put-all (ring_scene w).views n (ring_view v) (λ m q. late q ≡ false → q.front ≤ w.done) (r.runs.fresh n) (λ m d. r.runs.fresh m);
-        covered = λ l. r.runs.covered (late-before (ring_scene w).views n (ring_view v) (λ q. q) l);
-        level = λ l q. r.runs.level (late-before (ring_scene w).views n (ring_view v) (λ q. q) l) (entered-before (ring_scene w).views n (ring_view v) refl q);
-        reader = put-all (ring_scene w).views n (ring_view v) (λ m q. q.read.inside ≡ true → RingReader F c.ring c.words w.clock w.done w.base w.history q)
+        fresh = put-all (ring_projection w).views n (ring_view v) (λ m q. late q ≡ false → q.front ≤ w.done) (r.runs.fresh n) (λ m d. r.runs.fresh m);
+        covered = λ l. r.runs.covered (late-before (ring_projection w).views n (ring_view v) (λ q. q) l);
+        level = λ l q. r.runs.level (late-before (ring_projection w).views n (ring_view v) (λ q. q) l) (entered-before (ring_projection w).views n (ring_view v) refl q);
+        reader = put-all (ring_projection w).views n (ring_view v) (λ m q. q.read.inside ≡ true → RingReader F c.ring c.words w.clock w.done w.base w.history q)
             (λ t. let k = r.runs.reader n t in record { start = k.start; vouched = k.vouched; front = k.front; sees = k.sees; reads_inside = k.reads_inside; unstored = k.unstored; watched = k.watched; aim = k.aim; from = k.from; after = k.after; before = k.before; found = k.found; looked = k.looked; onward = k.onward; covers = k.covers; timely = k.timely; clear = k.clear; sure = k.sure })
             (λ m d. r.runs.reader m);
         turn = turns w (ring_view v) w.clock w.done w.slots (put w.heap a z) w.history r.lock taken
@@ -346,7 +346,7 @@ module _ (F : Filters) (good : (ℕ → ℕ) → Type 0) (c : Config) (n : ℕ) 
               behind = λ b q. let k = kept_back (w.views n).ring_commit.back a b q in put-else w.heap a b z k.1 ∙ o.behind b k.0;
               backs = λ b. same_back (w.views n).ring_commit.back a b (word_now w.history b) (o.backs b);
             });
-        locked = put-all (ring_scene w).views n (ring_view v) (λ m q. q.turn.committed ≡ true → q.lock.taken ≡ true) (r.runs.locked n) (λ m d. r.runs.locked m);
+        locked = put-all (ring_projection w).views n (ring_view v) (λ m q. q.turn.committed ≡ true → q.lock.taken ≡ true) (r.runs.locked n) (λ m d. r.runs.locked m);
       });
     };
     advances = advances-same w x refl (le_refl w.clock) (le_refl w.done) refl;
@@ -378,18 +378,18 @@ module _ (F : Filters) (good : (ℕ → ℕ) → Type 0) (c : Config) (n : ℕ) 
       history = history-kept good c w x n v refl refl refl refl r.history;
       steps = steps-kept c (ring_done t) n w refl refl refl r.steps;
       records = records-stay w x n v refl (le_refl w.clock) refl refl refl r.records;
-      lock = subst LockRule (sym (lock_scene-kept w x n v refl refl refl refl)) r.lock;
+      lock = subst LockRule (sym (lock_projection-kept w x n v refl refl refl refl)) r.lock;
       attempts = attempts-in w x n v refl may.entered.runs.phase r.attempts;
-      runs = subst (RingRule F c.ring c.words) (sym (ring_scene-put w x n v refl)) (record {
+      runs = subst (RingRule F c.ring c.words) (sym (ring_projection-put w x n v refl)) (record {
         base = r.runs.base;
         done = low;
         since = λ f l m. absurd (let b = entry-before w.history (w.clock + 1) f r.history.below m in let k = now in omega arith);
         slots = r.runs.slots;
         free = r.runs.free;
-        fresh = put-all (ring_scene w).views n (ring_view v) (λ m q. late q ≡ false → q.front ≤ t) (λ l. subst (λ (k : ℕ). (w.views n).history.front ≤ k) (sym now) (r.history.known n).front) (λ m d l. le_trans (r.runs.fresh m l) up);
+        fresh = put-all (ring_projection w).views n (ring_view v) (λ m q. late q ≡ false → q.front ≤ t) (λ l. subst (λ (k : ℕ). (w.views n).history.front ≤ k) (sym now) (r.history.known n).front) (λ m d l. le_trans (r.runs.fresh m l) up);
         covered = λ l. subst (λ (k : ℕ). Below w.history (k + 1)) (sym now) r.history.below;
         level = λ l q. now;
-        reader = put-all (ring_scene w).views n (ring_view v) (λ m q. q.read.inside ≡ true → RingReader F c.ring c.words w.clock t w.base w.history q)
+        reader = put-all (ring_projection w).views n (ring_view v) (λ m q. q.read.inside ≡ true → RingReader F c.ring c.words w.clock t w.base w.history q)
             (λ e. let k = r.runs.reader n e in let d = reader-done F c.ring c.words w.clock w.done t w.base w.history (ring_view (w.views n)) up k in record { start = d.start; vouched = k.vouched; front = k.front; sees = k.sees; reads_inside = k.reads_inside; unstored = k.unstored; watched = k.watched; aim = k.aim; from = k.from; after = k.after; before = k.before; found = k.found; looked = k.looked; onward = k.onward; covers = k.covers; timely = k.timely; clear = k.clear; sure = k.sure })
             (λ m d e. reader-done F c.ring c.words w.clock w.done t w.base w.history (ring_view (w.views m)) up (r.runs.reader m e));
         turn = turns w (ring_view v) w.clock t w.slots w.heap w.history r.lock taken
@@ -402,7 +402,7 @@ module _ (F : Filters) (good : (ℕ → ℕ) → Type 0) (c : Config) (n : ℕ) 
               behind = λ a q. absurd (let f : true ≡ false = sym q ∙ may.written a in cc);
               backs = o.backs;
             });
-        locked = put-all (ring_scene w).views n (ring_view v) (λ m q. q.turn.committed ≡ true → q.lock.taken ≡ true) (r.runs.locked n) (λ m d. r.runs.locked m);
+        locked = put-all (ring_projection w).views n (ring_view v) (λ m q. q.turn.committed ≡ true → q.lock.taken ≡ true) (r.runs.locked n) (λ m d. r.runs.locked m);
       });
     };
     advances = advances-same w x refl (le_refl w.clock) up refl;
@@ -436,26 +436,26 @@ module _ (F : Filters) (good : (ℕ → ℕ) → Type 0) (c : Config) (n : ℕ) 
       history = history-kept good c w x n v refl refl refl refl r.history;
       steps = steps-kept c ring_free n w refl refl refl r.steps;
       records = records-stay w x n v refl (le_refl w.clock) refl refl refl r.records;
-      lock = subst LockRule (sym (lock_scene-put w x n v refl refl)) (record {
+      lock = subst LockRule (sym (lock_projection-put w x n v refl refl)) (record {
         mine = λ m k. grind (arith, k, r.lock.mine m, r.lock.mine n may.taken);
         owner = λ m k. grind (arith, k);
         inside = λ m k. grind (arith, k, r.lock.inside m);
       });
       attempts = attempts-in w x n v refl may.runs.phase r.attempts;
-      runs = subst (RingRule F c.ring c.words) (sym (ring_scene-put w x n v refl)) (record {
+      runs = subst (RingRule F c.ring c.words) (sym (ring_projection-put w x n v refl)) (record {
         base = r.runs.base;
         done = r.runs.done;
         since = r.runs.since;
         slots = r.runs.slots;
         free = λ z a. o.clean a (empty a (touches (w.views n).ring_commit.back a) refl);
-        fresh = put-all (ring_scene w).views n (ring_view v) (λ m q. late q ≡ false → q.front ≤ w.done) (λ l. r.runs.fresh n (before (w.views n).ring_commit.committed refl)) (λ m d. r.runs.fresh m);
-        covered = λ l. r.runs.covered (late-before (ring_scene w).views n (ring_view v) (λ q. before (w.views n).ring_commit.committed refl) l);
-        level = λ l q. r.runs.level (late-before (ring_scene w).views n (ring_view v) (λ q. before (w.views n).ring_commit.committed refl) l) (entered-before (ring_scene w).views n (ring_view v) refl q);
-        reader = put-all (ring_scene w).views n (ring_view v) (λ m q. q.read.inside ≡ true → RingReader F c.ring c.words w.clock w.done w.base w.history q)
+        fresh = put-all (ring_projection w).views n (ring_view v) (λ m q. late q ≡ false → q.front ≤ w.done) (λ l. r.runs.fresh n (before (w.views n).ring_commit.committed refl)) (λ m d. r.runs.fresh m);
+        covered = λ l. r.runs.covered (late-before (ring_projection w).views n (ring_view v) (λ q. before (w.views n).ring_commit.committed refl) l);
+        level = λ l q. r.runs.level (late-before (ring_projection w).views n (ring_view v) (λ q. before (w.views n).ring_commit.committed refl) l) (entered-before (ring_projection w).views n (ring_view v) refl q);
+        reader = put-all (ring_projection w).views n (ring_view v) (λ m q. q.read.inside ≡ true → RingReader F c.ring c.words w.clock w.done w.base w.history q)
             (λ t. let k = r.runs.reader n t in record { start = k.start; vouched = k.vouched; front = k.front; sees = k.sees; reads_inside = k.reads_inside; unstored = k.unstored; watched = k.watched; aim = k.aim; from = k.from; after = k.after; before = k.before; found = k.found; looked = k.looked; onward = k.onward; covers = k.covers; timely = k.timely; clear = k.clear; sure = k.sure })
             (λ m d. r.runs.reader m);
         turn = turns w (ring_view v) w.clock w.done w.slots w.heap w.history r.lock may.taken (λ t. absurd cc);
-        locked = put-all (ring_scene w).views n (ring_view v) (λ m q. q.turn.committed ≡ true → q.lock.taken ≡ true) (λ t. absurd cc) (λ m d. r.runs.locked m);
+        locked = put-all (ring_projection w).views n (ring_view v) (λ m q. q.turn.committed ≡ true → q.lock.taken ≡ true) (λ t. absurd cc) (λ m d. r.runs.locked m);
       });
     };
     advances = advances-same w x refl (le_refl w.clock) (le_refl w.done) refl;

@@ -9,14 +9,14 @@ use Rattle.rule_base.specs.History.{over, word_now, Below}
 use Rattle.rule_base.specs.PutLemmas.{put-all, put-here, put-else, parts-put, parts-kept}
 use Rattle.rule_base.specs.World.{World, put, parts}
 use Rattle.rule_ring.specs.Filters.{Filters}
-use Rattle.rule_ring.specs.RingRule.{RingPart, ring_view, RingScene, ring_scene, late, RingReader, RingTurn, RingRule}
+use Rattle.rule_ring.specs.RingRule.{RingPart, ring_view, RingProjection, ring_projection, late, RingReader, RingTurn, RingRule}
 use Rattle.rule_ring.specs.Slots.{slot_place, writes_of, has_entry, entry-before, word_at-later, entry-later, writes-later}
 
-pub ring_scene-put : (w x : World) (n : ℕ) (v : View) → x.views ≡ put w.views n v → ring_scene x ≡ record { clock = x.clock; lock = x.lock; base = x.base; done = x.done; slots = x.slots; heap = x.heap; history = x.history; views = put (ring_scene w).views n (ring_view v) }
-ring_scene-put w x n v is = λ i. record { clock = x.clock; lock = x.lock; base = x.base; done = x.done; slots = x.slots; heap = x.heap; history = x.history; views = (ap (parts ring_view) is ∙ parts-put ring_view w.views n v) i }
+pub ring_projection-put : (w x : World) (n : ℕ) (v : View) → x.views ≡ put w.views n v → ring_projection x ≡ record { clock = x.clock; lock = x.lock; base = x.base; done = x.done; slots = x.slots; heap = x.heap; history = x.history; views = put (ring_projection w).views n (ring_view v) }
+ring_projection-put w x n v is = λ i. record { clock = x.clock; lock = x.lock; base = x.base; done = x.done; slots = x.slots; heap = x.heap; history = x.history; views = (ap (parts ring_view) is ∙ parts-put ring_view w.views n v) i }
 
-pub ring_scene-kept : (w x : World) (n : ℕ) (v : View) → x.views ≡ put w.views n v → x.clock ≡ w.clock → x.lock ≡ w.lock → x.base ≡ w.base → x.done ≡ w.done → x.slots ≡ w.slots → x.heap ≡ w.heap → x.history ≡ w.history → ring_view v ≡ ring_view (w.views n) → ring_scene x ≡ ring_scene w
-ring_scene-kept w x n v is clock lock base done slots heap history own = λ i. record { clock = clock i; lock = lock i; base = base i; done = done i; slots = slots i; heap = heap i; history = history i; views = (ap (parts ring_view) is ∙ parts-kept ring_view w.views n v own) i }
+pub ring_projection-kept : (w x : World) (n : ℕ) (v : View) → x.views ≡ put w.views n v → x.clock ≡ w.clock → x.lock ≡ w.lock → x.base ≡ w.base → x.done ≡ w.done → x.slots ≡ w.slots → x.heap ≡ w.heap → x.history ≡ w.history → ring_view v ≡ ring_view (w.views n) → ring_projection x ≡ ring_projection w
+ring_projection-kept w x n v is clock lock base done slots heap history own = λ i. record { clock = clock i; lock = lock i; base = base i; done = done i; slots = slots i; heap = heap i; history = history i; views = (ap (parts ring_view) is ∙ parts-kept ring_view w.views n v own) i }
 
 -- nobody is late where the change made nobody late
 pub late-before : (vs : ℕ → RingPart) (n : ℕ) (u : RingPart) → (late u ≡ false → late (vs n) ≡ false) → ((m : ℕ) → late (put vs n u m) ≡ false) → (m : ℕ) → late (vs m) ≡ false
@@ -35,7 +35,7 @@ entered-before vs n u own all m = go (eqb m n) refl
 
 module _ (F : Filters) (ring words : ℕ) where
   -- nobody is in an attempt, no entry is later than BASE or DONE, and the heap is the memory: whatever ran before, RingSW may run
-  pub ring-from-rest : (s : RingScene) → ((n : ℕ) → (s.views n).read.inside ≡ true → ⊥) → ((n : ℕ) → (s.views n).turn.committed ≡ true → ⊥) → ((n : ℕ) → (s.views n).lock.taken ≡ true → ⊥)
+  pub ring-from-rest : (s : RingProjection) → ((n : ℕ) → (s.views n).read.inside ≡ true → ⊥) → ((n : ℕ) → (s.views n).turn.committed ≡ true → ⊥) → ((n : ℕ) → (s.views n).lock.taken ≡ true → ⊥)
       → s.base ≤ s.clock → s.done ≤ s.clock → ((n : ℕ) → (s.views n).front ≤ s.done) → Below s.history (s.done + 1) → (((n : ℕ) → (s.views n).attempt.entered ≡ false) → s.done ≡ s.clock)
       → ((e i : ℕ) → s.base < e → s.clock + 1 < e + ring → has_entry s.history e ≡ true → i < SLOT_WORDS → s.slots (slot_place ring e i) ≡ F.word (writes_of s.history e) i)
       → ((a : ℕ) → s.heap a ≡ word_now s.history a) → RingRule F ring words s
@@ -54,7 +54,7 @@ module _ (F : Filters) (ring words : ℕ) where
   }
 
   -- a caller changes its part: it isn't late now if it wasn't, and what it has as a reader and in its turn stands
-  pub ring-own : (n : ℕ) (s : RingScene) (u : RingPart) → u.lock.taken ≡ (s.views n).lock.taken → late u ≡ late (s.views n) → u.attempt.entered ≡ (s.views n).attempt.entered → u.turn.committed ≡ (s.views n).turn.committed
+  pub ring-own : (n : ℕ) (s : RingProjection) (u : RingPart) → u.lock.taken ≡ (s.views n).lock.taken → late u ≡ late (s.views n) → u.attempt.entered ≡ (s.views n).attempt.entered → u.turn.committed ≡ (s.views n).turn.committed
       → (late u ≡ false → u.front ≤ s.done) → (u.read.inside ≡ true → RingReader F ring words s.clock s.done s.base s.history u) → (u.lock.taken ≡ true → RingTurn F ring s.clock s.done s.slots s.heap s.history u.turn) → RingRule F ring words s → RingRule F ring words (record s { views = put s.views n u })
   ring-own n s u lock same entered committed fresh reader turn r = record {
     base = r.base;

@@ -4,12 +4,12 @@
 use Rattle.std.proofs.Common.{◌≡◌, ◌≢◌, ℕ, ◌+◌, ◌<◌, ◌≤◌, true, false, refl, sym, ◌∙◌}
 use Rattle.rule_base.specs.declared.layout.TheConstants.{SLOT_WORDS}
 use Rattle.rule_base.specs.PutLemmas.{put-all}
-use Rattle.rule_base.specs.RunScene.{RunView, RunScene}
+use Rattle.rule_base.specs.RunProjection.{RunView, RunProjection}
 use Rattle.rule_base.specs.World.{put}
 use Rattle.rule_ring.specs.SlotFilter.{slot_filter}
 use Rattle.rule_ring.specs.Slots.{slot_place, writes_of, has_entry}
 
-pub record RingKeeps (ring n : ℕ) (s : RunScene) : Type 0 where
+pub record RingKeeps (ring n : ℕ) (s : RunProjection) : Type 0 where
   pub base : s.base ≤ s.clock
   pub done : s.done ≤ s.clock
   -- the others have seen no more than what is done
@@ -19,7 +19,7 @@ pub record RingKeeps (ring n : ℕ) (s : RunScene) : Type 0 where
   pub slots : (s.views n).attempt.entered ≡ false → (e i : ℕ) → s.base < e → s.clock + 1 < e + ring → has_entry s.history e ≡ true → i < SLOT_WORDS → s.slots (slot_place ring e i) ≡ slot_filter.word (writes_of s.history e) i
 
 -- a step of caller m that leaves these words and its own entry's mark alone, and by which it sees no more than is done
-pub keeps-put : (ring n m : ℕ) (s : RunScene) (heap : ℕ → ℕ) (u : RunView) → u.attempt.entered ≡ (s.views m).attempt.entered → (m ≢ n → u.front ≤ s.done) → RingKeeps ring n s → RingKeeps ring n (record s { heap = heap; views = put s.views m u })
+pub keeps-put : (ring n m : ℕ) (s : RunProjection) (heap : ℕ → ℕ) (u : RunView) → u.attempt.entered ≡ (s.views m).attempt.entered → (m ≢ n → u.front ≤ s.done) → RingKeeps ring n s → RingKeeps ring n (record s { heap = heap; views = put s.views m u })
 keeps-put ring n m s heap u same front k = record {
   base = k.base;
   done = k.done;

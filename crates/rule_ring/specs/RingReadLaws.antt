@@ -14,12 +14,12 @@ use Rattle.rule_base.specs.StepsLemmas.{steps-kept}
 use Rattle.rule_base.specs.World.{World, put}
 use Rattle.rule_ring.specs.Filters.{Filters}
 use Rattle.rule_ring.specs.Slots.{slot_place, writes_of, has_entry, untouched, clear}
-use Rattle.rule_ring.specs.RingRule.{RingPart, ring_view, ring_scene, late, RingReader, RingTurn, RingRule, RingWorld}
-use Rattle.rule_ring.specs.RingLemmas.{ring_scene-put, ring-own}
+use Rattle.rule_ring.specs.RingRule.{RingPart, ring_view, ring_projection, late, RingReader, RingTurn, RingRule, RingWorld}
+use Rattle.rule_ring.specs.RingLemmas.{ring_projection-put, ring-own}
 use Rattle.rule_ring.specs.RingSteps.{ring_begin, CanRingBegin, RingBegins, time_by, ring_load, CanRingLoad, read_in, passed, ring_look, CanRingLook, RingSees, RingLooks, ring_word, CanRingWord, ring_again, CanRingAgain, moved, ring_move, AllClear, CanRingMove, RingMoves}
 use Rattle.rule_seq.specs.AttemptLemmas.{attempts-in}
-use Rattle.rule_seq.specs.LockRule.{LockRule, lock_scene}
-use Rattle.rule_seq.specs.LockLemmas.{one-taker, lock_scene-kept}
+use Rattle.rule_seq.specs.LockRule.{LockRule, lock_projection}
+use Rattle.rule_seq.specs.LockLemmas.{one-taker, lock_projection-kept}
 
 -- who isn't late shares that with who has the same turn
 pub not_late : (v : RingPart) → v.turn.committed ≡ false → late v ≡ false
@@ -30,7 +30,7 @@ module _ (F : Filters) (good : (ℕ → ℕ) → Type 0) (c : Config) (n : ℕ) 
   Ruled w = RingWorld F good c w
 
   -- who doesn't have the lock isn't late
-  pub unlate : (w : World) → RingRule F c.ring c.words (ring_scene w) → (w.views n).lock.taken ≡ false → late (ring_view (w.views n)) ≡ false
+  pub unlate : (w : World) → RingRule F c.ring c.words (ring_projection w) → (w.views n).lock.taken ≡ false → late (ring_view (w.views n)) ≡ false
   unlate w r free = go (w.views n).ring_commit.committed refl
     where
       go : (b : Bool) → (w.views n).ring_commit.committed ≡ b → late (ring_view (w.views n)) ≡ false
@@ -42,7 +42,7 @@ module _ (F : Filters) (good : (ℕ → ℕ) → Type 0) (c : Config) (n : ℕ) 
   unlate-but w r taken early j = go (w.views j).ring_commit.committed refl
     where
       go : (b : Bool) → (w.views j).ring_commit.committed ≡ b → late (ring_view (w.views j)) ≡ false
-      go true e = absurd (let p : j ≡ n = one-taker (lock_scene w) j n r.lock (r.runs.locked j e) taken in let f : true ≡ false = sym (subst (λ (i : ℕ). (w.views i).ring_commit.committed ≡ true) p e) ∙ early in cc)
+      go true e = absurd (let p : j ≡ n = one-taker (lock_projection w) j n r.lock (r.runs.locked j e) taken in let f : true ≡ false = sym (subst (λ (i : ℕ). (w.views i).ring_commit.committed ≡ true) p e) ∙ early in cc)
       go false e = not_late (ring_view (w.views j)) e
 
   begins_at : (w : World) (t : ℕ) → Ruled w → (w.views n).history.front ≤ t → t ≤ w.clock → RingBegins good c w (w.views n) t
@@ -60,9 +60,9 @@ module _ (F : Filters) (good : (ℕ → ℕ) → Type 0) (c : Config) (n : ℕ) 
       history = history-upto good c w x n w.done v refl refl refl refl up r.runs.done r.history;
       steps = steps-kept c ring_begin n w refl refl refl r.steps;
       records = records-stay w x n v refl (le_refl w.clock) refl refl refl r.records;
-      lock = subst LockRule (sym (lock_scene-kept w x n v refl refl refl refl)) r.lock;
+      lock = subst LockRule (sym (lock_projection-kept w x n v refl refl refl refl)) r.lock;
       attempts = attempts-in w x n v refl may.runs.phase r.attempts;
-      runs = subst (RingRule F c.ring c.words) (sym (ring_scene-put w x n v refl)) (ring-own F c.ring c.words n (ring_scene w) (ring_view v) refl refl refl refl (λ e. le_refl w.done)
+      runs = subst (RingRule F c.ring c.words) (sym (ring_projection-put w x n v refl)) (ring-own F c.ring c.words n (ring_projection w) (ring_view v) refl refl refl refl (λ e. le_refl w.done)
           (λ t. record {
             start = le_refl w.done;
             vouched = r.runs.since;
@@ -124,9 +124,9 @@ module _ (F : Filters) (good : (ℕ → ℕ) → Type 0) (c : Config) (n : ℕ) 
       history = history-kept good c w x n v refl refl refl refl r.history;
       steps = steps-kept c (ring_load a) n w refl refl refl r.steps;
       records = records-stay w x n v refl (le_refl w.clock) refl refl refl r.records;
-      lock = subst LockRule (sym (lock_scene-kept w x n v refl refl refl refl)) r.lock;
+      lock = subst LockRule (sym (lock_projection-kept w x n v refl refl refl refl)) r.lock;
       attempts = attempts-in w x n v refl may.has.runs.phase r.attempts;
-      runs = subst (RingRule F c.ring c.words) (sym (ring_scene-put w x n v refl)) (ring-own F c.ring c.words n (ring_scene w) (ring_view v) refl refl refl refl (r.runs.fresh n)
+      runs = subst (RingRule F c.ring c.words) (sym (ring_projection-put w x n v refl)) (ring-own F c.ring c.words n (ring_projection w) (ring_view v) refl refl refl refl (r.runs.fresh n)
           (λ t. record {
             start = k.start;
             vouched = k.vouched;
@@ -236,9 +236,9 @@ module _ (F : Filters) (good : (ℕ → ℕ) → Type 0) (c : Config) (n : ℕ) 
       history = history-kept good c w x n v refl refl refl refl r.history;
       steps = steps-kept c ring_look n w refl refl refl r.steps;
       records = records-stay w x n v refl (le_refl w.clock) refl refl refl r.records;
-      lock = subst LockRule (sym (lock_scene-kept w x n v refl refl refl refl)) r.lock;
+      lock = subst LockRule (sym (lock_projection-kept w x n v refl refl refl refl)) r.lock;
       attempts = attempts-in w x n v refl may.has.runs.phase r.attempts;
-      runs = subst (RingRule F c.ring c.words) (sym (ring_scene-put w x n v refl)) (go (w.clock == (w.views n).attempt.start) (λ e. eqb-true w.clock (w.views n).attempt.start e));
+      runs = subst (RingRule F c.ring c.words) (sym (ring_projection-put w x n v refl)) (go (w.clock == (w.views n).attempt.start) (λ e. eqb-true w.clock (w.views n).attempt.start e));
     };
     advances = advances-same w x refl (le_refl w.clock) (le_refl w.done) refl;
     shown = record {
@@ -296,9 +296,9 @@ module _ (F : Filters) (good : (ℕ → ℕ) → Type 0) (c : Config) (n : ℕ) 
         sure = λ e i q s. absurd cc;
       }
 
-      go : (b : Bool) → (b ≡ true → w.clock ≡ (w.views n).attempt.start) → RingRule F c.ring c.words (record (ring_scene w) { views = put (ring_scene w).views n (part b) })
-      go true e = ring-own F c.ring c.words n (ring_scene w) (part true) refl refl refl refl (r.runs.fresh n) (λ t. pass (e refl)) (r.runs.turn n) r.runs
-      go false e = ring-own F c.ring c.words n (ring_scene w) (part false) refl refl refl refl (r.runs.fresh n) (λ t. looking) (r.runs.turn n) r.runs
+      go : (b : Bool) → (b ≡ true → w.clock ≡ (w.views n).attempt.start) → RingRule F c.ring c.words (record (ring_projection w) { views = put (ring_projection w).views n (part b) })
+      go true e = ring-own F c.ring c.words n (ring_projection w) (part true) refl refl refl refl (r.runs.fresh n) (λ t. pass (e refl)) (r.runs.turn n) r.runs
+      go false e = ring-own F c.ring c.words n (ring_projection w) (part false) refl refl refl refl (r.runs.fresh n) (λ t. looking) (r.runs.turn n) r.runs
 
   pub ring_words : (e i : ℕ) → StepLaw (RingWorld F good c) (ring_word c.ring e i) Nothing n (CanRingWord c.ring e i)
   ring_words e i w r may = record {
@@ -306,9 +306,9 @@ module _ (F : Filters) (good : (ℕ → ℕ) → Type 0) (c : Config) (n : ℕ) 
       history = history-kept good c w x n v refl refl refl refl r.history;
       steps = steps-kept c (ring_word c.ring e i) n w refl refl refl r.steps;
       records = records-stay w x n v refl (le_refl w.clock) refl refl refl r.records;
-      lock = subst LockRule (sym (lock_scene-kept w x n v refl refl refl refl)) r.lock;
+      lock = subst LockRule (sym (lock_projection-kept w x n v refl refl refl refl)) r.lock;
       attempts = attempts-in w x n v refl may.has.runs.phase r.attempts;
-      runs = subst (RingRule F c.ring c.words) (sym (ring_scene-put w x n v refl)) (ring-own F c.ring c.words n (ring_scene w) (ring_view v) refl refl refl refl (r.runs.fresh n)
+      runs = subst (RingRule F c.ring c.words) (sym (ring_projection-put w x n v refl)) (ring-own F c.ring c.words n (ring_projection w) (ring_view v) refl refl refl refl (r.runs.fresh n)
           (λ t. record {
             start = k.start;
             vouched = k.vouched;
@@ -355,9 +355,9 @@ module _ (F : Filters) (good : (ℕ → ℕ) → Type 0) (c : Config) (n : ℕ) 
       history = history-kept good c w x n v refl refl refl refl r.history;
       steps = steps-kept c (ring_again c.ring) n w refl refl refl r.steps;
       records = records-stay w x n v refl (le_refl w.clock) refl refl refl r.records;
-      lock = subst LockRule (sym (lock_scene-kept w x n v refl refl refl refl)) r.lock;
+      lock = subst LockRule (sym (lock_projection-kept w x n v refl refl refl refl)) r.lock;
       attempts = attempts-in w x n v refl may.has.runs.phase r.attempts;
-      runs = subst (RingRule F c.ring c.words) (sym (ring_scene-put w x n v refl)) (ring-own F c.ring c.words n (ring_scene w) (ring_view v) refl refl refl refl (r.runs.fresh n)
+      runs = subst (RingRule F c.ring c.words) (sym (ring_projection-put w x n v refl)) (ring-own F c.ring c.words n (ring_projection w) (ring_view v) refl refl refl refl (r.runs.fresh n)
           (λ t. record {
             start = k.start;
             vouched = k.vouched;
@@ -414,9 +414,9 @@ module _ (F : Filters) (good : (ℕ → ℕ) → Type 0) (c : Config) (n : ℕ) 
       history = history-upto good c w x n t v refl refl refl refl (subst (λ (s : ℕ). s ≤ t) (sym k.front) m.0) (le_trans m.1.0 r.runs.done) r.history;
       steps = steps-kept c ring_move n w refl refl refl r.steps;
       records = records-stay w x n v refl (le_refl w.clock) refl refl refl r.records;
-      lock = subst LockRule (sym (lock_scene-kept w x n v refl refl refl refl)) r.lock;
+      lock = subst LockRule (sym (lock_projection-kept w x n v refl refl refl refl)) r.lock;
       attempts = attempts-in w x n v refl may.has.runs.phase r.attempts;
-      runs = subst (RingRule F c.ring c.words) (sym (ring_scene-put w x n v refl)) (ring-own F c.ring c.words n (ring_scene w) (ring_view v) refl refl refl refl (λ e. m.1.0) (λ e. reads) (r.runs.turn n) r.runs);
+      runs = subst (RingRule F c.ring c.words) (sym (ring_projection-put w x n v refl)) (ring-own F c.ring c.words n (ring_projection w) (ring_view v) refl refl refl refl (λ e. m.1.0) (λ e. reads) (r.runs.turn n) r.runs);
     };
     advances = advances-same w x refl (le_refl w.clock) (le_refl w.done) refl;
     shown = record {

@@ -13,7 +13,7 @@ use Rattle.rule_base.specs.declared.views.RingRead.{RingRead}
 use Rattle.rule_base.specs.declared.views.RingCommit.{RingCommit}
 use Rattle.rule_base.specs.declared.views.View.{View}
 use Rattle.rule_base.specs.History.{over, touches, word_now, word_at, Inside, Explains, Below}
-use Rattle.rule_base.specs.RunScene.{RunView, RunScene}
+use Rattle.rule_base.specs.RunProjection.{RunView, RunProjection}
 use Rattle.rule_base.specs.World.{World, parts}
 use Rattle.rule_ring.specs.Filters.{Filters}
 use Rattle.rule_ring.specs.Slots.{slot_place, writes_of, has_entry, has_word, loaded_word}
@@ -30,7 +30,7 @@ pub record RingPart : Type 0 where
 abbrev pub ring_view : View → RingPart
 ring_view v = record { attempt = v.attempt; lock = v.lock; read = v.ring_read; turn = v.ring_commit; front = v.history.front }
 
-pub record RingScene : Type 0 where
+pub record RingProjection : Type 0 where
   pub clock : ℕ
   pub lock : ℕ
   pub base : ℕ
@@ -40,8 +40,8 @@ pub record RingScene : Type 0 where
   pub history : List Entry
   pub views : ℕ → RingPart
 
-abbrev pub ring_scene : World → RingScene
-ring_scene w = record { clock = w.clock; lock = w.lock; base = w.base; done = w.done; slots = w.slots; heap = w.heap; history = w.history; views = parts ring_view w.views }
+abbrev pub ring_projection : World → RingProjection
+ring_projection w = record { clock = w.clock; lock = w.lock; base = w.base; done = w.done; slots = w.slots; heap = w.heap; history = w.history; views = parts ring_view w.views }
 
 -- its entry is in the history, and DONE was not yet stored
 abbrev pub late : RingPart → Bool
@@ -88,7 +88,7 @@ module _ (F : Filters) where
     pub behind : (a : ℕ) → touches v.back a ≡ true → heap a ≡ word_at history done a
     pub backs : (a : ℕ) → over v.back a (word_now history a) ≡ word_now history a
 
-  pub record RingRule (ring words : ℕ) (s : RingScene) : Type 0 where
+  pub record RingRule (ring words : ℕ) (s : RingProjection) : Type 0 where
     pub base : s.base ≤ s.clock
     pub done : s.done ≤ s.clock
     -- entries that aren't done are later than BASE
@@ -108,11 +108,11 @@ module _ (F : Filters) where
     -- who has an entry to write back has the lock
     pub locked : (n : ℕ) → (s.views n).turn.committed ≡ true → (s.views n).lock.taken ≡ true
 
--- of the scene of what runs
-abbrev pub ring_part : RunScene → RingScene
+-- of the projection of what runs
+abbrev pub ring_part : RunProjection → RingProjection
 ring_part s = record { clock = s.clock; lock = s.lock; base = s.base; done = s.done; slots = s.slots; heap = s.heap; history = s.history; views = parts (λ (v : RunView). record { attempt = v.attempt; lock = v.lock; read = v.ring_read; turn = v.ring_commit; front = v.front }) s.views }
 
-abbrev pub RingRuns : Filters → Config → RunScene → Type 0
+abbrev pub RingRuns : Filters → Config → RunProjection → Type 0
 RingRuns F c s = RingRule F c.ring c.words (ring_part s)
 
 -- the rule while the gate names RingSW

@@ -263,7 +263,7 @@ pub record CanRingEnter (good : (ℕ → ℕ) → Type 0) (words t : ℕ) (v : V
   pub limit : t ≤ CLOCK_LIMIT
   pub settled : v.ring_read.loaded ≡ false
   -- who knows the clock as the gate's holder is to be promoted
-  pub free : v.gate.calm ≡ false
+  pub free : v.gate.quiescent ≡ false
   pub wrote : v.ring_commit.writes ≢ []
   pub writes_inside : Inside words v.ring_commit.writes
   pub writes_small : Small v.ring_commit.writes
@@ -308,7 +308,7 @@ pub record CanRingDone (t : ℕ) (v : View) : Type 0 where
   pub entered : HasEntered v
   pub time : t ≡ v.ring_commit.clock
   pub written : (a : ℕ) → touches v.ring_commit.back a ≡ false
-  pub free : v.gate.calm ≡ false
+  pub free : v.gate.quiescent ≡ false
 
 -- store 0 in the lock
 abbrev pub ring_free : StepKind

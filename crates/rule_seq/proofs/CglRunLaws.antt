@@ -11,7 +11,7 @@ use Rattle.rule_seq.specs.CglRule.{CglWorld}
 use Rattle.stm_model.specs.declared.alg.Alg.{Alg}
 use Rattle.stm_model.specs.Algorithms.{takes_lock, irrevocable_under}
 use Rattle.rule_seq.specs.CglRuns.{CglStep, cgl_kind, CglMay, CglKeepsAlong, CglOpens, CglCommits}
-use Rattle.rule_seq.specs.CglRuns.CglStep.{acquires_lock, loads_start, loads_heap, stores_heap, stores_clock, frees_lock, loads_undo, loads_limit, takes_back}
+use Rattle.rule_seq.specs.CglRuns.CglStep.{acquires_lock, loads_start, loads_heap, stores_heap, stores_clock, frees_lock, loads_undo, loads_limit, stores_back}
 use Rattle.rule_seq.specs.CglOpening.{cgl_world-opening}
 use Rattle.rule_seq.specs.CglLaws as laws
 
@@ -24,7 +24,7 @@ one_step good c n (stores_clock t) w r m = (laws.stores_clock good c n t m.0 w r
 one_step good c n frees_lock w r m = (laws.frees_lock good c n w r m.1).rule
 one_step good c n (loads_undo a) w r m = (laws.loads_undo good c n a w r m.1).rule
 one_step good c n (loads_limit grants) w r m = (laws.loads_limit good c n grants w r m.1).rule
-one_step good c n (takes_back a x) w r m = (laws.takes_back good c n a x w r m.1).rule
+one_step good c n (stores_back a x) w r m = (laws.stores_back good c n a x w r m.1).rule
 
 pub cgl_keeps_along_lem : (good : (ℕ → ℕ) → Type 0) (c : Config) → CglKeepsAlong good c
 cgl_keeps_along_lem good c = keeps-along cgl_kind (CglMay good c) (CglWorld good c) (one_step good c)

@@ -14,15 +14,15 @@ abbrev pub is_busy : View → Bool
 is_busy v = if v.tml.inside then true else (if v.tml.writer then true else (if v.owned.inside then true else (if v.ring_read.inside then true else v.ring_commit.committed)))
 
 -- what these clauses see of the world
-pub record AttemptScene : Type 0 where
+pub record AttemptProjection : Type 0 where
   pub busy : ℕ → Bool
   pub entered : ℕ → Bool
   pub phases : ℕ → Phase
 
-abbrev pub attempt_scene : World → AttemptScene
-attempt_scene w = record { busy = parts is_busy w.views; entered = parts (λ (v : View). v.attempt.entered) w.views; phases = parts (λ (v : View). v.gate.phase) w.views }
+abbrev pub attempt_projection : World → AttemptProjection
+attempt_projection w = record { busy = parts is_busy w.views; entered = parts (λ (v : View). v.attempt.entered) w.views; phases = parts (λ (v : View). v.gate.phase) w.views }
 
-pub record AttemptRule (s : AttemptScene) : Type 0 where
+pub record AttemptRule (s : AttemptProjection) : Type 0 where
   pub busy : (n : ℕ) → s.busy n ≡ true → s.phases n ≡ In
   -- who raised the clock as the gate's holder is in its attempt or closing
   pub entered : (n : ℕ) → s.entered n ≡ true → may_hold (s.phases n) ≡ true

@@ -11,7 +11,7 @@ use Rattle.rule_base.specs.declared.views.Attempt.{Attempt}
 use Rattle.rule_base.specs.declared.views.LockView.{LockView}
 use Rattle.rule_base.specs.declared.views.View.{View}
 use Rattle.rule_base.specs.History.{over, touches, word_now, Inside, Explains, Below, upto, Follows, Legal}
-use Rattle.rule_base.specs.HistoryRule.{HistoryRule, history_scene}
+use Rattle.rule_base.specs.HistoryRule.{HistoryRule, history_projection}
 use Rattle.rule_base.specs.StepKinds.{view_after, world_after, Nothing, StepLaw}
 use Rattle.rule_base.specs.World.{World, put, parts}
 use Rattle.rule_base.specs.HistoryLemmas.{over-miss, touches-without, over-without, inside-more, small-more, upto-all, legal-good, legal-small}
@@ -20,16 +20,16 @@ use Rattle.rule_base.specs.PutLemmas.{put-all, parts-put, parts-kept}
 use Rattle.rule_base.specs.RecordLemmas.{records-stay}
 use Rattle.rule_base.specs.StepsLemmas.{steps-kept, steps-raised}
 use Rattle.rule_seq.specs.AttemptLemmas.{attempts-in}
-use Rattle.rule_seq.specs.LockRule.{lock_scene, LockRule}
-use Rattle.rule_seq.specs.CglRule.{CglView, cgl_view, CglScene, cgl_scene, CglHolder, CglRule, CglWorld}
-use Rattle.rule_seq.specs.CglSteps.{no_attempt, fresh_lock, take_lock, CanTakeLock, load_start, CanLoadStart, Begins, logged, load_heap, CanLoadHeap, Loads, store_heap, CanStoreHeap, cgl_entry, store_clock, CanStoreClock, Commits, free_lock, CanFreeLock, load_undo, CanLoadUndo, fixed_lock, load_limit, LoadsLimit, CanLoadLimit, take_back, CanTakeBack}
-use Rattle.rule_seq.specs.LockLemmas.{one-taker, lock_scene-put, lock_scene-kept}
+use Rattle.rule_seq.specs.LockRule.{lock_projection, LockRule}
+use Rattle.rule_seq.specs.CglRule.{CglView, cgl_view, CglProjection, cgl_projection, CglHolder, CglRule, CglWorld}
+use Rattle.rule_seq.specs.CglSteps.{no_attempt, fresh_lock, take_lock, CanTakeLock, load_start, CanLoadStart, Begins, logged, load_heap, CanLoadHeap, Loads, store_heap, CanStoreHeap, cgl_entry, store_clock, CanStoreClock, Commits, free_lock, CanFreeLock, load_undo, CanLoadUndo, fixed_lock, load_limit, LoadsLimit, CanLoadLimit, store_back, CanStoreBack}
+use Rattle.rule_seq.specs.LockLemmas.{one-taker, lock_projection-put, lock_projection-kept}
 
-pub cgl_scene-put : (w x : World) (n : ℕ) (v : View) → x.views ≡ put w.views n v → cgl_scene x ≡ record { clock = x.clock; lock = x.lock; heap = x.heap; history = x.history; views = put (cgl_scene w).views n (cgl_view v) }
-cgl_scene-put w x n v is = λ i. record { clock = x.clock; lock = x.lock; heap = x.heap; history = x.history; views = (ap (parts cgl_view) is ∙ parts-put cgl_view w.views n v) i }
+pub cgl_projection-put : (w x : World) (n : ℕ) (v : View) → x.views ≡ put w.views n v → cgl_projection x ≡ record { clock = x.clock; lock = x.lock; heap = x.heap; history = x.history; views = put (cgl_projection w).views n (cgl_view v) }
+cgl_projection-put w x n v is = λ i. record { clock = x.clock; lock = x.lock; heap = x.heap; history = x.history; views = (ap (parts cgl_view) is ∙ parts-put cgl_view w.views n v) i }
 
-pub cgl_scene-kept : (w x : World) (n : ℕ) (v : View) → x.views ≡ put w.views n v → x.clock ≡ w.clock → x.lock ≡ w.lock → x.heap ≡ w.heap → x.history ≡ w.history → cgl_view v ≡ cgl_view (w.views n) → cgl_scene x ≡ cgl_scene w
-cgl_scene-kept w x n v is clock lock heap history own = λ i. record { clock = clock i; lock = lock i; heap = heap i; history = history i; views = (ap (parts cgl_view) is ∙ parts-kept cgl_view w.views n v own) i }
+pub cgl_projection-kept : (w x : World) (n : ℕ) (v : View) → x.views ≡ put w.views n v → x.clock ≡ w.clock → x.lock ≡ w.lock → x.heap ≡ w.heap → x.history ≡ w.history → cgl_view v ≡ cgl_view (w.views n) → cgl_projection x ≡ cgl_projection w
+cgl_projection-kept w x n v is clock lock heap history own = λ i. record { clock = clock i; lock = lock i; heap = heap i; history = history i; views = (ap (parts cgl_view) is ∙ parts-kept cgl_view w.views n v own) i }
 
 pub logged_sees : (m : ℕ → ℕ) (t : Attempt) (a x : ℕ) → x ≡ over t.stores a (m a) → Explains m t.reads → Explains m (logged t a x)
 logged_sees m t a x value sees b = go (touches t.stores a) refl
@@ -47,12 +47,12 @@ logged_inside words t a x low inside = go (touches t.stores a)
 
 module _ (good : (ℕ → ℕ) → Type 0) (c : Config) (n : ℕ) where
   -- the holder's clauses are made anew, and nobody else has the lock
-  holders : (w : World) (y : CglScene) (u : CglView) → LockRule (lock_scene w) → (w.views n).lock.taken ≡ true → (u.lock.taken ≡ true → CglHolder c.words y u)
-      → (m : ℕ) → (put (cgl_scene w).views n u m).lock.taken ≡ true → CglHolder c.words y (put (cgl_scene w).views n u m)
-  holders w y u l has mine = put-all (cgl_scene w).views n u (λ m k. k.lock.taken ≡ true → CglHolder c.words y k) mine (λ m d t. absurd (d (one-taker (lock_scene w) m n l t has)))
+  holders : (w : World) (y : CglProjection) (u : CglView) → LockRule (lock_projection w) → (w.views n).lock.taken ≡ true → (u.lock.taken ≡ true → CglHolder c.words y u)
+      → (m : ℕ) → (put (cgl_projection w).views n u m).lock.taken ≡ true → CglHolder c.words y (put (cgl_projection w).views n u m)
+  holders w y u l has mine = put-all (cgl_projection w).views n u (λ m k. k.lock.taken ≡ true → CglHolder c.words y k) mine (λ m d t. absurd (d (one-taker (lock_projection w) m n l t has)))
 
   -- a holder that has just taken the free lock
-  fresh_rule : (alg : Alg) (s : CglScene) → s.lock ≡ 0 → ((m : ℕ) → (s.views m).lock.taken ≡ true → s.lock ≡ 1 + m) → (s.lock ≡ 0 → (a : ℕ) → s.heap a ≡ word_now s.history a)
+  fresh_rule : (alg : Alg) (s : CglProjection) → s.lock ≡ 0 → ((m : ℕ) → (s.views m).lock.taken ≡ true → s.lock ≡ 1 + m) → (s.lock ≡ 0 → (a : ℕ) → s.heap a ≡ word_now s.history a)
       → CglRule c.words (record s { lock = 1 + n; views = put s.views n (record { attempt = no_attempt; lock = fresh_lock alg; front = (s.views n).front }) })
   fresh_rule alg s z mine free = record {
     free = λ e. absurd (grind (arith, e));
@@ -75,7 +75,7 @@ module _ (good : (ℕ → ℕ) → Type 0) (c : Config) (n : ℕ) where
       u : CglView
       u = record { attempt = no_attempt; lock = fresh_lock alg; front = (s.views n).front }
 
-      y : CglScene
+      y : CglProjection
       y = record s { lock = 1 + n; views = put s.views n (record { attempt = no_attempt; lock = fresh_lock alg; front = (s.views n).front }) }
 
   pub acquires_lock : StepLaw (CglWorld good c) (take_lock n) Nothing n CanTakeLock
@@ -104,18 +104,18 @@ module _ (good : (ℕ → ℕ) → Type 0) (c : Config) (n : ℕ) where
       at : Bool → World
       at b = record w { lock = if b then 1 + n else w.lock; views = put w.views n (next b) }
 
-      go : (b : Bool) → (b ≡ true → w.lock ≡ 0) → LockRule (lock_scene (at b)) × CglRule c.words (cgl_scene (at b))
+      go : (b : Bool) → (b ≡ true → w.lock ≡ 0) → LockRule (lock_projection (at b)) × CglRule c.words (cgl_projection (at b))
       go true e = (
-        subst LockRule (sym (lock_scene-put w (at true) n (next true) refl refl)) (record {
+        subst LockRule (sym (lock_projection-put w (at true) n (next true) refl refl)) (record {
           mine = λ m k. grind (arith, k, r.lock.mine m, e refl);
           owner = λ m k. grind (arith, k);
           inside = λ m k. grind (arith, k, r.lock.inside m, may.phase);
         }),
-        subst (CglRule c.words) (sym (cgl_scene-put w (at true) n (next true) refl)) (fresh_rule (w.views n).gate.algorithm (cgl_scene w) (e refl) r.lock.mine r.runs.free),
+        subst (CglRule c.words) (sym (cgl_projection-put w (at true) n (next true) refl)) (fresh_rule (w.views n).gate.algorithm (cgl_projection w) (e refl) r.lock.mine r.runs.free),
       )
       go false e = (
-        subst LockRule (sym (lock_scene-kept w (at false) n (next false) refl refl refl refl)) r.lock,
-        subst (CglRule c.words) (sym (cgl_scene-kept w (at false) n (next false) refl refl refl refl refl refl)) r.runs,
+        subst LockRule (sym (lock_projection-kept w (at false) n (next false) refl refl refl refl)) r.lock,
+        subst (CglRule c.words) (sym (cgl_projection-kept w (at false) n (next false) refl refl refl refl refl refl)) r.runs,
       )
 
   pub loads_start : StepLaw (CglWorld good c) load_start (Begins good c) n CanLoadStart
@@ -125,8 +125,8 @@ module _ (good : (ℕ → ℕ) → Type 0) (c : Config) (n : ℕ) where
       steps = steps-kept c load_start n w refl refl refl r.steps;
       attempts = attempts-in w x n v refl may.has.phase r.attempts;
       records = records-stay w x n v refl (le_refl w.clock) refl refl refl r.records;
-      lock = subst LockRule (sym (lock_scene-kept w x n v refl refl refl refl)) r.lock;
-      runs = subst (CglRule c.words) (sym (cgl_scene-put w x n v refl)) (record {
+      lock = subst LockRule (sym (lock_projection-kept w x n v refl refl refl refl)) r.lock;
+      runs = subst (CglRule c.words) (sym (cgl_projection-put w x n v refl)) (record {
         free = r.runs.free;
         holder = holders w y u r.lock may.has.taken (λ t. record {
           stored = h.stored;
@@ -155,14 +155,14 @@ module _ (good : (ℕ → ℕ) → Type 0) (c : Config) (n : ℕ) where
       u : CglView
       u = cgl_view (view_after load_start w (w.views n) w.clock)
 
-      y : CglScene
-      y = record (cgl_scene w) { views = put (cgl_scene w).views n (cgl_view (view_after load_start w (w.views n) w.clock)) }
+      y : CglProjection
+      y = record (cgl_projection w) { views = put (cgl_projection w).views n (cgl_view (view_after load_start w (w.views n) w.clock)) }
 
-      h : CglHolder c.words (cgl_scene w) (cgl_view (w.views n))
+      h : CglHolder c.words (cgl_projection w) (cgl_view (w.views n))
       h = r.runs.holder n may.has.taken
 
   -- while the lock is taken it isn't free
-  not_free : (w : World) → LockRule (lock_scene w) → (w.views n).lock.taken ≡ true → w.lock ≡ 0 → ⊥
+  not_free : (w : World) → LockRule (lock_projection w) → (w.views n).lock.taken ≡ true → w.lock ≡ 0 → ⊥
   not_free w l t z = let e = l.mine n t in omega arith
 
   -- a holder that has started has seen all
@@ -173,7 +173,7 @@ module _ (good : (ℕ → ℕ) → Type 0) (c : Config) (n : ℕ) where
       (r.history.known n).seen ∙ ap (upto w.history) front ∙ upto-all w.history (w.clock + 1) w.clock r.history.below (le_refl (w.clock + 1))
 
   -- what a load shows to a seat that has seen all
-  pub loads_of : (a : ℕ) (w : World) (v : View) (x : ℕ) → v.history.seen ≡ w.history → v.attempt.start ≡ w.clock → HistoryRule good c (history_scene w)
+  pub loads_of : (a : ℕ) (w : World) (v : View) (x : ℕ) → v.history.seen ≡ w.history → v.attempt.start ≡ w.clock → HistoryRule good c (history_projection w)
       → x ≡ over v.attempt.stores a (word_now w.history a) → over v.attempt.stores a (word_now w.history a) < 2 ^ 64 → Explains (word_now w.history) v.attempt.reads → Loads good c a w v x
   loads_of a w v x seen start h value small sees = record {
     value = subst (λ (k : List Entry). x ≡ over v.attempt.stores a (word_now k a)) (sym seen) value;
@@ -190,10 +190,10 @@ module _ (good : (ℕ → ℕ) → Type 0) (c : Config) (n : ℕ) where
       steps = steps-kept c (load_heap a) n w refl refl refl r.steps;
       attempts = attempts-in w x n v refl may.has.phase r.attempts;
       records = records-stay w x n v refl (le_refl w.clock) refl refl refl r.records;
-      lock = subst LockRule (sym (lock_scene-kept w x n v refl refl refl refl)) r.lock;
-      runs = subst (CglRule c.words) (sym (cgl_scene-put w x n v refl)) (record {
+      lock = subst LockRule (sym (lock_projection-kept w x n v refl refl refl refl)) r.lock;
+      runs = subst (CglRule c.words) (sym (cgl_projection-put w x n v refl)) (record {
         free = r.runs.free;
-        holder = holders w (record (cgl_scene w) { views = put (cgl_scene w).views n (cgl_view v) }) (cgl_view v) r.lock may.has.taken (λ t. record {
+        holder = holders w (record (cgl_projection w) { views = put (cgl_projection w).views n (cgl_view v) }) (cgl_view v) r.lock may.has.taken (λ t. record {
           stored = h.stored;
           unstored = h.unstored;
           start = h.start;
@@ -218,7 +218,7 @@ module _ (good : (ℕ → ℕ) → Type 0) (c : Config) (n : ℕ) where
       v : View
       v = view_after (load_heap a) w (w.views n) (w.heap a)
 
-      h : CglHolder c.words (cgl_scene w) (cgl_view (w.views n))
+      h : CglHolder c.words (cgl_projection w) (cgl_view (w.views n))
       h = r.runs.holder n may.has.taken
 
   pub stores_heap : (a k : ℕ) → StepLaw (CglWorld good c) (store_heap a k) Nothing n (CanStoreHeap c.words a k)
@@ -228,10 +228,10 @@ module _ (good : (ℕ → ℕ) → Type 0) (c : Config) (n : ℕ) where
       steps = steps-kept c (store_heap a k) n w refl refl refl r.steps;
       attempts = attempts-in w x n v refl may.has.phase r.attempts;
       records = records-stay w x n v refl (le_refl w.clock) refl refl refl r.records;
-      lock = subst LockRule (sym (lock_scene-kept w x n v refl refl refl refl)) r.lock;
-      runs = subst (CglRule c.words) (sym (cgl_scene-put w x n v refl)) (record {
+      lock = subst LockRule (sym (lock_projection-kept w x n v refl refl refl refl)) r.lock;
+      runs = subst (CglRule c.words) (sym (cgl_projection-put w x n v refl)) (record {
         free = λ z. absurd (not_free w r.lock may.has.taken z);
-        holder = holders w (record (cgl_scene w) { heap = put w.heap a k; views = put (cgl_scene w).views n (cgl_view v) }) (cgl_view v) r.lock may.has.taken (λ t. record {
+        holder = holders w (record (cgl_projection w) { heap = put w.heap a k; views = put (cgl_projection w).views n (cgl_view v) }) (cgl_view v) r.lock may.has.taken (λ t. record {
           stored = λ b. grind (arith, h.stored b);
           unstored = λ e. absurd (let f = may.started in cc);
           start = h.start;
@@ -255,7 +255,7 @@ module _ (good : (ℕ → ℕ) → Type 0) (c : Config) (n : ℕ) where
       v : View
       v = view_after (store_heap a k) w (w.views n) k
 
-      h : CglHolder c.words (cgl_scene w) (cgl_view (w.views n))
+      h : CglHolder c.words (cgl_projection w) (cgl_view (w.views n))
       h = r.runs.holder n may.has.taken
 
   -- the entry follows the history, and leaves the heap as the memory after it
@@ -266,10 +266,10 @@ module _ (good : (ℕ → ℕ) → Type 0) (c : Config) (n : ℕ) where
       steps = steps-raised c (store_clock n t) n w 1 low next refl refl r.steps;
       attempts = attempts-in w x n v refl may.has.phase r.attempts;
       records = records-stay w x n v refl (let k = later in omega arith) refl refl refl r.records;
-      lock = subst LockRule (sym (lock_scene-kept w x n v refl refl refl refl)) r.lock;
-      runs = subst (CglRule c.words) (sym (cgl_scene-put w x n v refl)) (record {
+      lock = subst LockRule (sym (lock_projection-kept w x n v refl refl refl refl)) r.lock;
+      runs = subst (CglRule c.words) (sym (cgl_projection-put w x n v refl)) (record {
         free = λ z. absurd (not_free w r.lock may.has.taken z);
-        holder = holders w (record (cgl_scene w) { clock = t; history = e ∷ w.history; views = put (cgl_scene w).views n (cgl_view v) }) (cgl_view v) r.lock may.has.taken (λ has. record {
+        holder = holders w (record (cgl_projection w) { clock = t; history = e ∷ w.history; views = put (cgl_projection w).views n (cgl_view v) }) (cgl_view v) r.lock may.has.taken (λ has. record {
           stored = h.stored;
           unstored = λ f. refl;
           start = λ f. absurd cc;
@@ -300,7 +300,7 @@ module _ (good : (ℕ → ℕ) → Type 0) (c : Config) (n : ℕ) where
       e : Entry
       e = cgl_entry n t (w.views n)
 
-      h : CglHolder c.words (cgl_scene w) (cgl_view (w.views n))
+      h : CglHolder c.words (cgl_projection w) (cgl_view (w.views n))
       h = r.runs.holder n may.has.taken
 
       next : t ≡ w.clock + 1
@@ -329,14 +329,14 @@ module _ (good : (ℕ → ℕ) → Type 0) (c : Config) (n : ℕ) where
       steps = steps-kept c free_lock n w refl refl refl r.steps;
       attempts = attempts-in w x n v refl may.has.phase r.attempts;
       records = records-stay w x n v refl (le_refl w.clock) refl refl refl r.records;
-      lock = subst LockRule (sym (lock_scene-put w x n v refl refl)) (record {
+      lock = subst LockRule (sym (lock_projection-put w x n v refl refl)) (record {
         mine = λ m k. grind (arith, k, r.lock.mine m, r.lock.mine n may.has.taken);
         owner = λ m k. grind (arith, k);
         inside = λ m k. grind (arith, k, r.lock.inside m);
       });
-      runs = subst (CglRule c.words) (sym (cgl_scene-put w x n v refl)) (record {
+      runs = subst (CglRule c.words) (sym (cgl_projection-put w x n v refl)) (record {
         free = λ z a. h.stored a ∙ ap (λ (k : List Cell). over k a (word_now w.history a)) may.unstored;
-        holder = holders w (record (cgl_scene w) { lock = 0; views = put (cgl_scene w).views n (cgl_view v) }) (cgl_view v) r.lock may.has.taken (λ t. absurd cc);
+        holder = holders w (record (cgl_projection w) { lock = 0; views = put (cgl_projection w).views n (cgl_view v) }) (cgl_view v) r.lock may.has.taken (λ t. absurd cc);
       });
     };
     advances = advances-same w x refl (le_refl w.clock) (le_refl w.done) refl;
@@ -349,7 +349,7 @@ module _ (good : (ℕ → ℕ) → Type 0) (c : Config) (n : ℕ) where
       v : View
       v = view_after free_lock w (w.views n) 0
 
-      h : CglHolder c.words (cgl_scene w) (cgl_view (w.views n))
+      h : CglHolder c.words (cgl_projection w) (cgl_view (w.views n))
       h = r.runs.holder n may.has.taken
 
   pub loads_undo : (a : ℕ) → StepLaw (CglWorld good c) (load_undo a) Nothing n (CanLoadUndo a)
@@ -359,10 +359,10 @@ module _ (good : (ℕ → ℕ) → Type 0) (c : Config) (n : ℕ) where
       steps = steps-kept c (load_undo a) n w refl refl refl r.steps;
       attempts = attempts-in w x n v refl may.has.phase r.attempts;
       records = records-stay w x n v refl (le_refl w.clock) refl refl refl r.records;
-      lock = subst LockRule (sym (lock_scene-kept w x n v refl refl refl refl)) r.lock;
-      runs = subst (CglRule c.words) (sym (cgl_scene-put w x n v refl)) (record {
+      lock = subst LockRule (sym (lock_projection-kept w x n v refl refl refl refl)) r.lock;
+      runs = subst (CglRule c.words) (sym (cgl_projection-put w x n v refl)) (record {
         free = r.runs.free;
-        holder = holders w (record (cgl_scene w) { views = put (cgl_scene w).views n (cgl_view v) }) (cgl_view v) r.lock may.has.taken (λ t. record {
+        holder = holders w (record (cgl_projection w) { views = put (cgl_projection w).views n (cgl_view v) }) (cgl_view v) r.lock may.has.taken (λ t. record {
           stored = h.stored;
           unstored = h.unstored;
           start = h.start;
@@ -386,7 +386,7 @@ module _ (good : (ℕ → ℕ) → Type 0) (c : Config) (n : ℕ) where
       v : View
       v = view_after (load_undo a) w (w.views n) (w.heap a)
 
-      h : CglHolder c.words (cgl_scene w) (cgl_view (w.views n))
+      h : CglHolder c.words (cgl_projection w) (cgl_view (w.views n))
       h = r.runs.holder n may.has.taken
 
       clear : (b : Bool) → touches (w.views n).attempt.stores a ≡ b → b ≡ false
@@ -404,8 +404,8 @@ module _ (good : (ℕ → ℕ) → Type 0) (c : Config) (n : ℕ) where
       steps = steps-kept c (load_limit grants) n w refl refl refl r.steps;
       attempts = attempts-in w x n v refl may.has.phase r.attempts;
       records = records-stay w x n v refl (le_refl w.clock) refl refl refl r.records;
-      lock = subst LockRule (sym (lock_scene-kept w x n v refl refl (same (if grants then ltb w.clock CLOCK_LIMIT else false)) refl)) r.lock;
-      runs = subst (CglRule c.words) (sym (cgl_scene-put w x n v refl)) (go (if grants then ltb w.clock CLOCK_LIMIT else false));
+      lock = subst LockRule (sym (lock_projection-kept w x n v refl refl (same (if grants then ltb w.clock CLOCK_LIMIT else false)) refl)) r.lock;
+      runs = subst (CglRule c.words) (sym (cgl_projection-put w x n v refl)) (go (if grants then ltb w.clock CLOCK_LIMIT else false));
     };
     advances = advances-same w x refl (le_refl w.clock) (le_refl w.done) refl;
     shown = sym ((r.runs.holder n may.has.taken).start may.started);
@@ -417,7 +417,7 @@ module _ (good : (ℕ → ℕ) → Type 0) (c : Config) (n : ℕ) where
       v : View
       v = view_after (load_limit grants) w (w.views n) w.clock
 
-      h : CglHolder c.words (cgl_scene w) (cgl_view (w.views n))
+      h : CglHolder c.words (cgl_projection w) (cgl_view (w.views n))
       h = r.runs.holder n may.has.taken
 
       lock_by : Bool → LockView
@@ -430,10 +430,10 @@ module _ (good : (ℕ → ℕ) → Type 0) (c : Config) (n : ℕ) where
       u : Bool → CglView
       u b = record { attempt = (w.views n).attempt; lock = if b then fixed_lock (w.views n).lock else record (w.views n).lock { clocked = true }; front = (w.views n).history.front }
 
-      go : (b : Bool) → CglRule c.words (record (cgl_scene w) { views = put (cgl_scene w).views n (u b) })
+      go : (b : Bool) → CglRule c.words (record (cgl_projection w) { views = put (cgl_projection w).views n (u b) })
       go true = record {
         free = r.runs.free;
-        holder = holders w (record (cgl_scene w) { views = put (cgl_scene w).views n (u true) }) (u true) r.lock may.has.taken (λ t. record {
+        holder = holders w (record (cgl_projection w) { views = put (cgl_projection w).views n (u true) }) (u true) r.lock may.has.taken (λ t. record {
           stored = h.stored;
           unstored = h.unstored;
           start = h.start;
@@ -448,7 +448,7 @@ module _ (good : (ℕ → ℕ) → Type 0) (c : Config) (n : ℕ) where
       }
       go false = record {
         free = r.runs.free;
-        holder = holders w (record (cgl_scene w) { views = put (cgl_scene w).views n (u false) }) (u false) r.lock may.has.taken (λ t. record {
+        holder = holders w (record (cgl_projection w) { views = put (cgl_projection w).views n (u false) }) (u false) r.lock may.has.taken (λ t. record {
           stored = h.stored;
           unstored = h.unstored;
           start = h.start;
@@ -462,17 +462,17 @@ module _ (good : (ℕ → ℕ) → Type 0) (c : Config) (n : ℕ) where
         });
       }
 
-  pub takes_back : (a k : ℕ) → StepLaw (CglWorld good c) (take_back a k) Nothing n (CanTakeBack a k)
-  takes_back a k w r may = record {
+  pub stores_back : (a k : ℕ) → StepLaw (CglWorld good c) (store_back a k) Nothing n (CanStoreBack a k)
+  stores_back a k w r may = record {
     rule = record {
       history = history-kept good c w x n v refl refl refl refl r.history;
-      steps = steps-kept c (take_back a k) n w refl refl refl r.steps;
+      steps = steps-kept c (store_back a k) n w refl refl refl r.steps;
       attempts = attempts-in w x n v refl may.has.phase r.attempts;
       records = records-stay w x n v refl (le_refl w.clock) refl refl refl r.records;
-      lock = subst LockRule (sym (lock_scene-kept w x n v refl refl refl refl)) r.lock;
-      runs = subst (CglRule c.words) (sym (cgl_scene-put w x n v refl)) (record {
+      lock = subst LockRule (sym (lock_projection-kept w x n v refl refl refl refl)) r.lock;
+      runs = subst (CglRule c.words) (sym (cgl_projection-put w x n v refl)) (record {
         free = λ z. absurd (not_free w r.lock may.has.taken z);
-        holder = holders w (record (cgl_scene w) { heap = put w.heap a k; views = put (cgl_scene w).views n (cgl_view v) }) (cgl_view v) r.lock may.has.taken (λ t. record {
+        holder = holders w (record (cgl_projection w) { heap = put w.heap a k; views = put (cgl_projection w).views n (cgl_view v) }) (cgl_view v) r.lock may.has.taken (λ t. record {
           stored = λ b. grind (arith, h.stored b, over-without (w.views n).attempt.stores a b (word_now w.history b), may.value, h.undone a may.logged 0);
           unstored = λ e. absurd (let f = may.started in cc);
           start = h.start;
@@ -491,10 +491,10 @@ module _ (good : (ℕ → ℕ) → Type 0) (c : Config) (n : ℕ) where
   }
     where
       x : World
-      x = world_after (take_back a k) n w
+      x = world_after (store_back a k) n w
 
       v : View
-      v = view_after (take_back a k) w (w.views n) k
+      v = view_after (store_back a k) w (w.views n) k
 
-      h : CglHolder c.words (cgl_scene w) (cgl_view (w.views n))
+      h : CglHolder c.words (cgl_projection w) (cgl_view (w.views n))
       h = r.runs.holder n may.has.taken

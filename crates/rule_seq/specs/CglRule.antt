@@ -10,7 +10,7 @@ use Rattle.rule_base.specs.declared.views.Attempt.{Attempt}
 use Rattle.rule_base.specs.declared.views.LockView.{LockView}
 use Rattle.rule_base.specs.declared.views.View.{View}
 use Rattle.rule_base.specs.History.{over, touches, word_now, Inside, Small, Explains}
-use Rattle.rule_base.specs.RunScene.{RunView, RunScene}
+use Rattle.rule_base.specs.RunProjection.{RunView, RunProjection}
 use Rattle.rule_base.specs.World.{World, parts}
 use Rattle.rule_seq.specs.RunWorld.{RunWorld}
 
@@ -23,18 +23,18 @@ pub record CglView : Type 0 where
 abbrev pub cgl_view : View → CglView
 cgl_view v = record { attempt = v.attempt; lock = v.lock; front = v.history.front }
 
-pub record CglScene : Type 0 where
+pub record CglProjection : Type 0 where
   pub clock : ℕ
   pub lock : ℕ
   pub heap : ℕ → ℕ
   pub history : List Entry
   pub views : ℕ → CglView
 
-abbrev pub cgl_scene : World → CglScene
-cgl_scene w = record { clock = w.clock; lock = w.lock; heap = w.heap; history = w.history; views = parts cgl_view w.views }
+abbrev pub cgl_projection : World → CglProjection
+cgl_projection w = record { clock = w.clock; lock = w.lock; heap = w.heap; history = w.history; views = parts cgl_view w.views }
 
 -- what stands of the caller that has the lock
-pub record CglHolder (words : ℕ) (s : CglScene) (v : CglView) : Type 0 where
+pub record CglHolder (words : ℕ) (s : CglProjection) (v : CglView) : Type 0 where
   -- the heap is the memory after the history under the holder's stores: its loads see its own writes, and the entry makes the heap the memory again
   pub stored : (a : ℕ) → s.heap a ≡ over v.attempt.stores a (word_now s.history a)
   -- nothing is stored before the start is loaded, and nothing is left when the entry stands: freeing the lock then leaves the memory
@@ -53,16 +53,16 @@ pub record CglHolder (words : ℕ) (s : CglScene) (v : CglView) : Type 0 where
   pub undone : (a : ℕ) → touches v.lock.undo a ≡ true → (d : ℕ) → over v.lock.undo a d ≡ word_now s.history a
   pub covered : v.lock.irrevocable ≡ false → (a : ℕ) → touches v.attempt.stores a ≡ true → touches v.lock.undo a ≡ true
 
-pub record CglRule (words : ℕ) (s : CglScene) : Type 0 where
+pub record CglRule (words : ℕ) (s : CglProjection) : Type 0 where
   -- a free lock leaves the memory after the history: the next holder, an install and closing take the heap as it is
   pub free : s.lock ≡ 0 → (a : ℕ) → s.heap a ≡ word_now s.history a
   pub holder : (n : ℕ) → (s.views n).lock.taken ≡ true → CglHolder words s (s.views n)
 
--- of the scene of what runs
-abbrev pub cgl_part : RunScene → CglScene
+-- of the projection of what runs
+abbrev pub cgl_part : RunProjection → CglProjection
 cgl_part s = record { clock = s.clock; lock = s.lock; heap = s.heap; history = s.history; views = parts (λ (v : RunView). record { attempt = v.attempt; lock = v.lock; front = v.front }) s.views }
 
-abbrev pub CglRuns : Config → RunScene → Type 0
+abbrev pub CglRuns : Config → RunProjection → Type 0
 CglRuns c s = CglRule c.words (cgl_part s)
 
 -- the rule while the gate names CGL or Serial

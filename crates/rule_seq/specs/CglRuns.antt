@@ -12,7 +12,7 @@ use Rattle.rule_base.specs.Runs.{run, Allowed, KeepsAlong}
 use Rattle.rule_base.specs.StepKinds.{StepKind}
 use Rattle.rule_base.specs.World.{World}
 use Rattle.rule_seq.specs.CglRule.{CglWorld}
-use Rattle.rule_seq.specs.CglSteps.{take_lock, CanTakeLock, load_start, CanLoadStart, load_heap, CanLoadHeap, store_heap, CanStoreHeap, store_clock, CanStoreClock, free_lock, CanFreeLock, load_undo, CanLoadUndo, load_limit, CanLoadLimit, take_back, CanTakeBack}
+use Rattle.rule_seq.specs.CglSteps.{take_lock, CanTakeLock, load_start, CanLoadStart, load_heap, CanLoadHeap, store_heap, CanStoreHeap, store_clock, CanStoreClock, free_lock, CanFreeLock, load_undo, CanLoadUndo, load_limit, CanLoadLimit, store_back, CanStoreBack}
 
 -- a step by its kind and its numbers
 pub data CglStep : Type 0 where
@@ -24,7 +24,7 @@ pub data CglStep : Type 0 where
   frees_lock : CglStep
   loads_undo : (a : ℕ) → CglStep
   loads_limit : (grants : Bool) → CglStep
-  takes_back : (a x : ℕ) → CglStep
+  stores_back : (a x : ℕ) → CglStep
 
 abbrev pub cgl_kind : ℕ → CglStep → StepKind
 cgl_kind n acquires_lock = take_lock n
@@ -35,7 +35,7 @@ cgl_kind n (stores_clock t) = store_clock n t
 cgl_kind n frees_lock = free_lock
 cgl_kind n (loads_undo a) = load_undo a
 cgl_kind n (loads_limit grants) = load_limit grants
-cgl_kind n (takes_back a x) = take_back a x
+cgl_kind n (stores_back a x) = store_back a x
 
 module _ (good : (ℕ → ℕ) → Type 0) (c : Config) where
   abbrev pub MayAs : CglStep → View → Type 0
@@ -47,7 +47,7 @@ module _ (good : (ℕ → ℕ) → Type 0) (c : Config) where
   MayAs frees_lock v = CanFreeLock v
   MayAs (loads_undo a) v = CanLoadUndo a v
   MayAs (loads_limit grants) v = CanLoadLimit v
-  MayAs (takes_back a x) v = CanTakeBack a x v
+  MayAs (stores_back a x) v = CanStoreBack a x v
 
   -- a caller of this memory may take the step where its view allows it
   abbrev pub CglMay : ℕ → CglStep → View → Type 0

@@ -197,15 +197,15 @@ pub record CanLoadLimit (v : View) : Type 0 where
   pub started : v.lock.started ≡ true
 
 -- Serial: store back what the undo log has of an address, which stays in it
-abbrev pub take_back : ℕ → ℕ → StepKind
-take_back a x = record {
+abbrev pub store_back : ℕ → ℕ → StepKind
+store_back a x = record {
   place = Heap a;
   act = Store x;
   after = λ w v n. record v { attempt = record v.attempt { stores = without v.attempt.stores a } };
   grown = same_history;
 }
 
-pub record CanTakeBack (a x : ℕ) (v : View) : Type 0 where
+pub record CanStoreBack (a x : ℕ) (v : View) : Type 0 where
   pub has : HasLock v
   pub started : v.lock.started ≡ true
   pub logged : touches v.lock.undo a ≡ true

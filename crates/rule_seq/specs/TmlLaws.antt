@@ -7,33 +7,33 @@ use Rattle.rule_base.specs.declared.entries.Entry.{Entry}
 use Rattle.stm_model.specs.declared.config.Config.{Config}
 use Rattle.rule_base.specs.declared.views.View.{View}
 use Rattle.rule_base.specs.History.{over, word_at, word_now, Inside, Explains, Below, upto, Follows, Legal}
-use Rattle.rule_base.specs.HistoryRule.{HistoryRule, history_scene}
+use Rattle.rule_base.specs.HistoryRule.{HistoryRule, history_projection}
 use Rattle.rule_base.specs.StepKinds.{view_after, world_after, Nothing, StepLaw}
-use Rattle.rule_base.specs.StepsRule.{StepsRule, steps_scene}
+use Rattle.rule_base.specs.StepsRule.{StepsRule, steps_projection}
 use Rattle.rule_base.specs.World.{World, put, parts}
 use Rattle.rule_base.specs.HistoryLemmas.{word_at-all, upto-all, word_now-upto, below-upto, legal-upto, inside-more, small-more, legal-good, legal-small}
 use Rattle.rule_base.specs.HistoryRuleLemmas.{advances-same, advances-entry, history-kept, history-seen, history-raised, history-entry}
 use Rattle.rule_base.specs.PutLemmas.{put-all, parts-put, parts-kept}
 use Rattle.rule_base.specs.RecordLemmas.{records-stay}
-use Rattle.rule_base.specs.RecordRule.{record_scene, RecordRule}
+use Rattle.rule_base.specs.RecordRule.{record_projection, RecordRule}
 use Rattle.rule_base.specs.StepsLemmas.{steps-kept, steps-raised}
-use Rattle.rule_seq.specs.AttemptRule.{attempt_scene, AttemptRule}
+use Rattle.rule_seq.specs.AttemptRule.{attempt_projection, AttemptRule}
 use Rattle.rule_seq.specs.AttemptLemmas.{attempts-in}
-use Rattle.rule_seq.specs.LockRule.{lock_scene, LockRule}
-use Rattle.rule_seq.specs.LockLemmas.{lock_scene-kept}
+use Rattle.rule_seq.specs.LockRule.{lock_projection, LockRule}
+use Rattle.rule_seq.specs.LockLemmas.{lock_projection-kept}
 use Rattle.rule_seq.specs.CglLaws.{logged_sees, logged_inside}
 use Rattle.rule_seq.specs.CglSteps.{logged, cgl_entry, Commits}
-use Rattle.rule_seq.specs.TmlRule.{TmlPart, tml_view, TmlScene, tml_scene, TmlReader, TmlWriter, TmlRule, TmlWorld}
+use Rattle.rule_seq.specs.TmlRule.{TmlPart, tml_view, TmlProjection, tml_projection, TmlReader, TmlWriter, TmlRule, TmlWorld}
 use Rattle.rule_seq.specs.TmlSteps.{fresh_tml, tml_begin, CanTmlBegin, TmlBegins, tml_load, CanTmlLoad, TmlSees, TmlLoads, still_at, tml_again, CanTmlAgain, TmlAgain, tml_write, CanTmlWrite, tml_store, CanTmlStore, tml_commit, CanTmlCommit}
 
-pub tml_scene-put : (w x : World) (n : ℕ) (v : View) → x.views ≡ put w.views n v → tml_scene x ≡ record { clock = x.clock; heap = x.heap; history = x.history; views = put (tml_scene w).views n (tml_view v) }
-tml_scene-put w x n v is = λ i. record { clock = x.clock; heap = x.heap; history = x.history; views = (ap (parts tml_view) is ∙ parts-put tml_view w.views n v) i }
+pub tml_projection-put : (w x : World) (n : ℕ) (v : View) → x.views ≡ put w.views n v → tml_projection x ≡ record { clock = x.clock; heap = x.heap; history = x.history; views = put (tml_projection w).views n (tml_view v) }
+tml_projection-put w x n v is = λ i. record { clock = x.clock; heap = x.heap; history = x.history; views = (ap (parts tml_view) is ∙ parts-put tml_view w.views n v) i }
 
-pub tml_scene-kept : (w x : World) (n : ℕ) (v : View) → x.views ≡ put w.views n v → x.clock ≡ w.clock → x.heap ≡ w.heap → x.history ≡ w.history → tml_view v ≡ tml_view (w.views n) → tml_scene x ≡ tml_scene w
-tml_scene-kept w x n v is clock heap history own = λ i. record { clock = clock i; heap = heap i; history = history i; views = (ap (parts tml_view) is ∙ parts-kept tml_view w.views n v own) i }
+pub tml_projection-kept : (w x : World) (n : ℕ) (v : View) → x.views ≡ put w.views n v → x.clock ≡ w.clock → x.heap ≡ w.heap → x.history ≡ w.history → tml_view v ≡ tml_view (w.views n) → tml_projection x ≡ tml_projection w
+tml_projection-kept w x n v is clock heap history own = λ i. record { clock = clock i; heap = heap i; history = history i; views = (ap (parts tml_view) is ∙ parts-kept tml_view w.views n v own) i }
 
 -- nobody is in an attempt, the clock is even, and the heap is the memory: whatever ran before, TML may run
-pub tml-from-rest : (words : ℕ) (s : TmlScene) → ((n : ℕ) → (s.views n).tml.inside ≡ true → ⊥) → ((n : ℕ) → (s.views n).tml.writer ≡ true → ⊥) → s.clock % 2 ≡ 0 → ((a : ℕ) → s.heap a ≡ word_now s.history a) → TmlRule words s
+pub tml-from-rest : (words : ℕ) (s : TmlProjection) → ((n : ℕ) → (s.views n).tml.inside ≡ true → ⊥) → ((n : ℕ) → (s.views n).tml.writer ≡ true → ⊥) → s.clock % 2 ≡ 0 → ((a : ℕ) → s.heap a ≡ word_now s.history a) → TmlRule words s
 tml-from-rest words s nobody none even heap = record {
   free = λ e. (even, heap);
   reader = λ n t. absurd (nobody n t);
@@ -43,7 +43,7 @@ tml-from-rest words s nobody none even heap = record {
 
 module _ (words n : ℕ) where
   -- a caller that isn't the writer changes its part: it is still no writer, and what it has as a reader stands
-  pub tml-own : (s : TmlScene) (u : TmlPart) → (s.views n).tml.writer ≡ false → u.tml.writer ≡ false → (u.tml.inside ≡ true → TmlReader words s.clock s.history u) → TmlRule words s → TmlRule words (record s { views = put s.views n u })
+  pub tml-own : (s : TmlProjection) (u : TmlPart) → (s.views n).tml.writer ≡ false → u.tml.writer ≡ false → (u.tml.inside ≡ true → TmlReader words s.clock s.history u) → TmlRule words s → TmlRule words (record s { views = put s.views n u })
   tml-own s u was is own r = record {
     free = λ e. r.free (λ m t. e m (grind (arith, t, was)));
     reader = put-all s.views n u (λ m k. k.tml.inside ≡ true → TmlReader words s.clock s.history k) own (λ m d. r.reader m);
@@ -53,7 +53,7 @@ module _ (words n : ℕ) where
   }
 
   -- an even clock is no writer's
-  pub no-writer : (s : TmlScene) → s.clock % 2 ≡ 0 → TmlRule words s → ((m : ℕ) → (s.views m).tml.inside ≡ true → TmlReader words s.clock s.history (s.views m)) → (m : ℕ) → (s.views m).tml.writer ≡ true → ⊥
+  pub no-writer : (s : TmlProjection) → s.clock % 2 ≡ 0 → TmlRule words s → ((m : ℕ) → (s.views m).tml.inside ≡ true → TmlReader words s.clock s.history (s.views m)) → (m : ℕ) → (s.views m).tml.writer ≡ true → ⊥
   no-writer s even r readers m t = let k = r.writer m t in let e = (readers m k.inside).even in let o = k.odd in omega arith
 
 -- a later clock leaves what stands of a reader
@@ -88,9 +88,9 @@ reader-entry words clock history e v later k = record {
 module _ (good : (ℕ → ℕ) → Type 0) (c : Config) (n : ℕ) where
   -- the clauses but for those of the steps, which speak of the step as it stands
   abbrev Parts : World → Type 0
-  Parts y = HistoryRule good c (history_scene y) × LockRule (lock_scene y) × AttemptRule (attempt_scene y) × TmlRule c.words (tml_scene y)
+  Parts y = HistoryRule good c (history_projection y) × LockRule (lock_projection y) × AttemptRule (attempt_projection y) × TmlRule c.words (tml_projection y)
 
-  whole_of : (y : World) → Parts y → StepsRule c (steps_scene y) → RecordRule (record_scene y) → TmlWorld good c y
+  whole_of : (y : World) → Parts y → StepsRule c (steps_projection y) → RecordRule (record_projection y) → TmlWorld good c y
   whole_of y p s q = record { history = p.0; steps = s; records = q; lock = p.1; attempts = p.2; runs = p.3 }
 
   pub tml_begins : StepLaw (TmlWorld good c) tml_begin (TmlBegins good c) n CanTmlBegin
@@ -116,9 +116,9 @@ module _ (good : (ℕ → ℕ) → Type 0) (c : Config) (n : ℕ) where
       go : (b : Bool) → (b ≡ true → w.clock % 2 ≡ 0) → Parts (at b)
       go true even = (
         history-seen good c w (at true) n (next true) refl refl refl refl r.history,
-        subst LockRule (sym (lock_scene-kept w (at true) n (next true) refl refl refl refl)) r.lock,
+        subst LockRule (sym (lock_projection-kept w (at true) n (next true) refl refl refl refl)) r.lock,
         attempts-in w (at true) n (next true) refl may.runs.phase r.attempts,
-        subst (TmlRule c.words) (sym (tml_scene-put w (at true) n (next true) refl)) (tml-own c.words n (tml_scene w) (tml_view (next true)) may.unwritten refl (λ t. record {
+        subst (TmlRule c.words) (sym (tml_projection-put w (at true) n (next true) refl)) (tml-own c.words n (tml_projection w) (tml_view (next true)) may.unwritten refl (λ t. record {
           start = le_refl w.clock;
           even = even refl;
           front = refl;
@@ -131,9 +131,9 @@ module _ (good : (ℕ → ℕ) → Type 0) (c : Config) (n : ℕ) where
       )
       go false even = (
         history-kept good c w (at false) n (next false) refl refl refl refl r.history,
-        subst LockRule (sym (lock_scene-kept w (at false) n (next false) refl refl refl refl)) r.lock,
+        subst LockRule (sym (lock_projection-kept w (at false) n (next false) refl refl refl refl)) r.lock,
         attempts-in w (at false) n (next false) refl may.runs.phase r.attempts,
-        subst (TmlRule c.words) (sym (tml_scene-kept w (at false) n (next false) refl refl refl refl refl)) r.runs,
+        subst (TmlRule c.words) (sym (tml_projection-kept w (at false) n (next false) refl refl refl refl refl)) r.runs,
       )
 
   -- the memory at the start is that after what was seen
@@ -185,9 +185,9 @@ module _ (good : (ℕ → ℕ) → Type 0) (c : Config) (n : ℕ) where
       go : (b : Bool) → (w.views n).tml.writer ≡ b → Parts (at b)
       go true t = (
         history-kept good c w (at true) n (next true) refl refl refl refl r.history,
-        subst LockRule (sym (lock_scene-kept w (at true) n (next true) refl refl refl refl)) r.lock,
+        subst LockRule (sym (lock_projection-kept w (at true) n (next true) refl refl refl refl)) r.lock,
         attempts-in w (at true) n (next true) refl may.has.runs.phase r.attempts,
-        subst (TmlRule c.words) (sym (tml_scene-put w (at true) n (next true) refl)) (writes (tml_scene w) (tml_view (next true)) r.runs t refl
+        subst (TmlRule c.words) (sym (tml_projection-put w (at true) n (next true) refl)) (writes (tml_projection w) (tml_view (next true)) r.runs t refl
             (record {
               start = h.start;
               even = h.even;
@@ -202,7 +202,7 @@ module _ (good : (ℕ → ℕ) → Type 0) (c : Config) (n : ℕ) where
       )
         where
           -- the writer changes its part
-          writes : (s : TmlScene) (u : TmlPart) → TmlRule c.words s → (s.views n).tml.writer ≡ true → u.tml.writer ≡ (s.views n).tml.writer → TmlReader c.words s.clock s.history u → (u.tml.writer ≡ true → TmlWriter c.words (record s { views = put s.views n u }) u) → TmlRule c.words (record s { views = put s.views n u })
+          writes : (s : TmlProjection) (u : TmlPart) → TmlRule c.words s → (s.views n).tml.writer ≡ true → u.tml.writer ≡ (s.views n).tml.writer → TmlReader c.words s.clock s.history u → (u.tml.writer ≡ true → TmlWriter c.words (record s { views = put s.views n u }) u) → TmlRule c.words (record s { views = put s.views n u })
           writes s u q was is own wr = record {
             free = λ e. q.free (λ m t. e m (grind (arith, t, is)));
             reader = put-all s.views n u (λ m k. k.tml.inside ≡ true → TmlReader c.words s.clock s.history k) (λ e. own) (λ m d. q.reader m);
@@ -212,16 +212,16 @@ module _ (good : (ℕ → ℕ) → Type 0) (c : Config) (n : ℕ) where
           }
       go false t = (
         history-kept good c w (at false) n (next false) refl refl refl refl r.history,
-        subst LockRule (sym (lock_scene-kept w (at false) n (next false) refl refl refl refl)) r.lock,
+        subst LockRule (sym (lock_projection-kept w (at false) n (next false) refl refl refl refl)) r.lock,
         attempts-in w (at false) n (next false) refl may.has.runs.phase r.attempts,
-        subst (TmlRule c.words) (sym (tml_scene-put w (at false) n (next false) refl)) (tml-own c.words n (tml_scene w) (tml_view (next false)) t t (λ e. record {
+        subst (TmlRule c.words) (sym (tml_projection-put w (at false) n (next false) refl)) (tml-own c.words n (tml_projection w) (tml_view (next false)) t t (λ e. record {
           start = h.start;
           even = h.even;
           front = h.front;
           sees = h.sees;
           reads_inside = h.reads_inside;
           unstored = h.unstored;
-          pending = λ l same. (r.runs.free (no-writer c.words n (tml_scene w) (ap (λ k. k % 2) same ∙ h.even) r.runs r.runs.reader)).1 a;
+          pending = λ l same. (r.runs.free (no-writer c.words n (tml_projection w) (ap (λ k. k % 2) same ∙ h.even) r.runs r.runs.reader)).1 a;
           from = λ l. may.inside;
         }) r.runs),
       )
@@ -231,10 +231,10 @@ module _ (good : (ℕ → ℕ) → Type 0) (c : Config) (n : ℕ) where
     rule = record {
       history = history-kept good c w x n v refl refl refl refl r.history;
       steps = steps-kept c tml_again n w refl refl refl r.steps;
-      lock = subst LockRule (sym (lock_scene-kept w x n v refl refl refl refl)) r.lock;
+      lock = subst LockRule (sym (lock_projection-kept w x n v refl refl refl refl)) r.lock;
       attempts = attempts-in w x n v refl may.has.runs.phase r.attempts;
       records = records-stay w x n v refl (le_refl w.clock) refl refl refl r.records;
-      runs = subst (TmlRule c.words) (sym (tml_scene-put w x n v refl)) (tml-own c.words n (tml_scene w) (tml_view v) may.reads may.reads (λ e. record {
+      runs = subst (TmlRule c.words) (sym (tml_projection-put w x n v refl)) (tml-own c.words n (tml_projection w) (tml_view v) may.reads may.reads (λ e. record {
         start = h.start;
         even = h.even;
         front = h.front;
@@ -290,7 +290,7 @@ module _ (good : (ℕ → ℕ) → Type 0) (c : Config) (n : ℕ) where
       next : Bool → View
       next b = record (view_after (tml_write start) w (w.views n) w.clock) {
         tml = if b then record (w.views n).tml { writer = true } else (w.views n).tml;
-        steps = record (if b then record (w.views n).steps { rises = (w.views n).steps.rises + 1 } else (w.views n).steps) { trail = (view_after (tml_write start) w (w.views n) w.clock).steps.trail };
+        steps = record (if b then record (w.views n).steps { rises = (w.views n).steps.rises + 1 } else (w.views n).steps) { step_trace = (view_after (tml_write start) w (w.views n) w.clock).steps.step_trace };
       }
 
       at : Bool → World
@@ -300,22 +300,22 @@ module _ (good : (ℕ → ℕ) → Type 0) (c : Config) (n : ℕ) where
       up true e = let k = e refl in omega arith
       up false e = le_refl w.clock
 
-      trail : (b : Bool) → (if b then record (w.views n).steps { rises = (w.views n).steps.rises + 1 } else (w.views n).steps).trail ≡ (w.views n).steps.trail
-      trail true = refl
-      trail false = refl
+      step_trace : (b : Bool) → (if b then record (w.views n).steps { rises = (w.views n).steps.rises + 1 } else (w.views n).steps).step_trace ≡ (w.views n).steps.step_trace
+      step_trace true = refl
+      step_trace false = refl
 
-      steps : (b : Bool) → (w.clock == start) ≡ b → (b ≡ true → w.clock ≡ start) → StepsRule c (steps_scene x)
-      steps true q e = steps-raised c (tml_write start) n w 1 low (ap (λ (b : Bool). if b then start + 1 else w.clock) q ∙ ap (λ k. k + 1) (sym (e refl))) (trail (w.clock == start)) (ap (λ (b : Bool). (if b then record (w.views n).steps { rises = (w.views n).steps.rises + 1 } else (w.views n).steps).rises) q) r.steps
-      steps false q e = steps-kept c (tml_write start) n w (ap (λ (b : Bool). if b then start + 1 else w.clock) q) (trail (w.clock == start)) (ap (λ (b : Bool). (if b then record (w.views n).steps { rises = (w.views n).steps.rises + 1 } else (w.views n).steps).rises) q) r.steps
+      steps : (b : Bool) → (w.clock == start) ≡ b → (b ≡ true → w.clock ≡ start) → StepsRule c (steps_projection x)
+      steps true q e = steps-raised c (tml_write start) n w 1 low (ap (λ (b : Bool). if b then start + 1 else w.clock) q ∙ ap (λ k. k + 1) (sym (e refl))) (step_trace (w.clock == start)) (ap (λ (b : Bool). (if b then record (w.views n).steps { rises = (w.views n).steps.rises + 1 } else (w.views n).steps).rises) q) r.steps
+      steps false q e = steps-kept c (tml_write start) n w (ap (λ (b : Bool). if b then start + 1 else w.clock) q) (step_trace (w.clock == start)) (ap (λ (b : Bool). (if b then record (w.views n).steps { rises = (w.views n).steps.rises + 1 } else (w.views n).steps).rises) q) r.steps
 
       go : (b : Bool) → (b ≡ true → w.clock ≡ start) → Parts (at b)
       go true e = (
-        subst (HistoryRule good c) (sym path) (history-raised good c (history_scene w) (start + 1) (let k = e refl in omega arith) (let l = may.limit in omega arith) r.history),
-        subst LockRule (sym (lock_scene-kept w (at true) n (next true) refl refl refl refl)) r.lock,
+        subst (HistoryRule good c) (sym path) (history-raised good c (history_projection w) (start + 1) (let k = e refl in omega arith) (let l = may.limit in omega arith) r.history),
+        subst LockRule (sym (lock_projection-kept w (at true) n (next true) refl refl refl refl)) r.lock,
         attempts-in w (at true) n (next true) refl may.has.runs.phase r.attempts,
-        subst (TmlRule c.words) (sym (tml_scene-put w (at true) n (next true) refl)) (record {
+        subst (TmlRule c.words) (sym (tml_projection-put w (at true) n (next true) refl)) (record {
           free = λ none. absurd (none n here);
-          reader = put-all (tml_scene w).views n (tml_view (next true)) (λ m k. k.tml.inside ≡ true → TmlReader c.words (start + 1) w.history k)
+          reader = put-all (tml_projection w).views n (tml_view (next true)) (λ m k. k.tml.inside ≡ true → TmlReader c.words (start + 1) w.history k)
               (λ t. let k = reader-later c.words w.clock (start + 1) w.history (tml_view (w.views n)) next_clock h in record {
                 start = k.start;
                 even = k.even;
@@ -327,7 +327,7 @@ module _ (good : (ℕ → ℕ) → Type 0) (c : Config) (n : ℕ) where
                 from = k.from;
               })
               (λ m d t. reader-later c.words w.clock (start + 1) w.history (tml_view (w.views m)) next_clock (r.runs.reader m t));
-          writer = put-all (tml_scene w).views n (tml_view (next true)) (λ m k. k.tml.writer ≡ true → TmlWriter c.words y k)
+          writer = put-all (tml_projection w).views n (tml_view (next true)) (λ m k. k.tml.writer ≡ true → TmlWriter c.words y k)
               (λ t. record {
                 inside = may.has.inside;
                 odd = ap (λ k. k + 1) may.start;
@@ -341,11 +341,11 @@ module _ (good : (ℕ → ℕ) → Type 0) (c : Config) (n : ℕ) where
         }),
       )
         where
-          path : history_scene (at true) ≡ record (history_scene w) { clock = start + 1 }
+          path : history_projection (at true) ≡ record (history_projection w) { clock = start + 1 }
           path = λ i. record { clock = start + 1; history = w.history; views = parts-kept (λ (u : View). u.history) w.views n (next true) refl i }
 
-          y : TmlScene
-          y = record { clock = start + 1; heap = w.heap; history = w.history; views = put (tml_scene w).views n (tml_view (next true)) }
+          y : TmlProjection
+          y = record { clock = start + 1; heap = w.heap; history = w.history; views = put (tml_projection w).views n (tml_view (next true)) }
 
           now : w.clock ≡ (w.views n).attempt.start
           now = e refl ∙ may.start
@@ -354,18 +354,18 @@ module _ (good : (ℕ → ℕ) → Type 0) (c : Config) (n : ℕ) where
           next_clock = let k = e refl in omega arith
 
           nobody : (m : ℕ) → (w.views m).tml.writer ≡ true → ⊥
-          nobody = no-writer c.words n (tml_scene w) (ap (λ k. k % 2) now ∙ h.even) r.runs r.runs.reader
+          nobody = no-writer c.words n (tml_projection w) (ap (λ k. k % 2) now ∙ h.even) r.runs r.runs.reader
 
-          here : (put (tml_scene w).views n (tml_view (next true)) n).tml.writer ≡ true
+          here : (put (tml_projection w).views n (tml_view (next true)) n).tml.writer ≡ true
           here = grind arith
 
-          sole : (i : ℕ) → (put (tml_scene w).views n (tml_view (next true)) i).tml.writer ≡ true → i ≡ n
+          sole : (i : ℕ) → (put (tml_projection w).views n (tml_view (next true)) i).tml.writer ≡ true → i ≡ n
           sole i p = grind (arith, p, nobody i)
       go false e = (
         history-kept good c w (at false) n (next false) refl refl refl refl r.history,
-        subst LockRule (sym (lock_scene-kept w (at false) n (next false) refl refl refl refl)) r.lock,
+        subst LockRule (sym (lock_projection-kept w (at false) n (next false) refl refl refl refl)) r.lock,
         attempts-in w (at false) n (next false) refl may.has.runs.phase r.attempts,
-        subst (TmlRule c.words) (sym (tml_scene-kept w (at false) n (next false) refl refl refl refl refl)) r.runs,
+        subst (TmlRule c.words) (sym (tml_projection-kept w (at false) n (next false) refl refl refl refl refl)) r.runs,
       )
 
   pub tml_stores : (a k : ℕ) → StepLaw (TmlWorld good c) (tml_store a k) Nothing n (CanTmlStore c.words a k)
@@ -373,12 +373,12 @@ module _ (good : (ℕ → ℕ) → Type 0) (c : Config) (n : ℕ) where
     rule = record {
       history = history-kept good c w x n v refl refl refl refl r.history;
       steps = steps-kept c (tml_store a k) n w refl refl refl r.steps;
-      lock = subst LockRule (sym (lock_scene-kept w x n v refl refl refl refl)) r.lock;
+      lock = subst LockRule (sym (lock_projection-kept w x n v refl refl refl refl)) r.lock;
       attempts = attempts-in w x n v refl may.has.runs.phase r.attempts;
       records = records-stay w x n v refl (le_refl w.clock) refl refl refl r.records;
-      runs = subst (TmlRule c.words) (sym (tml_scene-put w x n v refl)) (record {
+      runs = subst (TmlRule c.words) (sym (tml_projection-put w x n v refl)) (record {
         free = λ none. absurd (none n here);
-        reader = put-all (tml_scene w).views n (tml_view v) (λ m q. q.tml.inside ≡ true → TmlReader c.words w.clock w.history q)
+        reader = put-all (tml_projection w).views n (tml_view v) (λ m q. q.tml.inside ≡ true → TmlReader c.words w.clock w.history q)
             (λ t. record {
               start = h.start;
               even = h.even;
@@ -390,7 +390,7 @@ module _ (good : (ℕ → ℕ) → Type 0) (c : Config) (n : ℕ) where
               from = h.from;
             })
             (λ m d t. r.runs.reader m t);
-        writer = put-all (tml_scene w).views n (tml_view v) (λ m q. q.tml.writer ≡ true → TmlWriter c.words y q)
+        writer = put-all (tml_projection w).views n (tml_view v) (λ m q. q.tml.writer ≡ true → TmlWriter c.words y q)
             (λ t. record {
               inside = o.inside;
               odd = o.odd;
@@ -416,13 +416,13 @@ module _ (good : (ℕ → ℕ) → Type 0) (c : Config) (n : ℕ) where
       h : TmlReader c.words w.clock w.history (tml_view (w.views n))
       h = r.runs.reader n may.has.inside
 
-      o : TmlWriter c.words (tml_scene w) (tml_view (w.views n))
+      o : TmlWriter c.words (tml_projection w) (tml_view (w.views n))
       o = r.runs.writer n may.writes
 
-      y : TmlScene
-      y = record { clock = w.clock; heap = put w.heap a k; history = w.history; views = put (tml_scene w).views n (tml_view v) }
+      y : TmlProjection
+      y = record { clock = w.clock; heap = put w.heap a k; history = w.history; views = put (tml_projection w).views n (tml_view v) }
 
-      here : (put (tml_scene w).views n (tml_view v) n).tml.writer ≡ true
+      here : (put (tml_projection w).views n (tml_view v) n).tml.writer ≡ true
       here = grind (arith, may.writes)
 
   -- the entry follows the history, leaves the heap as the memory after it and the clock even
@@ -431,15 +431,15 @@ module _ (good : (ℕ → ℕ) → Type 0) (c : Config) (n : ℕ) where
     rule = record {
       history = history-entry good c w x n e v refl refl refl refl refl later may.limit follows r.history;
       steps = steps-raised c (tml_commit n t) n w 1 low next refl refl r.steps;
-      lock = subst LockRule (sym (lock_scene-kept w x n v refl refl refl refl)) r.lock;
+      lock = subst LockRule (sym (lock_projection-kept w x n v refl refl refl refl)) r.lock;
       attempts = attempts-in w x n v refl may.has.runs.phase r.attempts;
       records = records-stay w x n v refl (let k = later in omega arith) refl refl refl r.records;
-      runs = subst (TmlRule c.words) (sym (tml_scene-put w x n v refl)) (record {
+      runs = subst (TmlRule c.words) (sym (tml_projection-put w x n v refl)) (record {
         free = λ none. (even, λ a. o.stored a);
-        reader = put-all (tml_scene w).views n (tml_view v) (λ m q. q.tml.inside ≡ true → TmlReader c.words t (e ∷ w.history) q)
+        reader = put-all (tml_projection w).views n (tml_view v) (λ m q. q.tml.inside ≡ true → TmlReader c.words t (e ∷ w.history) q)
             (λ q. absurd cc)
             (λ m d q. reader-entry c.words w.clock w.history e (tml_view (w.views m)) later (r.runs.reader m q));
-        writer = put-all (tml_scene w).views n (tml_view v) (λ m q. q.tml.writer ≡ true → TmlWriter c.words y q)
+        writer = put-all (tml_projection w).views n (tml_view v) (λ m q. q.tml.writer ≡ true → TmlWriter c.words y q)
             (λ q. absurd cc)
             (λ m d q. absurd (d (r.runs.one m n q may.writes)));
         one = λ i j p q. r.runs.one i j (grind (arith, p)) (grind (arith, q));
@@ -465,11 +465,11 @@ module _ (good : (ℕ → ℕ) → Type 0) (c : Config) (n : ℕ) where
       h : TmlReader c.words w.clock w.history (tml_view (w.views n))
       h = r.runs.reader n may.has.inside
 
-      o : TmlWriter c.words (tml_scene w) (tml_view (w.views n))
+      o : TmlWriter c.words (tml_projection w) (tml_view (w.views n))
       o = r.runs.writer n may.writes
 
-      y : TmlScene
-      y = record { clock = t; heap = w.heap; history = e ∷ w.history; views = put (tml_scene w).views n (tml_view v) }
+      y : TmlProjection
+      y = record { clock = t; heap = w.heap; history = e ∷ w.history; views = put (tml_projection w).views n (tml_view v) }
 
       next : t ≡ w.clock + 1
       next = let p = may.time in let q = o.odd in omega arith

@@ -9,7 +9,7 @@ use Rattle.rule_base.specs.declared.views.Attempt.{Attempt}
 use Rattle.rule_base.specs.declared.views.TmlView.{TmlView}
 use Rattle.rule_base.specs.declared.views.View.{View}
 use Rattle.rule_base.specs.History.{over, word_now, word_at, Inside, Small, Explains, Below}
-use Rattle.rule_base.specs.RunScene.{RunView, RunScene}
+use Rattle.rule_base.specs.RunProjection.{RunView, RunProjection}
 use Rattle.rule_base.specs.World.{World, parts}
 use Rattle.rule_seq.specs.RunWorld.{RunWorld}
 
@@ -22,14 +22,14 @@ pub record TmlPart : Type 0 where
 abbrev pub tml_view : View → TmlPart
 tml_view v = record { attempt = v.attempt; tml = v.tml; front = v.history.front }
 
-pub record TmlScene : Type 0 where
+pub record TmlProjection : Type 0 where
   pub clock : ℕ
   pub heap : ℕ → ℕ
   pub history : List Entry
   pub views : ℕ → TmlPart
 
-abbrev pub tml_scene : World → TmlScene
-tml_scene w = record { clock = w.clock; heap = w.heap; history = w.history; views = parts tml_view w.views }
+abbrev pub tml_projection : World → TmlProjection
+tml_projection w = record { clock = w.clock; heap = w.heap; history = w.history; views = parts tml_view w.views }
 
 -- what stands of who has loaded its start
 pub record TmlReader (words clock : ℕ) (history : List Entry) (v : TmlPart) : Type 0 where
@@ -47,7 +47,7 @@ pub record TmlReader (words clock : ℕ) (history : List Entry) (v : TmlPart) : 
   pub from : v.tml.loaded ≡ true → v.tml.from < words
 
 -- what stands of the writer beside
-pub record TmlWriter (words : ℕ) (s : TmlScene) (v : TmlPart) : Type 0 where
+pub record TmlWriter (words : ℕ) (s : TmlProjection) (v : TmlPart) : Type 0 where
   pub inside : v.tml.inside ≡ true
   -- it made the clock odd, which was its start, and no entry came since
   pub odd : s.clock ≡ v.attempt.start + 1
@@ -57,7 +57,7 @@ pub record TmlWriter (words : ℕ) (s : TmlScene) (v : TmlPart) : Type 0 where
   pub stores_inside : Inside words v.attempt.stores
   pub stores_small : Small v.attempt.stores
 
-pub record TmlRule (words : ℕ) (s : TmlScene) : Type 0 where
+pub record TmlRule (words : ℕ) (s : TmlProjection) : Type 0 where
   -- with no writer the clock is even and the heap is the memory
   pub free : ((n : ℕ) → (s.views n).tml.writer ≡ true → ⊥) → (s.clock % 2 ≡ 0) × ((a : ℕ) → s.heap a ≡ word_now s.history a)
   pub reader : (n : ℕ) → (s.views n).tml.inside ≡ true → TmlReader words s.clock s.history (s.views n)
@@ -65,11 +65,11 @@ pub record TmlRule (words : ℕ) (s : TmlScene) : Type 0 where
   -- the writer is the only one
   pub one : (m n : ℕ) → (s.views m).tml.writer ≡ true → (s.views n).tml.writer ≡ true → m ≡ n
 
--- of the scene of what runs
-abbrev pub tml_part : RunScene → TmlScene
+-- of the projection of what runs
+abbrev pub tml_part : RunProjection → TmlProjection
 tml_part s = record { clock = s.clock; heap = s.heap; history = s.history; views = parts (λ (v : RunView). record { attempt = v.attempt; tml = v.tml; front = v.front }) s.views }
 
-abbrev pub TmlRuns : Config → RunScene → Type 0
+abbrev pub TmlRuns : Config → RunProjection → Type 0
 TmlRuns c s = TmlRule c.words (tml_part s)
 
 -- the rule while the gate names TML

@@ -124,7 +124,7 @@ pub record CanTmlWrite (from : ℕ) (v : View) : Type 0 where
   pub limit : from + 2 ≤ CLOCK_LIMIT
   pub settled : v.tml.loaded ≡ false
   -- who holds the gate has not yet loaded the clock as its holder
-  pub uncalm : v.gate.calm ≡ false
+  pub not_quiescent : v.gate.quiescent ≡ false
 
 -- store a heap word
 abbrev pub tml_store : ℕ → ℕ → StepKind
@@ -158,7 +158,7 @@ tml_commit n t = record {
 pub record CanTmlCommit (good : (ℕ → ℕ) → Type 0) (t : ℕ) (v : View) : Type 0 where
   pub has : HasTml v
   pub writes : v.tml.writer ≡ true
-  pub uncalm : v.gate.calm ≡ false
+  pub not_quiescent : v.gate.quiescent ≡ false
   pub time : t ≡ v.attempt.start + 2
   pub limit : t ≤ CLOCK_LIMIT
   pub wrote : v.attempt.stores ≢ []

@@ -1,6 +1,8 @@
-//! Tests of what stands apart from the shared memory: stm_script, stm_gen, stm_trace, stm_profile, stm_words, stm_io.
+//! Tests of what stands apart from the shared memory: stm_script, stm_gen, stm_trace, stm_profile, stm_cli, stm_io.
 #![tactic(auto)]
 
+#[cfg(test)]
+mod stm_cli_tests;
 #[cfg(test)]
 mod stm_gen_tests;
 #[cfg(test)]
@@ -11,5 +13,3 @@ mod stm_profile_tests;
 mod stm_script_tests;
 #[cfg(test)]
 mod stm_trace_tests;
-#[cfg(test)]
-mod stm_words_tests;

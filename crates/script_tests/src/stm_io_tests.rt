@@ -165,7 +165,7 @@ fn read_on(
 }
 
 #[test]
-fn read_source_goes_on_behind_a_fault(rt: HostRuntime) -> Result<(), Fail> {
+fn read_source_goes_on_after_a_fault(rt: HostRuntime) -> Result<(), Fail> {
     let mut source = ReadSource::new(FaultyReader { calls: 0 });
     let text = read_on(&rt, rt.alloc(), &mut source)?;
     assert_eq!(rt; text.as_slice(), &b"e"[..]);
@@ -192,7 +192,7 @@ fn check_faulty(rt: &impl Abort, sink: &mut WriteSink<FaultyWriter>) {
 }
 
 #[test]
-fn write_sink_goes_on_behind_a_fault(rt: HostRuntime) {
+fn write_sink_goes_on_after_a_fault(rt: HostRuntime) {
     let mut sink = WriteSink::new(FaultyWriter { calls: 0 });
     check_faulty(&rt, &mut sink);
     assert_eq!(rt; sink.into_inner().calls, 7);

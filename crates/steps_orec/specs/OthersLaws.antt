@@ -5,7 +5,7 @@ use Rattle.std.proofs.lemmas.Bool.Decides.{nat_tests}
 use Rattle.stm_model.specs.declared.config.Config.{Config}
 use Rattle.rule_base.specs.declared.layout.At.TheVariants.{Record}
 use Rattle.rule_base.specs.declared.views.Act.TheVariants.{Load}
-use Rattle.rule_base.specs.declared.views.TrailItem.{TrailItem}
+use Rattle.rule_base.specs.declared.views.TracedStep.{TracedStep}
 use Rattle.rule_base.specs.declared.views.View.{View}
 use Rattle.rule_base.specs.Encodings.{is_owned, version_of}
 use Rattle.rule_base.specs.History.{touches}
@@ -14,7 +14,7 @@ use Rattle.stm_rule.specs.Alone.{left_at}
 use Rattle.steps_orec.specs.RecordFindings.{FindsRecord, FindsClock}
 
 -- a load leaves its record as it found it
-pub left-found : (r x : ℕ) (t : List TrailItem) → left_at r (record { place = Record r; act = Load; found = Some x } ∷ t) ≡ Some x
+pub left-found : (r x : ℕ) (t : List TracedStep) → left_at r (record { place = Record r; act = Load; found = Some x } ∷ t) ≡ Some x
 left-found r x t = ap (λ (b : Bool). if b then Some x else left_at r t) same
   where
     same : (r == r) ≡ true
@@ -41,7 +41,7 @@ module _ (c : Config) (n : ℕ) (low : n < c.callers) where
     newer-others r f free level newer = many (λ sole. let l = f.sole sole free in let s = level sole in absurd (omega arith))
 
     -- one that isn't as the last step there left it
-    pub moved-others : (r y : ℕ) → FindsRecord c n r w v x → left_at r v.steps.trail ≡ Some y → x ≢ y → 1 < c.callers
+    pub moved-others : (r y : ℕ) → FindsRecord c n r w v x → left_at r v.steps.step_trace ≡ Some y → x ≢ y → 1 < c.callers
     moved-others r y f was moved = many (λ sole. moved (f.left sole y was))
 
     -- a clock that isn't the start

@@ -22,7 +22,7 @@ pub record FindsRecord (c : Config) (n r : ℕ) (w : World) (v : View) (x : ℕ)
   -- with one caller alone its own steps have raised the clock to it
   pub sole : c.callers ≡ 1 → is_owned x ≡ false → version_of x ≤ c.clock + v.steps.rises
   -- and the record is as its last step there left it
-  pub left : c.callers ≡ 1 → (y : ℕ) → left_at r v.steps.trail ≡ Some y → x ≡ y
+  pub left : c.callers ≡ 1 → (y : ℕ) → left_at r v.steps.step_trace ≡ Some y → x ≡ y
 
 -- the clock
 pub record FindsClock (c : Config) (w : World) (v : View) (x : ℕ) : Type 0 where
@@ -60,7 +60,7 @@ pub record FindsStart (good : (ℕ → ℕ) → Type 0) (c : Config) (w : World)
   pub begins : Begins good c w v x
   pub sole : FindsSole c w v x
   -- who doesn't hold the gate doesn't know the clock as its holder
-  pub uncalm : v.gate.holds ≡ false → v.gate.calm ≡ false
+  pub not_quiescent : v.gate.holds ≡ false → v.gate.quiescent ≡ false
 
 -- the record that was sampled, again
 pub record FindsAgain (good : (ℕ → ℕ) → Type 0) (c : Config) (n r : ℕ) (w : World) (v : View) (x : ℕ) : Type 0 where

@@ -2,7 +2,7 @@
 ghost use Rattle.rule_base.specs.Encodings.{free_record};
 ghost use Rattle.rule_base.specs.Ranks.{home_of};
 ghost use Rattle.rule_base.specs.StepKinds.{Nothing};
-ghost use Rattle.rule_orec.specs.OrecSteps.{orec_own_load, CanOrecOwnLoad, OrecOwnLoads, orec_save, CanOrecSave, orec_place, CanOrecPlace, orec_commit, CanOrecCommit, orec_restore, CanOrecRestore, orec_lift, CanOrecLift, orec_release, CanOrecUp};
+ghost use Rattle.rule_orec.specs.OrecSteps.{orec_own_load, CanOrecOwnLoad, OrecOwnLoads, orec_save, CanOrecSave, orec_place, CanOrecPlace, orec_commit, CanOrecCommit, orec_restore, CanOrecRestore, orec_raise_clock, CanOrecRaiseClock, orec_release, CanOrecUp};
 ghost use Rattle.std.specs.Prelude.{◌<◌, ◌≤◌, ℕ, ◌≡◌, []};
 ghost use Rattle.steps_orec.specs.RecordFindings.{FindsClock, FindsCommit};
 ghost use Rattle.stm_rule.specs.Callers.{IsSeatOf};
@@ -80,12 +80,12 @@ pub fn restore<K: MemRule>(stm: &Stm<K>, seat: &mut Token<K>, caller: usize, a: 
 }
 
 /// Raises the clock to `least`, the greatest old version and one more, where it is lower, and answers the clock found.
-pub fn lift<K: MemRule>(stm: &Stm<K>, seat: &mut Token<K>, caller: usize, least: u64) -> u64
+pub fn raise_clock<K: MemRule>(stm: &Stm<K>, seat: &mut Token<K>, caller: usize, least: u64) -> u64
     requires seat { IsSeatOf stm.now caller seat.old }
     requires caller { caller < stm.now.config.callers }
-    requires view { CanOrecLift least (view_of seat.old) }
+    requires view { CanOrecRaiseClock least (view_of seat.old) }
     ensures same { IsSameSeat seat.old seat.new }
-    ensures step { SeatTells (orec_lift least) (FindsClock stm.now.config) seat.old.me.0 result seat.new.me.0 }
+    ensures step { SeatTells (orec_raise_clock least) (FindsClock stm.now.config) seat.old.me.0 result seat.new.me.0 }
 {
     stm.raise_as::<Brand, usize>(seat, At::Clock, least, &caller)
 }

@@ -4,7 +4,7 @@ ghost use Rattle.rule_base.specs.Ranks.{home_of};
 ghost use Rattle.rule_base.specs.StepKinds.{Nothing};
 ghost use Rattle.rule_orec.specs.OrecSteps.{orec_grant, CanOrecGrant, orec_grant_all, CanOrecGrantAll};
 ghost use Rattle.rule_promoted.specs.PromotedSteps.{direct_release, CanDirectRelease};
-ghost use Rattle.rule_promoted.specs.RaisingSteps.{direct_lift, CanDirectLift, direct_up, CanDirectUp};
+ghost use Rattle.rule_promoted.specs.RaisingSteps.{direct_raise_clock, CanDirectRaiseClock, direct_up, CanDirectUp};
 ghost use Rattle.std.specs.Prelude.{◌<◌, ◌≤◌, ℕ, ◌≡◌};
 ghost use Rattle.steps_orec.specs.RecordFindings.{FindsAll, FindsGrant, FindsStill};
 ghost use Rattle.stm_rule.specs.Callers.{IsSeatOf};
@@ -65,12 +65,17 @@ pub fn direct_release<K: MemRule>(
 
 /// Raises the clock to `least`, the greatest old version and one more, where it is lower, for a promoted attempt that
 /// holds records and wrote nothing; it makes no entry. Answers the clock found.
-pub fn direct_lift<K: MemRule>(stm: &Stm<K>, seat: &mut Token<K>, caller: usize, least: u64) -> u64
+pub fn direct_raise_clock<K: MemRule>(
+    stm: &Stm<K>,
+    seat: &mut Token<K>,
+    caller: usize,
+    least: u64,
+) -> u64
     requires seat { IsSeatOf stm.now caller seat.old }
     requires caller { caller < stm.now.config.callers }
-    requires view { CanDirectLift least (view_of seat.old) }
+    requires view { CanDirectRaiseClock least (view_of seat.old) }
     ensures same { IsSameSeat seat.old seat.new }
-    ensures step { SeatTells (direct_lift least) (FindsStill stm.now.config) seat.old.me.0 result seat.new.me.0 }
+    ensures step { SeatTells (direct_raise_clock least) (FindsStill stm.now.config) seat.old.me.0 result seat.new.me.0 }
 {
     stm.raise_as::<Brand, usize>(seat, At::Clock, least, &caller)
 }

@@ -8,12 +8,12 @@ use Rattle.rule_base.specs.declared.views.View.{View}
 use Rattle.rule_base.specs.GateRule.{may_hold}
 use Rattle.rule_base.specs.History.{over, touches, upto, word_at, word_now, Explains}
 use Rattle.rule_base.specs.HistoryLemmas.{over-miss, word_now-upto}
-use Rattle.rule_base.specs.InstallLaws.{nobody-calm}
+use Rattle.rule_base.specs.InstallLaws.{nobody-quiescent}
 use Rattle.rule_base.specs.InstallSteps.{HasChecked}
 use Rattle.rule_base.specs.Regime.{Regime}
 use Rattle.rule_base.specs.Regime.Regime.{Running}
 use Rattle.rule_base.specs.RegimeLemmas.{regime-inside}
-use Rattle.rule_base.specs.RunScene.{run_scene}
+use Rattle.rule_base.specs.RunProjection.{run_projection}
 use Rattle.rule_base.specs.StepKinds.{StepLaw}
 use Rattle.rule_base.specs.World.{World}
 use Rattle.rule_promoted.specs.PromotedSteps.{ring_look_grant, CanRingGrant, ring_move_grant, CanRingMoveGrant}
@@ -22,24 +22,24 @@ use Rattle.rule_ring.specs.RingSteps.{RunsRing, HasRing, ring_begin, CanRingBegi
 use Rattle.rule_ring.specs.SlotFilter.{slot_filter}
 use Rattle.rule_ring.specs.Slots.{writes_of, untouched, clear}
 use Rattle.rule_seq.specs.AttemptLemmas.{busy-turn}
-use Rattle.stm_rule.specs.BesideLaws.{sole-of, uncalm}
+use Rattle.stm_rule.specs.BesideLaws.{sole-of, not_quiescent}
 use Rattle.stm_rule.specs.Frames.{is-caller, only-caller}
-use Rattle.stm_rule.specs.Product.{Runs, Core, Whole}
+use Rattle.stm_rule.specs.Product.{Runs, Core, Invariant}
 use Rattle.stm_rule.specs.RestLaws.{nobody-commits, nobody-enters}
-use Rattle.rule_base.specs.Fence.{veil}
+use Rattle.rule_base.specs.Fence.{without_fence}
 use Rattle.stm_rule.specs.Lifted.{ring_begins, ring_looks, ring_agains, ring_moves, ring_ticks, look_grants, move_grants}
 use Rattle.steps_ring.specs.RingFindings.{FindsStart, FindsLook, FindsAgain, FindsMove, FindsLevel, FindsTick}
 
 module _ (good : (ℕ → ℕ) → Type 0) (c : Config) (n : ℕ) where
   -- the clauses of RingSW stand while an attempt of it isn't promoted
-  rule-of : (w : World) → Core good c w → RunsRing (w.views n) → RingRule slot_filter c.ring c.words (ring_part (run_scene w))
-  rule-of w g m = subst (λ (q : Regime). Runs c q (run_scene w)) (regime-inside c w n g.gate g.install m.phase m.plain ∙ ap Running m.algorithm) g.running
+  rule-of : (w : World) → Core good c w → RunsRing (w.views n) → RingRule slot_filter c.ring c.words (ring_part (run_projection w))
+  rule-of w g m = subst (λ (q : Regime). Runs c q (run_projection w)) (regime-inside c w n g.gate g.install m.phase m.plain ∙ ap Running m.algorithm) g.running
 
-  reader-of : (w : World) → Core good c w → HasRing (w.views n) → RingReader slot_filter c.ring c.words w.clock w.done w.base w.history ((ring_part (run_scene w)).views n)
+  reader-of : (w : World) → Core good c w → HasRing (w.views n) → RingReader slot_filter c.ring c.words w.clock w.done w.base w.history ((ring_part (run_projection w)).views n)
   reader-of w g m = (rule-of w g m.runs).reader n m.inside
 
   -- who has no entry to write back isn't late
-  unlate : (w : World) (m : ℕ) → ((w.views m).ring_commit.committed ≡ true → ⊥) → late ((ring_part (run_scene w)).views m) ≡ false
+  unlate : (w : World) (m : ℕ) → ((w.views m).ring_commit.committed ≡ true → ⊥) → late ((ring_part (run_projection w)).views m) ≡ false
   unlate w m none = go (w.views m).ring_commit.committed none
     where
       go : (b : Bool) → (b ≡ true → ⊥) → (if b then not (w.views m).ring_commit.finished else false) ≡ false
@@ -61,11 +61,11 @@ module _ (good : (ℕ → ℕ) → Type 0) (c : Config) (n : ℕ) where
       by m false t = refl
 
   -- nobody has raised the clock as the gate's holder while an attempt runs that doesn't know it so
-  unraised : (w : World) → Core good c w → RunsRing (w.views n) → (w.views n).gate.calm ≡ false → (m : ℕ) → (w.views m).attempt.entered ≡ false
+  unraised : (w : World) → Core good c w → RunsRing (w.views n) → (w.views n).gate.quiescent ≡ false → (m : ℕ) → (w.views m).attempt.entered ≡ false
   unraised w g runs free m = by (w.views m).attempt.entered refl
     where
       by : (b : Bool) → (w.views m).attempt.entered ≡ b → b ≡ false
-      by true t = absurd (nobody-calm c w n runs.phase free g.gate g.install (is-caller good c w g n (λ idle. let i : In ≡ Idle = sym runs.phase ∙ idle in cc)) m (g.raised (g.gate.named n runs.phase ∙ runs.algorithm) m t))
+      by true t = absurd (nobody-quiescent c w n runs.phase free g.gate g.install (is-caller good c w g n (λ idle. let i : In ≡ Idle = sym runs.phase ∙ idle in cc)) m (g.raised (g.gate.named n runs.phase ∙ runs.algorithm) m t))
       by false t = refl
 
   -- the clock stands under the lock
@@ -98,64 +98,64 @@ module _ (good : (ℕ → ℕ) → Type 0) (c : Config) (n : ℕ) where
       by true t = subst (λ (k : ℕ). over (w.views n).attempt.reads a k ≡ k) (sym (still w g may (moved (w.views n) w.done) a between.0 between.1 ((reader-of w g may.has).watched a t))) ((reader-of w g may.has).sees a)
       by false t = over-miss (w.views n).attempt.reads a (word_at w.history (moved (w.views n) w.done) a) t
 
-  pub begins_beside : StepLaw (Whole good c) ring_begin (FindsStart good c) n CanRingBegin
+  pub begins_beside : StepLaw (Invariant good c) ring_begin (FindsStart good c) n CanRingBegin
   begins_beside w g may = let o = ring_begins good c n w g may in record {
     rule = o.rule;
     advances = o.advances;
     shown = record {
       begins = o.shown;
-      sole = λ early plain one. done-sole (veil w) g.core may.runs early plain one ∙ sole-of good c n (veil w) g.core may.runs.phase one;
-      uncalm = λ free. uncalm good c n (veil w) g.core free (w.views n).gate.calm refl;
+      sole = λ early plain one. done-sole (without_fence w) g.core may.runs early plain one ∙ sole-of good c n (without_fence w) g.core may.runs.phase one;
+      not_quiescent = λ free. not_quiescent good c n (without_fence w) g.core free (w.views n).gate.quiescent refl;
     };
   }
 
-  pub looks_beside : StepLaw (Whole good c) ring_look (FindsLook good c) n CanRingLook
+  pub looks_beside : StepLaw (Invariant good c) ring_look (FindsLook good c) n CanRingLook
   looks_beside w g may = let o = ring_looks good c n w g may in record {
     rule = o.rule;
     advances = o.advances;
-    shown = record { looks = o.shown; sole = sole-of good c n (veil w) g.core may.has.runs.phase; ticked = stands (veil w) g.core may.has.runs; settled = g.core.install.time n; kept = reads-stand (veil w) g.core may.has };
+    shown = record { looks = o.shown; sole = sole-of good c n (without_fence w) g.core may.has.runs.phase; ticked = stands (without_fence w) g.core may.has.runs; settled = g.core.install.time n; kept = reads-stand (without_fence w) g.core may.has };
   }
 
-  pub agains_beside : StepLaw (Whole good c) (ring_again c.ring) (FindsAgain good c) n CanRingAgain
+  pub agains_beside : StepLaw (Invariant good c) (ring_again c.ring) (FindsAgain good c) n CanRingAgain
   agains_beside w g may = let o = ring_agains good c n w g may in record {
     rule = o.rule;
     advances = o.advances;
-    shown = record { later = le_trans (reader-of (veil w) g.core may.has).start (rule-of (veil w) g.core may.has.runs).done };
+    shown = record { later = le_trans (reader-of (without_fence w) g.core may.has).start (rule-of (without_fence w) g.core may.has.runs).done };
   }
 
-  pub moves_beside : StepLaw (Whole good c) ring_move (FindsMove good c) n (CanRingMove slot_filter)
+  pub moves_beside : StepLaw (Invariant good c) ring_move (FindsMove good c) n (CanRingMove slot_filter)
   moves_beside w g may = let o = ring_moves good c n w g may in record {
     rule = o.rule;
     advances = o.advances;
-    shown = record { moves = o.shown; kept = reads-move (veil w) g.core may; level = λ taken early ticked free. o.shown.level taken early ticked (unraised (veil w) g.core may.has.runs free) };
+    shown = record { moves = o.shown; kept = reads-move (without_fence w) g.core may; level = λ taken early ticked free. o.shown.level taken early ticked (unraised (without_fence w) g.core may.has.runs free) };
   }
 
-  pub ticks_beside : StepLaw (Whole good c) ring_tick (FindsTick good c) n HasTurn
+  pub ticks_beside : StepLaw (Invariant good c) ring_tick (FindsTick good c) n HasTurn
   ticks_beside w g may = let o = ring_ticks good c n w g may in record {
     rule = o.rule;
     advances = o.advances;
-    shown = record { sole = sole-of good c n (veil w) g.core may.has.runs.phase; within = g.core.history.limit; later = le_trans (reader-of (veil w) g.core may.has).start (rule-of (veil w) g.core may.has.runs).done };
+    shown = record { sole = sole-of good c n (without_fence w) g.core may.has.runs.phase; within = g.core.history.limit; later = le_trans (reader-of (without_fence w) g.core may.has).start (rule-of (without_fence w) g.core may.has.runs).done };
   }
 
-  pub look_grants_beside : StepLaw (Whole good c) ring_look_grant (FindsLook good c) n CanRingGrant
+  pub look_grants_beside : StepLaw (Invariant good c) ring_look_grant (FindsLook good c) n CanRingGrant
   look_grants_beside w g may = let o = look_grants good c n w g may in record {
     rule = o.rule;
     advances = o.advances;
-    shown = record { looks = o.shown; sole = sole-of good c n (veil w) g.core may.has.runs.phase; ticked = stands (veil w) g.core may.has.runs; settled = g.core.install.time n; kept = reads-stand (veil w) g.core may.has };
+    shown = record { looks = o.shown; sole = sole-of good c n (without_fence w) g.core may.has.runs.phase; ticked = stands (without_fence w) g.core may.has.runs; settled = g.core.install.time n; kept = reads-stand (without_fence w) g.core may.has };
   }
 
-  pub move_grants_beside : StepLaw (Whole good c) ring_move_grant (FindsLevel good c) n (CanRingMoveGrant slot_filter)
+  pub move_grants_beside : StepLaw (Invariant good c) ring_move_grant (FindsLevel good c) n (CanRingMoveGrant slot_filter)
   move_grants_beside w g may = let o = move_grants good c n w g may in record {
     rule = o.rule;
     advances = o.advances;
     shown = record {
       moves = o.shown;
-      kept = reads-move (veil w) g.core may.move;
-      level = λ plain. (rule-of (veil w) g.core may.grant.has.runs).level
-          (λ m. unlate (veil w) m (λ t. nobody-commits good c n (veil w) g.core checked may.grant.unlocked may.grant.unwritten may.grant.uncommitted m t))
-          (nobody-enters good c n (veil w) g.core checked plain) ∙ g.core.install.time n may.grant.calm;
+      kept = reads-move (without_fence w) g.core may.move;
+      level = λ plain. (rule-of (without_fence w) g.core may.grant.has.runs).level
+          (λ m. unlate (without_fence w) m (λ t. nobody-commits good c n (without_fence w) g.core checked may.grant.unlocked may.grant.unwritten may.grant.uncommitted m t))
+          (nobody-enters good c n (without_fence w) g.core checked plain) ∙ g.core.install.time n may.grant.quiescent;
     };
   }
     where
       checked : HasChecked c.callers n (w.views n)
-      checked k low other = g.core.install.alone n k may.grant.calm low other
+      checked k low other = g.core.install.alone n k may.grant.quiescent low other

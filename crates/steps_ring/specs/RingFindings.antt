@@ -15,7 +15,7 @@ module _ (good : (ℕ → ℕ) → Type 0) (c : Config) (w : World) (v : View) w
     -- with one caller alone DONE is the clock
     pub sole : v.ring_commit.committed ≡ false → v.attempt.entered ≡ false → FindsSole c w v done
     -- who doesn't hold the gate doesn't know the clock as its holder
-    pub uncalm : v.gate.holds ≡ false → v.gate.calm ≡ false
+    pub not_quiescent : v.gate.holds ≡ false → v.gate.quiescent ≡ false
 
   -- the clock, at which a check begins or passes
   pub record FindsLook (clock : ℕ) : Type 0 where
@@ -23,11 +23,11 @@ module _ (good : (ℕ → ℕ) → Type 0) (c : Config) (w : World) (v : View) w
     pub sole : FindsSole c w v clock
     -- it stands while the caller has the lock, and while it knows the clock as the gate's holder
     pub ticked : v.lock.taken ≡ true → v.ring_commit.ticked ≡ true → clock ≡ v.ring_commit.clock
-    pub settled : v.gate.calm ≡ true → clock ≡ v.gate.time
+    pub settled : v.gate.quiescent ≡ true → clock ≡ v.gate.time
     -- what was read before is the memory at the start
     pub kept : Explains (word_now (upto w.history v.attempt.start)) v.attempt.reads
 
-  -- the clock behind the slots
+  -- the clock after the slots
   pub record FindsAgain (clock : ℕ) : Type 0 where
     pub later : v.attempt.start ≤ clock
 
@@ -37,7 +37,7 @@ module _ (good : (ℕ → ℕ) → Type 0) (c : Config) (w : World) (v : View) w
     -- what was read before is the memory at the new start too, also where the word under way was among it
     pub kept : Explains (word_now (upto w.history (moved v done))) v.attempt.reads
     -- under the lock it is the clock
-    pub level : v.lock.taken ≡ true → v.ring_commit.committed ≡ false → v.ring_commit.ticked ≡ true → v.gate.calm ≡ false → done ≡ v.ring_commit.clock
+    pub level : v.lock.taken ≡ true → v.ring_commit.committed ≡ false → v.ring_commit.ticked ≡ true → v.gate.quiescent ≡ false → done ≡ v.ring_commit.clock
 
   -- and so it is for who is to be promoted
   pub record FindsLevel (done : ℕ) : Type 0 where

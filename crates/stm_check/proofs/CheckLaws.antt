@@ -42,7 +42,7 @@ lines-count (b ∷ bs) = by (b == 10) (lines-count bs) (with-one b (lines_of bs)
     by true h w = omega arith
     by false h w = omega arith
 
--- the line of a report's fault is at most one behind its bytes
+-- the line of a report's fault is at most one after its bytes
 pub report-line : (t : List ℕ) (line code : ℕ) → report_of t ≡ Err (line, code) → line ≤ 1 + length t
 report-line t line code is =
     let e : fault_line (report_of t) ≡ line = ap fault_line is in
@@ -91,7 +91,7 @@ memory-least (p ∷ ps) =
     let b = memory-least ps in
     omega arith
 
--- the line of a report at fault is at most one behind its bytes
+-- the line of a report at fault is at most one after its bytes
 pub judged-line : (w : Workload) (r : Report) (line : ℕ) → IsFirstFault w r line → line ≤ 2 + length (report_bytes r)
 judged-line w r line h =
     let a = rows-least r.rows in

@@ -22,7 +22,7 @@ wrong-once w above m (r ∷ rs) zero (suc b) h k = absurd (h k.0)
 wrong-once w above m (r ∷ rs) (suc a) zero h k = absurd (k h.0)
 wrong-once w above m (r ∷ rs) (suc a) (suc b) h k = ap suc (wrong-once w (above ++ r ∷ []) (memory_after w m r) rs a b h.1 k.1)
 
--- one line behind the rows
+-- one line after the rows
 ends-once : (w : Workload) (r : Report) (n : ℕ) (x y : List ℕ) (a b : ℕ) → x ≡ y → EndsWrong w r n x a → EndsWrong w r n y b → a ≡ b
 ends-once w r n x y a b same (inl h) (inl k) = h.1 ∙ sym k.1
 ends-once w r n x y a b same (inl h) (inr k) = absurd (h.0 k.0)

@@ -11,6 +11,6 @@ pub mod WrittenLaws
 pub mod ConfirmedLaws
 pub mod CheckLaws
 pub mod FindingLaws
-pub mod BehindLaws
+pub mod AfterLaws
 pub mod FaultLaws
 pub mod WantedLaws

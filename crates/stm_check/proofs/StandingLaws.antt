@@ -1,4 +1,4 @@
--- Callers behind their rows.
+-- Callers after their rows.
 use Rattle.std.proofs.Common.{ℕ, zero, suc, ◌≡◌, ◌≢◌, ◌<◌, ◌≤◌, ◌+◌, List, [], ◌∷◌, ◌++◌, length, get_or, slice_index_or, slice_set, drop, take, add-one, Bool, true, false, refl, sym, ap, ◌∙◌, arith, subst, length-append}
 use Rattle.std.specs.Prelude.{◌==◌, ◌&&◌, if◌then◌else◌, Option, Some, None, IfSome, IfNone, MatchOption, All, replicate}
 use Rattle.std.specs.List.{last_or}
@@ -52,7 +52,7 @@ scripts-fit regions header n (Switch caller alg ∷ items) h =
 scripts-fit regions header n (Reserve caller reads writes ∷ items) h =
     scripts-fit regions header n items (All-tail (ItemFits regions header) (Reserve caller reads writes) items h)
 
--- what stands first behind so many
+-- what stands first after so many
 first-of : {A : Type 0} (xs : List A) (k : ℕ) (x : A) (rest : List A) (d : A) → drop k xs ≡ x ∷ rest → (k < length xs) × (slice_index_or xs k d ≡ x) × (rest ≡ drop (suc k) xs)
 first-of [] zero x rest d h = absurd cc
 first-of [] (suc k) x rest d h = absurd cc
@@ -93,7 +93,7 @@ rows-other n above r is =
     let test : (r.caller == n) ≡ false = grind (arith, nat_tests) in
     ap length (rows-append n above (r ∷ []) ∙ (ap (λ b. rows_of n above ++ (if b then r ∷ [] else [])) test ∙ append-nil (rows_of n above)))
 
--- each caller behind one row more
+-- each caller after one row more
 pub each-at : (w : Workload) (above : List Row) (r : Row) (item : ℕ) (script : List Op) (cursors : List Cursor) → IsNext w above r item script
     → ((n : ℕ) (d : Cursor) → n < length cursors → IsAt w.items above n (slice_index_or cursors n d))
     → (n : ℕ) (d : Cursor) → n < length cursors → IsAt w.items (above ++ r ∷ []) n (slice_index_or (slice_set cursors r.caller (record { item = item; seq = r.seq + 1 })) n d)

@@ -2,11 +2,11 @@
 use Rattle.std.proofs.Common.{ℕ, ◌≡◌, ◌<◌, ◌-◌, List, [], ◌∷◌, length, Bool, true, false, refl, sym, ap, ◌∙◌, arith}
 use Rattle.std.specs.Prelude.{Option, Some, None, ltb, bytes_eq, codes, if◌then◌else◌, slice_get}
 use Rattle.stm_text.specs.LineLaws.{words_of-some}
-use Rattle.stm_check.specs.declared.table.Place.{Place}
-use Rattle.stm_check.specs.declared.table.Place.TheVariants.{Title, Rows, Words, Behind}
+use Rattle.stm_check.specs.declared.table.NextReportLine.{NextReportLine}
+use Rattle.stm_check.specs.declared.table.NextReportLine.TheVariants.{Title, Rows, Words, After}
 use Rattle.stm_check.specs.Grammar.{Reading, words_left, above_last, step_by, one_word, one_row}
 
--- the words behind one that isn't the last
+-- the words after one that isn't the last
 pub some-left : (rest : List ℕ) → 0 < length rest → (w : List ℕ) × (ws : List (List ℕ)) × (words_left rest ≡ w ∷ ws)
 some-left [] lt = absurd (omega arith)
 some-left (b ∷ bs) lt = words_of-some bs
@@ -37,8 +37,8 @@ pub above-by : (ps : List (ℕ × ℕ)) (q : ℕ × ℕ) (a : ℕ) → Some q �
 above-by [] q a h = absurd cc
 above-by (p ∷ ps) q a h = get-last p ps q a (h ∙ ap (slice_get (p ∷ ps)) (let e : length (p ∷ ps) - 1 ≡ length ps = omega arith in e))
 
-pub rows-place : (p : Place) → (p ≡ Title → ⊥) → (p ≡ Behind → ⊥) → (p ≡ Words → ⊥) → p ≡ Rows
+pub rows-place : (p : NextReportLine) → (p ≡ Title → ⊥) → (p ≡ After → ⊥) → (p ≡ Words → ⊥) → p ≡ Rows
 rows-place Title t b w = absurd (t refl)
 rows-place Rows t b w = refl
 rows-place Words t b w = absurd (w refl)
-rows-place Behind t b w = absurd (b refl)
+rows-place After t b w = absurd (b refl)

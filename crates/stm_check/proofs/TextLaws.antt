@@ -16,8 +16,8 @@ use Rattle.stm_text.specs.LineLaws.{lines_of-first}
 use Rattle.stm_text.specs.Numbers.{number_of-decimal}
 use Rattle.stm_text.specs.WordLaws.{seen, AllVisible, visible-decimal, joined-lacks, words_of-joined}
 use Rattle.stm_check.specs.declared.reading.TheConstants.{MAX_REPORT}
-use Rattle.stm_check.specs.declared.table.Place.{Place}
-use Rattle.stm_check.specs.declared.table.Place.TheVariants.{Title, Rows, Words, Behind}
+use Rattle.stm_check.specs.declared.table.NextReportLine.{NextReportLine}
+use Rattle.stm_check.specs.declared.table.NextReportLine.TheVariants.{Title, Rows, Words, After}
 use Rattle.stm_check.specs.Grammar.{◌>>=◌, kind_of, numbers_of, outputs_of, row_of, memory_word_of, Reading, opening, above_last, told, added, step_by, line_of, go_on, read, report_of}
 use Rattle.stm_check.specs.Texts.{IsAscending, IsReadable}
 
@@ -31,7 +31,7 @@ abbrev pub emit_words : List ℕ → List (List ℕ)
 emit_words [] = []
 emit_words (e ∷ es) = codes "!" ∷ decimals (e ∷ es)
 
--- the replies, and the emits behind them
+-- the replies, and the emits after them
 abbrev pub output_words : List ℕ → List ℕ → List (List ℕ)
 output_words [] es = emit_words es
 output_words (n ∷ ns) es = decimal n ∷ output_words ns es
@@ -165,7 +165,7 @@ line-read d k w ws rest e seen is =
     line-by d bytes ws e words is = rw (words, is) refl
 
 -- a report, read as far as this
-abbrev at : Place → List Row → List (ℕ × ℕ) → Reading
+abbrev at : NextReportLine → List Row → List (ℕ × ℕ) → Reading
 at place rows memory = record { place = place; rows = rows; memory = memory }
 
 row-step : (d : Reading) (k : Kind) (v : List ℕ) (ws : List (List ℕ)) (r : Row) → row_of (letter_of k ∷ v ∷ ws) ≡ Some r → step_by Rows d (letter_of k ∷ v ∷ ws) ≡ Some (record d { rows = d.rows ++ r ∷ [] })
@@ -188,26 +188,26 @@ rows-read before (r ∷ rs) k rest h =
     )
 
 -- places where a word of the memory or the end may stand
-abbrev IsOpen : Place → Type 0
+abbrev IsOpen : NextReportLine → Type 0
 IsOpen Title = ⊥
 IsOpen Rows = Unit {0}
 IsOpen Words = Unit {0}
-IsOpen Behind = ⊥
+IsOpen After = ⊥
 
 told-above : (d : Reading) (p : ℕ × ℕ) → above_last d.memory p.0 ≡ true → told d p ≡ Some (at Words d.rows (d.memory ++ p ∷ []))
 told-above d p above = rw above refl
 
-word-step : (place : Place) (d : Reading) (p : ℕ × ℕ) → IsOpen place → IsWord p.0 → IsWord p.1 → 0 < p.1 → above_last d.memory p.0 ≡ true → step_by place d (memory_words p) ≡ Some (at Words d.rows (d.memory ++ p ∷ []))
+word-step : (place : NextReportLine) (d : Reading) (p : ℕ × ℕ) → IsOpen place → IsWord p.0 → IsWord p.1 → 0 < p.1 → above_last d.memory p.0 ≡ true → step_by place d (memory_words p) ≡ Some (at Words d.rows (d.memory ++ p ∷ []))
 word-step Title d p opened a v some above = absurd opened
 word-step Rows d p opened a v some above = ap (λ o. o >>= told d) (memory_word_of-words p a v some) ∙ told-above d p above
 word-step Words d p opened a v some above = ap (λ o. o >>= told d) (memory_word_of-words p a v some) ∙ told-above d p above
-word-step Behind d p opened a v some above = absurd opened
+word-step After d p opened a v some above = absurd opened
 
-end-step : (place : Place) (d : Reading) → IsOpen place → step_by place d (codes "end" ∷ []) ≡ Some (record d { place = Behind })
+end-step : (place : NextReportLine) (d : Reading) → IsOpen place → step_by place d (codes "end" ∷ []) ≡ Some (record d { place = After })
 end-step Title d opened = absurd opened
 end-step Rows d opened = refl
 end-step Words d opened = refl
-end-step Behind d opened = absurd opened
+end-step After d opened = absurd opened
 
 above-snoc : (ps : List (ℕ × ℕ)) (p : ℕ × ℕ) (a : ℕ) → above_last (ps ++ p ∷ []) a ≡ ltb p.0 a
 above-snoc [] p a = refl
@@ -231,10 +231,10 @@ abbrev pub NotZero : ℕ × ℕ → Type 0
 NotZero p = 0 < p.1
 
 -- the lines of the memory, and the end
-memory-read : (place : Place) (rows : List Row) (before ps : List (ℕ × ℕ)) (k : ℕ) → IsOpen place → All WordsFit ps → All NotZero ps → IsAscending ps → MayFollow before ps
+memory-read : (place : NextReportLine) (rows : List Row) (before ps : List (ℕ × ℕ)) (k : ℕ) → IsOpen place → All WordsFit ps → All NotZero ps → IsAscending ps → MayFollow before ps
     → read (at place rows before) k (lines_of (memory_lines ps ++ codes "end\n")) ≡ Ok (record { rows = rows; memory = before ++ ps })
 memory-read place rows before [] k opened fits some up next =
-    line-read (at place rows before) k (codes "end") [] [] (at Behind rows before) (seen (codes "end") refl, tt) (end-step place (at place rows before) opened)
+    line-read (at place rows before) k (codes "end") [] [] (at After rows before) (seen (codes "end") refl, tt) (end-step place (at place rows before) opened)
     ∙ ap (λ m. Ok (record { rows = rows; memory = m })) (sym (append-nil before))
 memory-read place rows before (p ∷ ps) k opened fits some up next =
     let fit = All-head WordsFit p ps fits in

@@ -42,7 +42,7 @@ last-holds : {A : Type 0} (P : A → Type 0) (o : Option A) (xs : List A) → If
 last-holds P o [] h all = h
 last-holds P o (x ∷ xs) h all = last-holds P (Some x) xs all.0 all.1
 
--- a row behind the last one is behind all
+-- a row after the last one is after all
 all-before : (above : List Row) (r : Row) → Ordered above → IfSome (last_or None above) (λ x. IsBefore x r) → AllByRecursion (λ x. IsBefore x r) above
 all-before [] r o h = tt
 all-before (x ∷ []) r o h = (h, tt)

@@ -25,12 +25,12 @@ append-nil : (xs : List ℕ) → xs ++ [] ≡ xs
 append-nil [] = refl
 append-nil (x ∷ xs) = ap (λ w. x ∷ w) (append-nil xs)
 
--- the words behind a byte that stands there
+-- the words after a byte that stands there
 pub left-first : (rest past : List ℕ) → 0 < length rest → past ≡ drop (0 + 1) rest → words_left rest ≡ words_of past
 left-first [] past lt is = absurd (omega arith)
 left-first (b ∷ bs) past lt is = ap words_of (sym is)
 
--- behind a space there is a word
+-- after a space there is a word
 some-emits : (bytes : List ℕ) → emits_of (words_of bytes) ≡ numbers_of (words_of bytes)
 some-emits bytes = let w = words_of-some bytes in ap emits_of w.2 ∙ ap numbers_of (sym w.2)
 

@@ -17,8 +17,8 @@ use Rattle.stm_text.specs.Giving.{Gives, gives-with, given}
 use Rattle.stm_text.specs.Numbers.{Fits64, number_of-fits, number_of-says}
 use Rattle.stm_text.specs.WordLaws.{joined-words_of, end_of, unlines, unlines-lines_of}
 use Rattle.stm_check.specs.declared.reading.TheConstants.{MAX_REPORT}
-use Rattle.stm_check.specs.declared.table.Place.{Place}
-use Rattle.stm_check.specs.declared.table.Place.TheVariants.{Title, Rows, Words, Behind}
+use Rattle.stm_check.specs.declared.table.NextReportLine.{NextReportLine}
+use Rattle.stm_check.specs.declared.table.NextReportLine.TheVariants.{Title, Rows, Words, After}
 use Rattle.stm_check.specs.Grammar.{◌>>=◌, named, kind_of, numbers_of, emits_of, outputs_of, row_of, memory_word_of, Reading, opening, above_last, told, added, one_word, one_row, ended, step_by, line_by, line_of, whole_by, finished, go_on, read, report_of}
 use Rattle.stm_check.specs.Texts.{IsAscending, IsReadable}
 use Rattle.stm_check.proofs.TextLaws.{decimals, emit_words, output_words, row_words, memory_words, row_line-words, memory_line-words, WordsFit, NotZero}
@@ -159,28 +159,28 @@ pair-says (m ∷ a ∷ v ∷ w ∷ ws) = tt
 
 -- the text so far
 
-abbrev text_at : Place → Reading → List ℕ
+abbrev text_at : NextReportLine → Reading → List ℕ
 text_at Title d = []
 text_at Rows d = codes "report 1\n" ++ row_lines d.rows
 text_at Words d = codes "report 1\n" ++ (row_lines d.rows ++ memory_lines d.memory)
-text_at Behind d = codes "report 1\n" ++ (row_lines d.rows ++ (memory_lines d.memory ++ codes "end\n"))
+text_at After d = codes "report 1\n" ++ (row_lines d.rows ++ (memory_lines d.memory ++ codes "end\n"))
 
 -- the report so far
 abbrev report_so_far : Reading → Report
 report_so_far d = record { rows = d.rows; memory = d.memory }
 
 -- what there isn't yet
-abbrev IsEarly : Place → Reading → Type 0
+abbrev IsEarly : NextReportLine → Reading → Type 0
 IsEarly Title d = (d.rows ≡ []) × (d.memory ≡ [])
 IsEarly Rows d = d.memory ≡ []
 IsEarly Words d = Unit {0}
-IsEarly Behind d = Unit {0}
+IsEarly After d = Unit {0}
 
-abbrev Sound : Place → Reading → Type 0
+abbrev Sound : NextReportLine → Reading → Type 0
 Sound p d = IsEarly p d × IsReadable (report_so_far d)
 
 -- the line brings the text further
-abbrev Grows : Place → Reading → List (List ℕ) → Reading → Type 0
+abbrev Grows : NextReportLine → Reading → List (List ℕ) → Reading → Type 0
 Grows p d ws e = (text_at e.place e ≡ text_at p d ++ line ws) × Sound e.place e
 
 row_lines-append : (rs ss : List Row) → row_lines (rs ++ ss) ≡ row_lines rs ++ row_lines ss
@@ -256,7 +256,7 @@ end-grows d w is s =
 two-same : (a b a' b' : List ℕ) → a ≡ a' → b ≡ b' → a ∷ b ∷ [] ≡ a' ∷ b' ∷ []
 two-same a b a' b' p q = cc
 
-step-says : (p : Place) (d : Reading) (ws : List (List ℕ)) → d.place ≡ p → Sound p d → Says (Grows p d ws) (step_by p d ws)
+step-says : (p : NextReportLine) (d : Reading) (ws : List (List ℕ)) → d.place ≡ p → Sound p d → Says (Grows p d ws) (step_by p d ws)
 step-says Title d [] place s = tt
 step-says Title d (w ∷ []) place s = tt
 step-says Title d (w ∷ v ∷ []) place s =
@@ -274,7 +274,7 @@ step-says Rows d (w ∷ v ∷ ws) place s =
 step-says Words d [] place s = tt
 step-says Words d (w ∷ []) place s = named-says (Grows Words d (w ∷ [])) (codes "end") w (Some (ended d)) (λ is. end-grows d w is s.1)
 step-says Words d (w ∷ v ∷ ws) place s = one_word-says d (w ∷ v ∷ ws) s.1
-step-says Behind d ws place s = tt
+step-says After d ws place s = tt
 
 -- lines, one after the other
 
@@ -312,11 +312,11 @@ whole-step d e l ls r h w = (
   w.1,
 )
 
-end-says : (p : Place) (d : Reading) (k : ℕ) → d.place ≡ p → Sound p d → Gives (IsWhole d []) (finished (whole_by p d) k)
+end-says : (p : NextReportLine) (d : Reading) (k : ℕ) → d.place ≡ p → Sound p d → Gives (IsWhole d []) (finished (whole_by p d) k)
 end-says Title d k place s = tt
 end-says Rows d k place s = tt
 end-says Words d k place s = tt
-end-says Behind d k place s = (append-nil (text_at d.place d) ∙ ap (λ p. text_at p d) place, s.1)
+end-says After d k place s = (append-nil (text_at d.place d) ∙ ap (λ p. text_at p d) place, s.1)
 
 read-says : (d : Reading) (k : ℕ) (ls : List Line) → Sound d.place d → Gives (IsWhole d ls) (read d k ls)
 read-says d k [] s = end-says d.place d k refl s

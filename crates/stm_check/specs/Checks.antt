@@ -4,7 +4,7 @@ use Rattle.stm_script.specs.declared.report.Report.{Report}
 use Rattle.stm_script.specs.declared.workload.Workload.{Workload}
 use Rattle.stm_text.specs.declared.parse.Mode.TheVariants.{Step as Stepwise}
 use Rattle.stm_text.specs.Grammar.{workload_of}
-use Rattle.stm_text.specs.Parting.{to_done, behind_done, lines_to_done}
+use Rattle.stm_text.specs.Parting.{to_done, after_done, lines_to_done}
 use Rattle.stm_check.specs.Grammar.{report_of}
 use Rattle.stm_check.specs.Verdicts.{Judges}
 use Rattle.stm_check.specs.declared.checking.Finding.{Finding}
@@ -27,9 +27,9 @@ abbrev pub with_workload : Result Workload (ℕ × ℕ) → ℕ → List ℕ →
 with_workload (Ok w) above rest = with_report above w (report_of rest)
 with_workload (Err fault) above rest = Err fault
 
--- THE TWO TEXTS: the workload up to and with the first line `done`, and the report behind it; or the line and the code of the first fault
+-- THE TWO TEXTS: the workload up to and with the first line `done`, and the report after it; or the line and the code of the first fault
 abbrev pub pair_of : List ℕ → Result (Workload × Report) (ℕ × ℕ)
-pair_of text = with_workload (workload_of Stepwise (to_done text)) (lines_to_done text) (behind_done text)
+pair_of text = with_workload (workload_of Stepwise (to_done text)) (lines_to_done text) (after_done text)
 
 -- the text is a workload's and then that of a report that replays it
 pub record IsYes (text : List ℕ) : Type 0 where

@@ -8,8 +8,8 @@ use Rattle.stm_text.specs.declared.code.TheConstants.{UNENDED, REPORT, LONG_REPO
 use Rattle.stm_text.specs.declared.parse.ParseError.{ParseError}
 use Rattle.stm_text.specs.declared.parse.ParseError.TheVariants.{Fault, Memory as OutOfMemory}
 use Rattle.stm_text.specs.Lines.{Line, lines_of, words_of, number_of}
-use Rattle.stm_check.specs.declared.table.Place.{Place}
-use Rattle.stm_check.specs.declared.table.Place.TheVariants.{Title, Rows, Words, Behind}
+use Rattle.stm_check.specs.declared.table.NextReportLine.{NextReportLine}
+use Rattle.stm_check.specs.declared.table.NextReportLine.TheVariants.{Title, Rows, Words, After}
 use Rattle.stm_check.specs.declared.reading.TheConstants.{MAX_REPORT}
 use Rattle.stm_check.specs.declared.table.WordsError.{WordsError}
 use Rattle.stm_check.specs.declared.table.WordsError.TheVariants.{Wrong, Memory}
@@ -32,12 +32,12 @@ abbrev pub numbers_of : List (List ℕ) → Option (List ℕ)
 numbers_of [] = Some []
 numbers_of (w ∷ ws) = number_of w >>= λ n. numbers_of ws >>= λ ns. Some (n ∷ ns)
 
--- the emits behind a `!`: one at least
+-- the emits after a `!`: one at least
 abbrev pub emits_of : List (List ℕ) → Option (List ℕ)
 emits_of [] = None
 emits_of (w ∷ ws) = numbers_of (w ∷ ws)
 
--- the replies, and behind a `!` the emits
+-- the replies, and after a `!` the emits
 abbrev pub outputs_of : List (List ℕ) → Option (List ℕ × List ℕ)
 outputs_of [] = Some ([], [])
 outputs_of (w ∷ ws) =
@@ -58,7 +58,7 @@ memory_word_of ws = None
 
 -- the line that comes next, and the report so far
 pub record Reading : Type 0 where
-  pub place : Place
+  pub place : NextReportLine
   pub rows : List Row
   pub memory : List (ℕ × ℕ)
 
@@ -87,10 +87,10 @@ abbrev pub one_row : Reading → List (List ℕ) → Option Reading
 one_row d ws = row_of ws >>= added d
 
 abbrev pub ended : Reading → Reading
-ended d = record d { place = Behind }
+ended d = record d { place = After }
 
 -- THE TABLE: what the words of a line do after the lines before it
-abbrev pub step_by : Place → Reading → List (List ℕ) → Option Reading
+abbrev pub step_by : NextReportLine → Reading → List (List ℕ) → Option Reading
 step_by Title d (w ∷ v ∷ []) = named (codes "report") w (named (codes "1") v (Some (record d { place = Rows })))
 step_by Title d ws = None
 step_by Rows d (w ∷ []) = named (codes "end") w (Some (ended d))
@@ -99,7 +99,7 @@ step_by Rows d [] = None
 step_by Words d (w ∷ []) = named (codes "end") w (Some (ended d))
 step_by Words d (w ∷ v ∷ ws) = one_word d (w ∷ v ∷ ws)
 step_by Words d [] = None
-step_by Behind d ws = None
+step_by After d ws = None
 
 -- what a line leads to; a wrong byte stands in no word and in no number, so a line that has one leads nowhere
 abbrev pub line_by : Option Reading → Result Reading ℕ
@@ -109,8 +109,8 @@ line_by None = Err REPORT
 abbrev pub line_of : Reading → Line → Result Reading ℕ
 line_of d l = if l.ended then line_by (step_by d.place d (words_of l.bytes)) else Err UNENDED
 
-abbrev pub whole_by : Place → Reading → Option Report
-whole_by Behind d = Some (record { rows = d.rows; memory = d.memory })
+abbrev pub whole_by : NextReportLine → Reading → Option Report
+whole_by After d = Some (record { rows = d.rows; memory = d.memory })
 whole_by Title d = None
 whole_by Rows d = None
 whole_by Words d = None
@@ -152,7 +152,7 @@ IsNone Memory told = Unit {0}
 abbrev pub Tells : {A : Type 0} → Result A WordsError → Option A → Type 0
 Tells result told = MatchResult result (λ got. told ≡ Some got) (λ e. IsNone e told)
 
--- the words behind one, from the space on that follows it
+-- the words after one, from the space on that follows it
 abbrev pub words_left : List ℕ → List (List ℕ)
 words_left [] = []
 words_left (space ∷ bytes) = words_of bytes

@@ -29,8 +29,8 @@ left_by W m writes = overlay m writes
 left_by R m writes = overlay m writes
 left_by C m writes = m
 
--- the memory is that behind a row, and nothing is left to be committed
-pub record IsBehind (regions : List Region) (script : List Op) (kind : Kind) (before after : List PlainWord) : Type 0 where
+-- the memory is that after a row, and nothing is left to be committed
+pub record IsAfter (regions : List Region) (script : List Op) (kind : Kind) (before after : List PlainWord) : Type 0 where
   pub memory : openings after ≡ (run_row regions kind script (openings before)).memory
   pub settled : own_writes after ≡ []
   pub words : length after ≡ length before

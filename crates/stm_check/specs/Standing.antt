@@ -1,4 +1,4 @@
--- Where a check stands behind some rows.
+-- Where a check stands after some rows.
 use Rattle.std.specs.Prelude.{ℕ, ◌≡◌, ◌<◌, ◌≤◌, ◌+◌, List, [], length, drop, Option, None, Some, slice_index_or}
 use Rattle.std.specs.List.{last_or}
 use Rattle.stm_model.specs.Plains.{openings, own_writes}
@@ -14,15 +14,15 @@ use Rattle.stm_script.specs.Reports.{scripts_of, script_of, rows_of, regions_of,
 use Rattle.stm_check.specs.declared.replay.Cursor.{Cursor}
 use Rattle.stm_check.specs.declared.replay.Standing.{Standing}
 
--- the caller has had as many transactions as it has rows, and the next is at this item or behind it
+-- the caller has had as many transactions as it has rows, and the next is at this item or after it
 pub record IsAt (items : List Item) (above : List Row) (caller : ℕ) (c : Cursor) : Type 0 where
   pub within : c.item ≤ length items
   pub rows : c.seq ≡ length (rows_of caller above)
   pub past : c.seq ≤ length (scripts_of caller items)
   pub left : scripts_of caller (drop c.item items) ≡ drop c.seq (scripts_of caller items)
 
--- behind the rows above, with the memory that they leave
-pub record StandsBehind (w : Workload) (above : List Row) (s : Standing) : Type 0 where
+-- after the rows above, with the memory that they leave
+pub record StandsAfter (w : Workload) (above : List Row) (s : Standing) : Type 0 where
   pub settled : own_writes s.ledger ≡ []
   pub words : length s.ledger ≡ w.header.words
   pub well : AllWellFormed (regions_of w.header) (openings s.ledger)
@@ -31,7 +31,7 @@ pub record StandsBehind (w : Workload) (above : List Row) (s : Standing) : Type 
   pub others : (n : ℕ) → w.header.callers ≤ n → rows_of n above ≡ []
   pub wrote : s.wrote ≡ last_or None (writers above)
 
--- the row is its caller's next: its script, and the item behind it
+-- the row is its caller's next: its script, and the item after it
 pub record IsNext (w : Workload) (above : List Row) (r : Row) (item : ℕ) (script : List Op) : Type 0 where
   pub next : r.seq ≡ length (rows_of r.caller above)
   pub exists : r.seq < length (scripts_of r.caller w.items)

@@ -55,6 +55,6 @@ ReplayedIsReadable = (w : Workload) (r : Report) → Replays w r → ReportFits 
 abbrev pub ReplayedIsConfirmed : Type 0
 ReplayedIsConfirmed = (m : Mode) (text : List ℕ) (w : Workload) (r : Report) → workload_of m text ≡ Ok w → Replays w r → ReportFits r → length (report_bytes r) ≤ MAX_REPORT → IsConfirmed w r
 
--- behind the text of a workload, the text of a report of words of the machine that replays it is found to do so, where it isn't too long
-abbrev pub BehindIsConfirmed : Type 0
-BehindIsConfirmed = (m : Mode) (text : List ℕ) (w : Workload) (r : Report) → workload_of m text ≡ Ok w → Replays w r → ReportFits r → length (report_bytes r) ≤ MAX_REPORT → IsYes (text ++ report_bytes r)
+-- after the text of a workload, the text of a report of words of the machine that replays it is found to do so, where it isn't too long
+abbrev pub AfterIsConfirmed : Type 0
+AfterIsConfirmed = (m : Mode) (text : List ℕ) (w : Workload) (r : Report) → workload_of m text ≡ Ok w → Replays w r → ReportFits r → length (report_bytes r) ≤ MAX_REPORT → IsYes (text ++ report_bytes r)

@@ -10,7 +10,7 @@ use Rattle.stm_script.specs.Scripts.{run_row}
 use Rattle.stm_check.specs.declared.verdict.Verdict.{Verdict}
 use Rattle.stm_check.specs.declared.verdict.Verdict.TheVariants.{Yes, No}
 
--- the row has no fault behind the rows above it, which leave the memory m
+-- the row has no fault after the rows above it, which leave the memory m
 pub record IsRight (w : Workload) (above : List Row) (m : List ℕ) (r : Row) : Type 0 where
   -- it comes after the row above it
   pub ordered : IfSome (last_or None above) (λ x. IsBefore x r)
@@ -26,7 +26,7 @@ pub record IsRight (w : Workload) (above : List Row) (m : List ℕ) (r : Row) : 
 abbrev pub memory_after : Workload → List ℕ → Row → List ℕ
 memory_after w m r = (run_row (regions_of w.header) r.kind (script_of w.items r) m).memory
 
--- of the rows behind those above, which leave the memory m, none has a fault, and they leave the memory last
+-- of the rows after those above, which leave the memory m, none has a fault, and they leave the memory last
 abbrev pub AreRight : Workload → List Row → List ℕ → List Row → List ℕ → Type 0
 AreRight w above m [] last = m ≡ last
 AreRight w above m (r ∷ rs) last = IsRight w above m r × AreRight w (above ++ r ∷ []) (memory_after w m r) rs last
@@ -47,7 +47,7 @@ alike [] qs = 0
 alike (p ∷ ps) [] = 0
 alike (p ∷ ps) (q ∷ qs) = if (p.0 == q.0) && (p.1 == q.1) then suc (alike ps qs) else 0
 
--- what stands on the lines behind the rows, from the line k on: they are at fault at the line
+-- what stands on the lines after the rows, from the line k on: they are at fault at the line
 abbrev pub EndsWrong : Workload → Report → ℕ → List ℕ → ℕ → Type 0
 EndsWrong w r k last line =
     ((AllHaveRows w r.rows → ⊥) × (line ≡ k))

@@ -27,7 +27,7 @@ pub record IsWantedRow (regions : List Region) (script : List Op) (m : List ℕ)
 abbrev pub IsWantedFor : List Region → List Op → List ℕ → Row → Row → Type 0
 IsWantedFor regions script m r want = (RowFits regions script r m → ⊥) × IsWantedRow regions script m r want
 
--- what is wanted of a row that has a fault behind the rows above it, which leave the memory m
+-- what is wanted of a row that has a fault after the rows above it, which leave the memory m
 abbrev pub WantsOf : Workload → List Row → List ℕ → Row → Wanted → Type 0
 -- to come after the row above it
 WantsOf w above m r wants.Later = IfSome (last_or None above) (λ x. IsBefore x r) → ⊥
@@ -54,23 +54,23 @@ word_of p = wants.Word p.0 p.1
 abbrev pub IsItem : List (ℕ × ℕ) → ℕ → ℕ × ℕ → Type 0
 IsItem ps n p = (n < length ps) × (get_or ps n (0, 0) ≡ p)
 
--- what is wanted behind the rows, which have no fault and leave the memory last
-abbrev pub WantsBehind : Workload → Report → List ℕ → Wanted → Type 0
+-- what is wanted after the rows, which have no fault and leave the memory last
+abbrev pub WantsAfter : Workload → Report → List ℕ → Wanted → Type 0
 -- the next transaction of a caller, which has no row
-WantsBehind w r last (wants.Missing caller seq) = (seq ≡ length (rows_of caller r.rows)) × (seq < length (scripts_of caller w.items))
+WantsAfter w r last (wants.Missing caller seq) = (seq ≡ length (rows_of caller r.rows)) × (seq < length (scripts_of caller w.items))
 -- the first word of the memory that isn't told, or nothing more
-WantsBehind w r last (wants.Word address value) = AllHaveRows w r.rows × IsItem (nonzero 0 last) (alike r.memory (nonzero 0 last)) (address, value)
-WantsBehind w r last wants.End = AllHaveRows w r.rows × (alike r.memory (nonzero 0 last) ≡ length (nonzero 0 last)) × (length (nonzero 0 last) < length r.memory)
-WantsBehind w r last wants.Later = ⊥
-WantsBehind w r last wants.Apart = ⊥
-WantsBehind w r last (wants.Next seq) = ⊥
-WantsBehind w r last (wants.Row want) = ⊥
+WantsAfter w r last (wants.Word address value) = AllHaveRows w r.rows × IsItem (nonzero 0 last) (alike r.memory (nonzero 0 last)) (address, value)
+WantsAfter w r last wants.End = AllHaveRows w r.rows × (alike r.memory (nonzero 0 last) ≡ length (nonzero 0 last)) × (length (nonzero 0 last) < length r.memory)
+WantsAfter w r last wants.Later = ⊥
+WantsAfter w r last wants.Apart = ⊥
+WantsAfter w r last (wants.Next seq) = ⊥
+WantsAfter w r last (wants.Row want) = ⊥
 
 -- WHAT IS WANTED on the first line at fault
 abbrev pub IsWanted : Workload → Report → Wanted → Type 0
 IsWanted w r wanted =
     ((n : ℕ) × WantsAt w [] (zeros w.header.words) r.rows n wanted)
-    ⊎ ((last : List ℕ) × AreRight w [] (zeros w.header.words) r.rows last × WantsBehind w r last wanted)
+    ⊎ ((last : List ℕ) × AreRight w [] (zeros w.header.words) r.rows last × WantsAfter w r last wanted)
 
 -- something is wanted exactly where the report doesn't replay the workload
 abbrev pub Wants : Workload → Report → Verdict → Option Wanted → Type 0

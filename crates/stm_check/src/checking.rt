@@ -11,7 +11,7 @@ use crate::verdict::Verdict;
 use crate::wanted::Wanted;
 use std::alloc::Global;
 use stm_model::memory::Memory;
-use stm_text::laws::{built_workloads_fit, text_is_parted};
+use stm_text::laws::{parsed_workloads_fit, text_is_parted};
 use stm_text::parse::{Mode, ParseError, parse};
 use stm_text::parting::{count_lines, part_at_done};
 
@@ -50,7 +50,7 @@ impl Checked {
     }
 }
 
-/// Checks a text that is a workload up to its first line `done`, and a report behind that line. A schedule is read past.
+/// Checks a text that is a workload up to its first line `done`, and a report after that line. A schedule is read past.
 /// A fault of the workload comes before one of the report.
 ///
 /// # Errors
@@ -60,7 +60,7 @@ pub fn check(alloc: Global, text: &[u8]) -> Result<Checked, Memory>
     ensures finding { IfOk result (λ c. Finds text.now c.finding) }
     ensures wanted { IfOk result (λ c. FindsWanted text.now c.finding c.wanted) }
 {
-    built_workloads_fit();
+    parsed_workloads_fit();
     text_is_parted();
     report_is_written();
     let (head, behind) = part_at_done(text);

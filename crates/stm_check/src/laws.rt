@@ -1,9 +1,9 @@
 //! Laws of the definitions, each the contract of a function.
 ghost use Rattle.stm_check.specs.Checks.{OneFindingPerText};
 ghost use Rattle.stm_check.specs.Limits.{LimitsAre, ReportFaultsAre};
-ghost use Rattle.stm_check.specs.Texts.{ReportIsRead, ReportIsWritten, ReplayedIsReadable, ReplayedIsConfirmed, BehindIsConfirmed};
+ghost use Rattle.stm_check.specs.Texts.{ReportIsRead, ReportIsWritten, ReplayedIsReadable, ReplayedIsConfirmed, AfterIsConfirmed};
 
-use stm_text::laws::{built_workloads_fit, text_is_built, text_is_read, text_is_written};
+use stm_text::laws::{parsed_workloads_fit, text_is_parsed, text_is_read, text_is_written};
 
 /// A text has one finding: where it has a fault, that fault has one line, and one code.
 pub fn one_finding_per_text()
@@ -40,17 +40,17 @@ pub fn replayed_is_readable()
 pub fn replayed_is_confirmed()
     ensures { ReplayedIsConfirmed }
 {
-    text_is_built();
-    built_workloads_fit();
+    text_is_parsed();
+    parsed_workloads_fit();
 }
 
 /// The text of a report that replays the workload of a text, and whose numbers are words of the machine, written after
 /// that text, is found to replay it, where it isn't too long.
-pub fn behind_is_confirmed()
-    ensures { BehindIsConfirmed }
+pub fn after_is_confirmed()
+    ensures { AfterIsConfirmed }
 {
     text_is_read();
     text_is_written();
-    text_is_built();
+    text_is_parsed();
     replayed_is_confirmed();
 }

@@ -6,7 +6,7 @@ ghost use Rattle.stm_script.specs.Workloads.{ItemsFit};
 ghost use Rattle.stm_script.specs.declared.report.Row.{Row};
 ghost use Rattle.stm_script.specs.declared.workload.Workload.{Workload};
 ghost use Rattle.stm_check.specs.Verdicts.{IsRight, AreRight, AllHaveRows, memory_after, alike, Judges};
-ghost use Rattle.stm_check.specs.Standing.{StandsBehind, IsNext, wrote_after};
+ghost use Rattle.stm_check.specs.Standing.{StandsAfter, IsNext, wrote_after};
 ghost use Rattle.stm_check.specs.Wanted.{WantsOf, Wants, word_of};
 ghost use Rattle.stm_check.specs.declared.wanted.Wanted.TheVariants.{End};
 
@@ -53,7 +53,7 @@ fn next_of<'a>(
     row: &Row,
 ) -> Option<(usize, &'a Script)>
     requires items { ItemsFit (regions_of workload.now.header) workload.now.header workload.now.items }
-    requires stands { StandsBehind workload.now above.now standing.now }
+    requires stands { StandsAfter workload.now above.now standing.now }
     ensures some { IfSome result (λ n. IsNext workload.now above.now row.now n.0 n.1.now) }
     ensures none { IfNone result (row.now.seq ≡ length (rows_of row.now.caller above.now) → row.now.seq < length (scripts_of row.now.caller workload.now.items) → ⊥) }
 {
@@ -87,7 +87,7 @@ fn pass(standing: &mut Standing, row: &Row, item: usize)
 
 /// How many rows a caller has above.
 fn rows_had(standing: &Standing, caller: usize) -> usize
-    ensures { (w : Workload) (above : List Row) → StandsBehind w above standing.now → result ≡ length (rows_of caller above) }
+    ensures { (w : Workload) (above : List Row) → StandsAfter w above standing.now → result ≡ length (rows_of caller above) }
 {
     match standing.cursors.get(caller) {
         Some(cursor) => cursor.seq,
@@ -95,8 +95,8 @@ fn rows_had(standing: &Standing, caller: usize) -> usize
     }
 }
 
-/// What is wanted in the place of a row that has a fault behind the rows above it. Where it has none nothing is; then its
-/// script has been run, and the check stands behind the row.
+/// What is wanted in the place of a row that has a fault after the rows above it. Where it has none nothing is; then
+/// its script has been run, and the check stands after the row.
 ///
 /// # Errors
 /// Memory, where it is refused.
@@ -111,9 +111,9 @@ fn wanted_for(
     requires items { ItemsFit (regions_of workload.now.header) workload.now.header workload.now.items }
     requires regions { regions.now ≡ regions_of workload.now.header }
     requires count { length above.now + 1 < 2 ^ 64 }
-    requires stands { StandsBehind workload.now above.now standing.old }
+    requires stands { StandsAfter workload.now above.now standing.old }
     ensures wanted { IfOk result (λ o. MatchOption o (IsRight workload.now above.now (openings standing.old.ledger) row.now) (WantsOf workload.now above.now (openings standing.old.ledger) row.now)) }
-    ensures stands { IfOk result (λ o. o ≡ None → StandsBehind workload.now (above.now ++ row.now ∷ []) standing.new) }
+    ensures stands { IfOk result (λ o. o ≡ None → StandsAfter workload.now (above.now ++ row.now ∷ []) standing.new) }
     ensures memory { IfOk result (λ o. o ≡ None → openings standing.new.ledger ≡ memory_after workload.now (openings standing.old.ledger) row.now) }
 {
     if !comes_after(above, row) {
@@ -138,7 +138,7 @@ fn wanted_for(
 /// # Errors
 /// Memory, where it is refused.
 fn start(alloc: Global, workload: &Workload) -> Result<Standing, Memory>
-    ensures stands { IfOk result (StandsBehind workload.now []) }
+    ensures stands { IfOk result (StandsAfter workload.now []) }
     ensures zeros { IfOk result (λ s. openings s.ledger ≡ zeros workload.now.header.words) }
 {
     memories_stay_good();
@@ -155,7 +155,7 @@ fn start(alloc: Global, workload: &Workload) -> Result<Standing, Memory>
 /// The first caller with a transaction that has no row, and the number of that one.
 fn missing(workload: &Workload, standing: &Standing, above: &[Row]) -> Option<(usize, usize)>
     requires items { ItemsFit (regions_of workload.now.header) workload.now.header workload.now.items }
-    requires stands { StandsBehind workload.now above.now standing.now }
+    requires stands { StandsAfter workload.now above.now standing.now }
     ensures { MatchOption result (AllHaveRows workload.now above.now) (λ t. (t.1 ≡ length (rows_of t.0 above.now)) × (t.1 < length (scripts_of t.0 workload.now.items))) }
 {
     let items = workload.items.as_slice();
@@ -188,7 +188,7 @@ fn alike(told: &[(usize, u64)], left: &[(usize, u64)]) -> usize
     told.len()
 }
 
-/// The word of the memory on a line behind those that are alike, or `end`.
+/// The word of the memory on a line after those that are alike, or `end`.
 fn wanted_word(left: &[(usize, u64)], same: usize) -> Wanted
     ensures word { same < length left.now → result ≡ word_of (get_or left.now same (0, 0)) }
     ensures end { length left.now ≤ same → result ≡ End }
@@ -202,7 +202,7 @@ fn wanted_word(left: &[(usize, u64)], same: usize) -> Wanted
     }
 }
 
-/// The verdict, where no row has a fault: the lines behind the rows.
+/// The verdict, where no row has a fault: the lines after the rows.
 ///
 /// # Errors
 /// Memory, where it is refused.
@@ -213,7 +213,7 @@ fn judge_end(
     standing: &Standing,
 ) -> Result<Judged, Memory>
     requires items { ItemsFit (regions_of workload.now.header) workload.now.header workload.now.items }
-    requires stands { StandsBehind workload.now report.now.rows standing.now }
+    requires stands { StandsAfter workload.now report.now.rows standing.now }
     requires right { AreRight workload.now [] (zeros workload.now.header.words) report.now.rows (openings standing.now.ledger) }
     ensures verdict { IfOk result (λ j. Judges workload.now report.now j.verdict) }
     ensures wanted { IfOk result (λ j. Wants workload.now report.now j.verdict j.wanted) }

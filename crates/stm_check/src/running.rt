@@ -3,7 +3,7 @@ ghost use Rattle.std.specs.Prelude.{◌≡◌, [], None, Decides, MatchOption, I
 ghost use Rattle.stm_model.specs.Plains.{openings, own_writes};
 ghost use Rattle.tx_regions.specs.Regions.{AllWellFormed};
 ghost use Rattle.stm_script.specs.Operations.{ScriptFits};
-ghost use Rattle.stm_check.specs.Runs.{CanEnd, WroteAs, ended_as, left_by, told_by, IsBehind};
+ghost use Rattle.stm_check.specs.Runs.{CanEnd, WroteAs, ended_as, left_by, told_by, IsAfter};
 ghost use Rattle.stm_check.specs.Wanted.{IsWantedFor};
 ghost use Rattle.stm_script.specs.Reports.{RowFits};
 ghost use Rattle.stm_script.specs.Scripts.{run_row};
@@ -103,7 +103,7 @@ fn run(
     ensures replies { IfOk result (λ r. r.replies ≡ (run_row regions.now kind script.now (openings ledger.old)).replies) }
     ensures emits { IfOk result (λ r. r.emits ≡ (run_row regions.now kind script.now (openings ledger.old)).emits) }
     ensures wrote { IfOk result (λ r. r.wrote ≡ (run_row regions.now kind script.now (openings ledger.old)).wrote) }
-    ensures after { OnOk result (IsBehind regions.now script.now kind ledger.old ledger.new) }
+    ensures after { OnOk result (IsAfter regions.now script.now kind ledger.old ledger.new) }
 {
     ledger.has_words();
     let mut out = Replies::new(alloc, script.as_slice().len())?;
@@ -135,7 +135,7 @@ fn is_told(ran: &Ran, row: &Row) -> bool
 }
 
 /// The row wanted in the place of one that doesn't tell what its script does on this memory. Where it does there is none,
-/// and the memory is then that behind the row.
+/// and the memory is then that after the row.
 ///
 /// # Errors
 /// Memory, where it is refused.
@@ -150,7 +150,7 @@ pub fn wanted_row(
     requires well { AllWellFormed regions.now (openings ledger.old) }
     requires within { ScriptFits regions.now (length ledger.old) script.now }
     ensures wanted { IfOk result (λ o. MatchOption o (RowFits regions.now script.now row.now (openings ledger.old)) (IsWantedFor regions.now script.now (openings ledger.old) row.now)) }
-    ensures after { IfOk result (λ o. o ≡ None → IsBehind regions.now script.now row.now.kind ledger.old ledger.new) }
+    ensures after { IfOk result (λ o. o ≡ None → IsAfter regions.now script.now row.now.kind ledger.old ledger.new) }
 {
     if !can_end(row.kind, script) {
         // a transaction that can't be cancelled commits

@@ -2,7 +2,7 @@
 ghost use Rattle.std.specs.Prelude.{◌≡◌};
 ghost use Rattle.stm_text.specs.Lines.{words_of};
 ghost use Rattle.stm_check.specs.Grammar.{opening, step_by, one_word, one_row, whole, above_last, Leads};
-ghost use Rattle.stm_check.specs.declared.table.Place.TheVariants.{Title};
+ghost use Rattle.stm_check.specs.declared.table.NextReportLine.TheVariants.{Title};
 
 use crate::words::{first_word, memory_word, next_word, row};
 use std::alloc::{AllocError, AllocFailed, Global};
@@ -12,14 +12,14 @@ use stm_text::lines;
 
 /// The line that comes next.
 #[derive(Clone, Copy, Drop)]
-pub enum Place {
+pub enum NextReportLine {
     Title,
     /// A row, a word of the memory or `end`.
     Rows,
     /// A word of the memory or `end`.
     Words,
     /// Nothing.
-    Behind,
+    After,
 }
 
 /// Why words tell nothing.
@@ -65,7 +65,7 @@ fn is_above(memory: &[(usize, u64)], a: usize) -> bool
 /// A report as far as it is read.
 #[derive(Drop)]
 pub struct Draft {
-    place: Place,
+    place: NextReportLine,
     rows: Vec<Row>,
     memory: Vec<(usize, u64)>,
 }
@@ -84,7 +84,7 @@ impl Draft {
         ensures { result ≡ opening }
     {
         Draft {
-            place: Place::Title,
+            place: NextReportLine::Title,
             rows: Vec::new(alloc),
             memory: Vec::new(alloc),
         }
@@ -100,7 +100,7 @@ impl Draft {
             return Err(WordsError::Wrong);
         }
         if lines::is(name, b"report") && lines::is(version, b"1") {
-            self.place = Place::Rows;
+            self.place = NextReportLine::Rows;
             Ok(())
         } else {
             Err(WordsError::Wrong)
@@ -116,7 +116,7 @@ impl Draft {
             return Err(WordsError::Wrong);
         }
         self.memory.push(word)?;
-        self.place = Place::Words;
+        self.place = NextReportLine::Words;
         Ok(())
     }
 
@@ -134,20 +134,20 @@ impl Draft {
         ensures { Leads result (step_by self.old.place self.old (words_of line.now)) self.new }
     {
         let (first, rest) = first_word(line);
-        if let Place::Title = self.place {
+        if let NextReportLine::Title = self.place {
             return self.title(line);
         }
-        if let Place::Behind = self.place {
+        if let NextReportLine::After = self.place {
             return Err(WordsError::Wrong);
         }
         if rest.is_empty() {
             if !lines::is(first, b"end") {
                 return Err(WordsError::Wrong);
             }
-            self.place = Place::Behind;
+            self.place = NextReportLine::After;
             return Ok(());
         }
-        if let Place::Words = self.place {
+        if let NextReportLine::Words = self.place {
             return self.add_word(line);
         }
         if lines::is(first, b"mem") {
@@ -167,11 +167,11 @@ impl Draft {
             memory,
         } = self;
         match place {
-            Place::Behind => Some(Report {
+            NextReportLine::After => Some(Report {
                 rows: Rows::new(rows),
                 memory: Pairs::new(memory),
             }),
-            Place::Title | Place::Rows | Place::Words => None,
+            NextReportLine::Title | NextReportLine::Rows | NextReportLine::Words => None,
         }
     }
 }

@@ -139,7 +139,7 @@ before-rank : (r x : Row) → IsBefore r x → rank r ≤ rank x
 before-rank r x (inl h) = omega (arith, h)
 before-rank r x (inr h) = let e = h.0 in omega (arith, e)
 
--- a W row behind one that isn't is later
+-- a W row after one that isn't is later
 later-by : (p : ℕ) (k : Kind) (q : ℕ) (ws : List ℕ) (t : ℕ) → 2 * p + 1 ≤ 2 * q + code k → (In t ws → p < t) → In t (writer_to k q ws) → p < t
 later-by p W q ws t le rest (inl e) = omega (arith, le, e)
 later-by p W q ws t le rest (inr i) = rest i

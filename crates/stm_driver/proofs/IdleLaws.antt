@@ -1,4 +1,4 @@
--- What is open ends without a row, one worker behind the other.
+-- What is open ends without a row, one worker after the other.
 use Rattle.std.proofs.Common.{ℕ, zero, suc, ◌≡◌, ◌<◌, ◌≤◌, ◌+◌, ◌++◌, true, false, List, [], ◌∷◌, length, get_or, set, take, drop, refl, sym, ap, ◌∙◌, arith, subst, add-one}
 use Rattle.std.specs.Prelude.{sum_by, All}
 use Rattle.std.proofs.lemmas.List.Elements.{All-head, All-tail}
@@ -6,7 +6,7 @@ use Rattle.std.proofs.lemmas.List.Sums.{sum_by-cons}
 use Rattle.stm_rule.specs.declared.stm.Stm.{Stm}
 use Rattle.crossbeam_utils.specs.declared.cache_padded.CachePadded.{CachePadded}
 use Rattle.stm_rule.specs.Callers.{Handle, AllIdle}
-use Rattle.tx_answers.specs.Known.{owed}
+use Rattle.tx_answers.specs.CallerState.{owed}
 use Rattle.stm_tx.specs.Descs.{known}
 use Rattle.stm_trace.specs.declared.said.Phase.TheVariants.{Between}
 use Rattle.stm_worker.specs.declared.worker.Worker.{Worker}

@@ -7,7 +7,7 @@ use Rattle.stm_script.specs.declared.workload.Item.TheVariants.{Tx, Switch, Rese
 use Rattle.stm_script.specs.Reports.{regions_of}
 use Rattle.stm_script.specs.Statements.{OperationsKeepRegions}
 use Rattle.stm_script.specs.Workloads.{ItemFits}
-use Rattle.stm_text.specs.Built.{BuiltWorkloadsFit}
+use Rattle.stm_text.specs.Parsed.{ParsedWorkloadsFit}
 use Rattle.stm_driver.specs.Preparings.{ItemKeeps, RuleIsKept}
 
 module _ (keeps : OperationsKeepRegions) where
@@ -16,5 +16,5 @@ module _ (keeps : OperationsKeepRegions) where
   item-keeps h (Switch caller alg) fits = tt
   item-keeps h (Reserve caller reads writes) fits = tt
 
-  pub workload-keeps : BuiltWorkloadsFit → RuleIsKept
+  pub workload-keeps : ParsedWorkloadsFit → RuleIsKept
   workload-keeps fit m w b = λ i d lt. item-keeps w.header (get_or w.items i d) (fit m w b i d lt)

@@ -16,7 +16,7 @@ use Rattle.stm_script.specs.declared.workload.Workload.{Workload}
 use Rattle.stm_script.specs.Reports.{scripts_of}
 use Rattle.stm_rule.specs.Callers.{Handle}
 use Rattle.stm_rule.specs.Closings.{Ended, Closes, AllTold}
-use Rattle.tx_answers.specs.Known.{IsIdle, caller_of}
+use Rattle.tx_answers.specs.CallerState.{IsIdle, caller_of}
 use Rattle.stm_tx.specs.Descs.{known}
 use Rattle.stm_trace.specs.declared.line.Line.{Line}
 use Rattle.stm_trace.specs.declared.said.Phase.TheVariants.{Between}
@@ -26,7 +26,7 @@ use Rattle.stm_trace.specs.Turns.{BeforeTx}
 use Rattle.stm_worker.specs.declared.worker.Worker.{Worker}
 use Rattle.stm_worker.specs.Workers.{IsAt, Loaded}
 use Rattle.stm_worker.specs.Workers.{ItemsFit as OwnItems}
-use Rattle.stm_driver.specs.Preparings.{BuiltItem, Forms}
+use Rattle.stm_driver.specs.Preparings.{ParsedItem, Forms}
 use Rattle.stm_driver.specs.declared.schedule.Halt.TheVariants.{ClockFull}
 use Rattle.stm_driver.specs.AllWorkers.{AreMadeIdle, AreCoveredFor, Enough, MetLimit, descs_of, rows_of}
 use Rattle.stm_driver.specs.Openings.{first_installs}
@@ -80,7 +80,7 @@ module _ {K : Type 0} where
   left_items [] = 0
   left_items (r ∷ rs) = length r.items_left.now + left_items rs
 
-module _ {K : Type 0} (good : List ℕ → Type 0) (cut : Bool) (policy : Policy) (w : Workload) (stm : Stm K) (items : All (BuiltItem w.header) w.items) (sized : stm.config ≡ config_of w.header) where
+module _ {K : Type 0} (good : List ℕ → Type 0) (cut : Bool) (policy : Policy) (w : Workload) (stm : Stm K) (items : All (ParsedItem w.header) w.items) (sized : stm.config ≡ config_of w.header) where
   -- one that met the limit has fewer rows than scripts
   met-short : (n : ℕ) (r : Worker K) (clock : ℕ) → Stood good cut policy w stm sized n r → MetLimit r clock → suc (length r.rows.items) ≤ length (scripts_of n w.items)
   met-short n r clock s met =
@@ -105,7 +105,7 @@ module _ {K : Type 0} (good : List ℕ → Type 0) (cut : Bool) (policy : Policy
       let some = before-some r.items_left.now met.2 in
       record {
         low = met.0;
-        high = clock-within closed.clock (known r.desc).trail met.1.0 clock told.0.clocks met.1.1;
+        high = clock-within closed.clock (known r.desc).step_trace met.1.0 clock told.0.clocks met.1.1;
         short = omega (arith, one, rest, both);
         left = omega (arith, some);
       }
@@ -201,7 +201,7 @@ module _ {K : Type 0} (good : List ℕ → Type 0) (cut : Bool) (policy : Policy
   found-within n (v ∷ vs) (x ∷ ws) closed clock e t (inl f) =
       let same = e.0.still f.0 in
       let l = subst (λ (u : Worker K). Loaded (known u.desc) clock) (sym same) f.2 in
-      (f.1, clock-within closed.clock (known x.desc).trail l.0 clock t.0.clocks l.1)
+      (f.1, clock-within closed.clock (known x.desc).step_trace l.0 clock t.0.clocks l.1)
   found-within n (v ∷ vs) (x ∷ ws) closed clock e t (inr f) = found-within (suc n) vs ws closed clock e.1 t.1 f
 
   -- a call of one found the clock full, whatever the others have open

@@ -5,14 +5,14 @@ use Rattle.stm_rule.specs.declared.stm.Stm.{Stm}
 use Rattle.rule_base.specs.Opening.{first_view}
 use Rattle.stm_model.specs.declared.alg.Alg.{Alg}
 use Rattle.stm_rule.specs.Callers.{Handle, IsSameCaller, AllOpened, idle_own}
-use Rattle.tx_answers.specs.Known.{Known, caller_of, known_of}
+use Rattle.tx_answers.specs.CallerState.{CallerState, caller_of, known_of}
 use Rattle.stm_tx.specs.Descs.{known}
 use Rattle.stm_worker.specs.Workers.{HasLengths}
 use Rattle.stm_driver.specs.Openings.{IsNew, AllNew, SameLengths}
 
 module _ {K : Type 0} (stm : Stm K) (alg : Alg) where
   -- a caller that has taken no step
-  first : Known
+  first : CallerState
   first = known_of (first_view stm.config) (idle_own stm.config)
 
   is-first : (d : Handle K) → d.view ≡ first_view stm.config → d.own ≡ idle_own stm.config → known d ≡ first

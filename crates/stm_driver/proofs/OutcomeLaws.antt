@@ -22,8 +22,8 @@ use Rattle.stm_trace.specs.Turns.{IsOver}
 use Rattle.stm_worker.specs.declared.worker.Worker.{Worker}
 use Rattle.stm_worker.specs.Leavings.{IsPart}
 use Rattle.stm_worker.specs.Workers.{place_of, Sound}
-use Rattle.stm_driver.specs.declared.outcome.Outcome.{Outcome}
-use Rattle.stm_driver.specs.declared.outcome.Outcome.TheVariants.{ToEnd, ToLimit, OutOfMemory}
+use Rattle.stm_driver.specs.declared.outcome.RunOutcome.{RunOutcome}
+use Rattle.stm_driver.specs.declared.outcome.RunOutcome.TheVariants.{ToEnd, ToLimit, OutOfMemory}
 use Rattle.stm_driver.specs.declared.schedule.Halt.{Halt}
 use Rattle.stm_driver.specs.declared.schedule.Halt.TheVariants.{ClockFull, Memory}
 use Rattle.stm_driver.specs.declared.workers.Runner.{Runner}
@@ -32,7 +32,7 @@ use Rattle.stm_driver.specs.ClosedRuns.{Reported, CutShort, Came}
 use Rattle.stm_script.specs.Workloads.{config_of}
 use Rattle.stm_script.specs.declared.workload.Item.{Item}
 use Rattle.stm_driver.specs.Partings.{parted}
-use Rattle.stm_driver.specs.Preparings.{BuiltItem, Forms, WorkloadKeeps, IsPrepared}
+use Rattle.stm_driver.specs.Preparings.{ParsedItem, Forms, WorkloadKeeps, IsPrepared}
 use Rattle.stm_driver.specs.Runs.{AreFirst, ArePart, IsShown, IsStopped, IsTraced, HasRun, HasStepped, RanSome}
 use Rattle.stm_driver.specs.Schedules.{places, AreSame, AreSound, Drives}
 use Rattle.stm_driver.proofs.IdleLaws.{idle-length, idle-still}
@@ -89,7 +89,7 @@ module _ {K : Type 0} where
   how-between ws (Ok x) between = between
   how-between ws (Err halt) between = tt
 
-module _ {K : Type 0} (good : List ℕ → Type 0) (cut : Bool) (policy : Policy) (w : Workload) (stm : Stm K) (items : All (BuiltItem w.header) w.items) (sized : stm.config ≡ config_of w.header) where
+module _ {K : Type 0} (good : List ℕ → Type 0) (cut : Bool) (policy : Policy) (w : Workload) (stm : Stm K) (items : All (ParsedItem w.header) w.items) (sized : stm.config ≡ config_of w.header) where
   -- the workers after their turns, as closing wants them
   pub record Turned (ran : List (Worker K)) : Type 0 where
     pub sound : AreSound good stm ran
@@ -186,10 +186,10 @@ module _ {K : Type 0} (good : List ℕ → Type 0) (cut : Bool) (policy : Policy
     }
 
     -- what `run` came to
-    pub has-run : cut ≡ false → (lent ran : List (CachePadded (Runner K))) (how : Result (Unit {0}) Halt) (outcome : Outcome) → Begun good cut policy w stm items sized (workers_in lent) → RanAll lent ran → Turned (workers_in ran) → how ≡ how_all ran → Came good stm (workers_in ran) how outcome → HasRun policy w outcome
+    pub has-run : cut ≡ false → (lent ran : List (CachePadded (Runner K))) (how : Result (Unit {0}) Halt) (outcome : RunOutcome) → Begun good cut policy w stm items sized (workers_in lent) → RanAll lent ran → Turned (workers_in ran) → how ≡ how_all ran → Came good stm (workers_in ran) how outcome → HasRun policy w outcome
     has-run uncut lent ran how outcome b r t is came = by how (sym is) outcome came
       where
-        by : (h : Result (Unit {0}) Halt) → how_all ran ≡ h → (o : Outcome) → Came good stm (workers_in ran) h o → HasRun policy w o
+        by : (h : Result (Unit {0}) Halt) → how_all ran ≡ h → (o : RunOutcome) → Came good stm (workers_in ran) h o → HasRun policy w o
         by (Ok x) e (ToEnd report closed) c = subst (λ b. IsShown b policy w report closed) uncut (shown good cut policy w stm items sized theorem forms (workers_in ran) c.words closed report (stands (workers_in ran) t) t.count (none-left ran r.through r.between e) c.closes c.is)
         by (Ok x) e (ToLimit clock closed) c = absurd c
         by (Ok x) e (OutOfMemory closed) c = (let q = c.1 in inl (c.0, subst (λ b. IsShown b policy w c.0 closed) uncut (shown good cut policy w stm items sized theorem forms (workers_in ran) q.words closed c.0 (stands (workers_in ran) t) t.count (none-left ran r.through r.between e) q.closes q.is)))
@@ -233,7 +233,7 @@ module _ {K : Type 0} (good : List ℕ → Type 0) (cut : Bool) (policy : Policy
       }
 
       -- what `step` came to
-      pub has-stepped : (begun ran : List (Worker K)) (gos : List Go) (lines : List Line) (how : Result (Unit {0}) Halt) (outcome : Outcome) → gos ≡ w.schedule → Begun good cut policy w stm items sized begun → Turned ran → Drives stm.config gos begun ran lines how
+      pub has-stepped : (begun ran : List (Worker K)) (gos : List Go) (lines : List Line) (how : Result (Unit {0}) Halt) (outcome : RunOutcome) → gos ≡ w.schedule → Begun good cut policy w stm items sized begun → Turned ran → Drives stm.config gos begun ran lines how
           → Came good stm ran how outcome → HasStepped w lines outcome
       has-stepped begun ran gos lines (Ok x) (ToEnd report closed) is b t d c = traced begun ran gos lines report closed is b t d c
       has-stepped begun ran gos lines (Ok x) (ToLimit clock closed) is b t d c = absurd c

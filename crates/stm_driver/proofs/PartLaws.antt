@@ -32,7 +32,7 @@ use Rattle.stm_worker.specs.Courses.{all_installed}
 use Rattle.stm_worker.specs.Installs.{InstallsBy}
 use Rattle.stm_worker.specs.InstallLaws.{first-installs, open-installs}
 use Rattle.stm_worker.specs.Workers.{place_of, Works}
-use Rattle.stm_driver.specs.Preparings.{BuiltItem, Forms}
+use Rattle.stm_driver.specs.Preparings.{ParsedItem, Forms}
 use Rattle.stm_trace.specs.Adapting.{policy_for}
 use Rattle.stm_driver.specs.AllWorkers.{AreMadeIdle, descs_of}
 use Rattle.stm_driver.specs.Openings.{first_installs}
@@ -102,7 +102,7 @@ part-all P cut all left did h a = by left (subst (All P) h.1 a) h.2
     by (Switch caller alg ∷ l) b (inr n) = absurd n
     by (Reserve caller reads writes ∷ l) b (inr n) = absurd n
 
--- what comes behind the first items is a transaction
+-- what comes after the first items is a transaction
 begins-tx : (first left did : List Item) → BeginsNext first left did → (caller : ℕ) × (ops : List Op) × (did ≡ first ++ Tx caller ops ∷ [])
 begins-tx first [] did n = absurd n
 begins-tx first (Tx caller script ∷ left) did n = (caller, n.0, n.3)
@@ -116,7 +116,7 @@ pub record InstalledSome (cut : Bool) (callers : ℕ) (policy : Policy) (alg : A
   pub done : Bool
   pub by : InstallsBy cut callers done (policy_for policy n) alg items (kinds rows) more
 
-module _ {K : Type 0} (good : List ℕ → Type 0) (cut : Bool) (policy : Policy) (w : Workload) (stm : Stm K) (items : All (BuiltItem w.header) w.items) (sized : stm.config ≡ config_of w.header) where
+module _ {K : Type 0} (good : List ℕ → Type 0) (cut : Bool) (policy : Policy) (w : Workload) (stm : Stm K) (items : All (ParsedItem w.header) w.items) (sized : stm.config ≡ config_of w.header) where
   pub record IsDid (some : List Item → List Item → Type 0) (closed : Ended) (n : ℕ) (d : Did) : Type 0 where
     pub is : some (items_of n w.items) d.items
     pub own : All (λ i. caller_in i ≡ n) d.items
@@ -166,7 +166,7 @@ module _ {K : Type 0} (good : List ℕ → Type 0) (cut : Bool) (policy : Policy
       let all : v.all.now ≡ items_of n w.items = s.own.all in
       let part : IsPart (items_of n w.items) v.items_left.now did = subst (λ l. IsPart l v.items_left.now did) all h.did.part in
       let P : Item → Type 0 = λ i. (caller_in i ≡ n) × ItemFits (regions_of w.header) w.header i in
-      let mine : All P (items_of n w.items) = λ i d lt. (let both = own-all (BuiltItem w.header) n w.items items i d lt in (both.0, both.1.1)) in
+      let mine : All P (items_of n w.items) = λ i d lt. (let both = own-all (ParsedItem w.header) n w.items items i d lt in (both.0, both.1.1)) in
       let each : All P did = part-all P (λ caller ops rest f. (f.0, (f.1.0, all-first (OpFits (regions_of w.header) w.header.words) ops rest f.1.1))) (items_of n w.items) v.items_left.now did part mine in
       let words : stm.config.words ≡ w.header.words = ap (λ (c : Config). c.words) sized in
       let works : Works good w.header.words (regions_of w.header) did n (known x.desc) h.did.rows =

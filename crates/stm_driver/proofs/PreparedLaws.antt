@@ -17,18 +17,18 @@ use Rattle.stm_script.specs.declared.workload.Item.TheVariants.{Tx, Switch, Rese
 use Rattle.stm_script.specs.declared.workload.Workload.{Workload}
 use Rattle.stm_script.specs.Reports.{counted, regions_of}
 use Rattle.stm_text.specs.declared.parse.Mode.{Mode}
-use Rattle.stm_text.specs.Built.{IsBuilt, BuiltWorkloadsFit}
+use Rattle.stm_text.specs.Parsed.{IsParsed, ParsedWorkloadsFit}
 use Rattle.stm_rule.specs.Callers.{Handle, IsOf}
-use Rattle.tx_answers.specs.Known.{Known, caller_of, owed}
+use Rattle.tx_answers.specs.CallerState.{CallerState, caller_of, owed}
 use Rattle.stm_tx.specs.Descs.{known}
 use Rattle.stm_trace.specs.declared.said.Said.{Said}
 use Rattle.stm_trace.specs.Fits.{first_place, first_places}
-use Rattle.stm_trace.specs.Places.{Place, caller_in, items_of}
+use Rattle.stm_trace.specs.Places.{CallerProgress, caller_in, items_of}
 use Rattle.stm_worker.specs.declared.worker.Worker.{Worker}
 use Rattle.stm_trace.specs.Turns.{HasSizes}
 use Rattle.stm_worker.specs.Courses.{IsFresh, IsUncut, Knows, Went, all_installed}
 use Rattle.stm_worker.specs.InstallLaws.{installed-on, knows-append, uncut-append, went-append}
-use Rattle.stm_worker.specs.Workers.{place_of, Sound, Starts}
+use Rattle.stm_worker.specs.Workers.{place_of, Sound, IsFreshWorker}
 use Rattle.stm_worker.specs.Workers.{ItemsFit as OwnItems}
 use Rattle.stm_worker.specs.RiseCovers.{CountsNext, CoversBut, due_of, raised}
 use Rattle.stm_worker.specs.RiseCoverLaws.{starts-counts}
@@ -37,34 +37,34 @@ use Rattle.stm_driver.specs.AllWorkers.{AreMade, AreCallers}
 use Rattle.stm_script.specs.Workloads.{config_of}
 use Rattle.stm_driver.specs.Openings.{IsNew, first_installs, AllNew}
 use Rattle.stm_driver.specs.Partings.{parted}
-use Rattle.stm_driver.specs.Preparings.{BuiltItem, ItemKeeps, WorkloadKeeps, IsPrepared}
+use Rattle.stm_driver.specs.Preparings.{ParsedItem, ItemKeeps, WorkloadKeeps, IsPrepared}
 use Rattle.stm_driver.specs.Schedules.{places, AreSame, AreSound, debts}
 use Rattle.stm_driver.proofs.PartingLaws.{all-cons, own-all, part-at}
 use Rattle.stm_driver.proofs.StartLaws.{starts-sound}
 use Rattle.stm_driver.proofs.WorkersLaws.{made-length, made-same}
 
--- the items of a workload that is built
-pub built-items : (m : Mode) (w : Workload) → BuiltWorkloadsFit → IsBuilt m w → All (BuiltItem w.header) w.items
-built-items m w fit b = λ i d lt. (b.items i d lt, fit m w b i d lt)
+-- the items of a workload that was parsed
+pub is_parsed-items : (m : Mode) (w : Workload) → ParsedWorkloadsFit → IsParsed m w → All (ParsedItem w.header) w.items
+is_parsed-items m w fit b = λ i d lt. (b.items i d lt, fit m w b i d lt)
 
 -- a caller's items, each of which is its own
-items-own : (good : List ℕ → Type 0) (h : Header) (n : ℕ) (items : List Item) → All (λ i. (caller_in i ≡ n) × (BuiltItem h i × ItemKeeps good h i)) items → OwnItems good h.words (regions_of h) n items
+items-own : (good : List ℕ → Type 0) (h : Header) (n : ℕ) (items : List Item) → All (λ i. (caller_in i ≡ n) × (ParsedItem h i × ItemKeeps good h i)) items → OwnItems good h.words (regions_of h) n items
 items-own good h n [] b = tt
 items-own good h n (Tx caller script ∷ items) b =
-    let P : Item → Type 0 = λ i. (caller_in i ≡ n) × (BuiltItem h i × ItemKeeps good h i) in
+    let P : Item → Type 0 = λ i. (caller_in i ≡ n) × (ParsedItem h i × ItemKeeps good h i) in
     let head = All-head P (Tx caller script) items b in
     (head.0, head.1.0.1.1, head.1.1, items-own good h n items (All-tail P (Tx caller script) items b))
 items-own good h n (Switch caller alg ∷ items) b =
-    let P : Item → Type 0 = λ i. (caller_in i ≡ n) × (BuiltItem h i × ItemKeeps good h i) in
+    let P : Item → Type 0 = λ i. (caller_in i ≡ n) × (ParsedItem h i × ItemKeeps good h i) in
     let head = All-head P (Switch caller alg) items b in
     (head.0, items-own good h n items (All-tail P (Switch caller alg) items b))
 items-own good h n (Reserve caller reads writes ∷ items) b =
-    let P : Item → Type 0 = λ i. (caller_in i ≡ n) × (BuiltItem h i × ItemKeeps good h i) in
+    let P : Item → Type 0 = λ i. (caller_in i ≡ n) × (ParsedItem h i × ItemKeeps good h i) in
     let head = All-head P (Reserve caller reads writes) items b in
     (head.0, head.1.0.0.1, head.1.0.0.2, items-own good h n items (All-tail P (Reserve caller reads writes) items b))
 
 -- who has not begun owes what it raised the clock by to install
-new-owes : (these : List Alg) (v : Known) → IsNew these v → owed v ≤ length these
+new-owes : (these : List Alg) (v : CallerState) → IsNew these v → owed v ≤ length these
 new-owes these v new = subst (λ b. (if b then v.base + 2 else v.rises) ≤ length these) (sym new.idle.1) new.done.rises
 
 pub sizes-of : (config : Config) (h : Header) → config ≡ config_of h → HasSizes config h
@@ -78,7 +78,7 @@ module _ {K : Type 0} where
     pub all : x.all.now ≡ items_of n w.items
     pub over : x.regions.now ≡ regions_of w.header
     pub sized : x.desc.who.config ≡ config_of w.header
-    pub start : Place
+    pub start : CallerProgress
     pub fresh : IsFresh start
     pub left : start.left ≡ items_of n w.items
     pub by : start.policy ≡ policy_for policy n
@@ -138,12 +138,12 @@ module _ {K : Type 0} where
   StartCovered alg n [] = Unit {0}
   StartCovered alg n (x ∷ ws) = ((each most : ℕ) → CoversBut (length (first_installs alg n)) each most x) × CountsNext x × (x.failed ≡ 0) × StartCovered alg (suc n) ws
 
-  start-covers : (d : Handle K) (items : List Item) (rs : List Region) (alg : Alg) (policy : Policy) (these : List Alg) (x : Worker K) → IsNew these (known d) → Starts d items rs alg policy x → (each most : ℕ) → CoversBut (length these) each most x
+  start-covers : (d : Handle K) (items : List Item) (rs : List Region) (alg : Alg) (policy : Policy) (these : List Alg) (x : Worker K) → IsNew these (known d) → IsFreshWorker d items rs alg policy x → (each most : ℕ) → CoversBut (length these) each most x
   start-covers d items rs alg policy these x new s each most =
       let few : raised (known x.desc) ≤ length these = subst (λ (y : Handle K). raised (known y) ≤ length these) (sym s.is_desc) (subst (λ b. (if b then (known d).base else (known d).rises) ≤ length these) (sym new.idle.1) new.done.rises) in
-      let left : x.items_left.now ≡ x.all.now = ap (λ (p : Place). p.left) s.at ∙ sym s.all in
+      let left : x.items_left.now ≡ x.all.now = ap (λ (p : CallerProgress). p.left) s.at ∙ sym s.all in
       let same : each * length x.items_left.now ≡ each * length x.all.now = ap (λ (l : List Item). each * length l) left in
-      let due : due_of x.chosen ≡ 0 = ap (λ (p : Place). due_of p.chosen) s.at in
+      let due : due_of x.chosen ≡ 0 = ap (λ (p : CallerProgress). due_of p.chosen) s.at in
       omega (arith, few, same, due)
 
   covered-start : (stm : Stm K) (items : List Item) (rs : List Region) (alg : Alg) (policy : Policy) (n : ℕ) (ds : List (Handle K)) (ws : List (Worker K)) → AllNew stm alg n ds → AreMade (λ k. items_of k items) rs alg policy n ds ws → StartCovered alg n ws
@@ -152,8 +152,8 @@ module _ {K : Type 0} where
   covered-start stm items rs alg policy n (d ∷ ds) [] o h = absurd h
   covered-start stm items rs alg policy n (d ∷ ds) (x ∷ ws) o h = (
     start-covers d (items_of n items) rs alg (policy_for policy n) (first_installs alg n) x o.2 h.0,
-    starts-counts x (ap (λ (p : Place). p.failed) h.0.at) (ap (λ (p : Place). p.must) h.0.at),
-    ap (λ (p : Place). p.failed) h.0.at,
+    starts-counts x (ap (λ (p : CallerProgress). p.failed) h.0.at) (ap (λ (p : CallerProgress). p.must) h.0.at),
+    ap (λ (p : CallerProgress). p.failed) h.0.at,
     covered-start stm items rs alg policy (suc n) ds ws o.4 h.1,
   )
 
@@ -185,9 +185,9 @@ module _ {K : Type 0} (cut : Bool) (policy : Policy) (w : Workload) where
           over = s.over;
           sized = ap (λ (h : Handle K). h.who.config) s.is_desc ∙ (o.0.config ∙ sized);
           start = place_of x;
-          fresh = record { between = ap (λ (p : Place). p.phase) s.at; unasked = ap (λ (p : Place). p.chosen) s.at; noted = ap (λ (p : Place). p.profile) s.at; rows = ap (λ (p : Place). p.rows) s.at };
-          left = ap (λ (p : Place). p.left) s.at;
-          by = ap (λ (p : Place). p.policy) s.at;
+          fresh = record { between = ap (λ (p : CallerProgress). p.phase) s.at; unasked = ap (λ (p : CallerProgress). p.chosen) s.at; noted = ap (λ (p : CallerProgress). p.profile) s.at; rows = ap (λ (p : CallerProgress). p.rows) s.at };
+          left = ap (λ (p : CallerProgress). p.left) s.at;
+          by = ap (λ (p : CallerProgress). p.policy) s.at;
           course = [];
           went = refl;
           uncut = λ e. tt;
@@ -197,7 +197,7 @@ module _ {K : Type 0} (cut : Bool) (policy : Policy) (w : Workload) where
         own-start stm sized (suc n) ds ws o.4 (All-tail P d ds knows) h.1,
       )
 
-module _ {K : Type 0} (good : List ℕ → Type 0) (cut : Bool) (policy : Policy) (w : Workload) (stm : Stm K) (items : All (BuiltItem w.header) w.items) (sized : stm.config ≡ config_of w.header) where
+module _ {K : Type 0} (good : List ℕ → Type 0) (cut : Bool) (policy : Policy) (w : Workload) (stm : Stm K) (items : All (ParsedItem w.header) w.items) (sized : stm.config ≡ config_of w.header) where
   -- the workers before the first turn
   pub record Begun (ws : List (Worker K)) : Type 0 where
     pub sound : AreSound good stm ws
@@ -208,12 +208,12 @@ module _ {K : Type 0} (good : List ℕ → Type 0) (cut : Bool) (policy : Policy
     pub covered : StartCovered w.header.alg 0 ws
 
   module _ (keeps : WorkloadKeeps good w) where
-    sound-start : (alg : Alg) (n : ℕ) (d : Handle K) (u : Worker K) → IsOf d stm → d.who.role ≡ Caller n → IsNew (first_installs alg n) (known d) → Starts d (items_of n w.items) (regions_of w.header) alg (policy_for policy n) u → Sound good stm u
+    sound-start : (alg : Alg) (n : ℕ) (d : Handle K) (u : Worker K) → IsOf d stm → d.who.role ≡ Caller n → IsNew (first_installs alg n) (known d) → IsFreshWorker d (items_of n w.items) (regions_of w.header) alg (policy_for policy n) u → Sound good stm u
     sound-start alg n d u own role new s =
         let mine = items_of n w.items in
         let words : stm.config.words ≡ w.header.words = ap (λ (c : Config). c.words) sized in
-        let both : All (λ i. BuiltItem w.header i × ItemKeeps good w.header i) w.items = λ i d lt. (items i d lt, keeps i d lt) in
-        let owned : OwnItems good stm.config.words (regions_of w.header) n mine = subst (λ k. OwnItems good k (regions_of w.header) n mine) (sym words) (items-own good w.header n mine (own-all (λ i. BuiltItem w.header i × ItemKeeps good w.header i) n w.items both)) in
+        let both : All (λ i. ParsedItem w.header i × ItemKeeps good w.header i) w.items = λ i d lt. (items i d lt, keeps i d lt) in
+        let owned : OwnItems good stm.config.words (regions_of w.header) n mine = subst (λ k. OwnItems good k (regions_of w.header) n mine) (sym words) (items-own good w.header n mine (own-all (λ i. ParsedItem w.header i × ItemKeeps good w.header i) n w.items both)) in
         starts-sound good stm d mine (regions_of w.header) alg (policy_for policy n) (first_installs alg n) u (ap (λ (c : Config). c.fence) sized) own new (subst (λ k. OwnItems good stm.config.words (regions_of w.header) k mine) (sym (ap caller_of role)) owned) s
 
     sound-all : (alg : Alg) (n : ℕ) (ds : List (Handle K)) (ws : List (Worker K)) → AllNew stm alg n ds → AreMade (λ k. items_of k w.items) (regions_of w.header) alg policy n ds ws → AreSound good stm ws

@@ -20,7 +20,7 @@ use Rattle.stm_script.specs.Reports.{rows_of as own_rows}
 use Rattle.stm_script.specs.Reports.{regions_of, scripts_of, script_of, nonzero, zeros, counted, Shows, RowFits}
 use Rattle.stm_rule.specs.Callers.{Handle}
 use Rattle.stm_rule.specs.Closings.{Ended, Closes, Told, AllTold, installs_of}
-use Rattle.tx_answers.specs.Known.{caller_of}
+use Rattle.tx_answers.specs.CallerState.{caller_of}
 use Rattle.stm_tx.specs.Descs.{known}
 use Rattle.stm_trace.specs.Places.{items_of}
 use Rattle.stm_trace.specs.Turns.{IsOver}
@@ -29,7 +29,7 @@ use Rattle.stm_worker.specs.Courses.{all_installed}
 use Rattle.stm_worker.specs.Installs.{InstallsBy}
 use Rattle.stm_worker.specs.InstallLaws.{courses-install}
 use Rattle.stm_worker.specs.Workers.{place_of}
-use Rattle.stm_driver.specs.Preparings.{BuiltItem, Forms}
+use Rattle.stm_driver.specs.Preparings.{ParsedItem, Forms}
 use Rattle.stm_trace.specs.Adapting.{policy_for}
 use Rattle.stm_driver.specs.AllWorkers.{descs_of, rows_of}
 use Rattle.stm_driver.specs.ClosedRuns.{IsReport}
@@ -76,7 +76,7 @@ history-of good w forms config sized ds ws closed c =
       times = c.times;
     }
 
-module _ {K : Type 0} (good : List ℕ → Type 0) (cut : Bool) (policy : Policy) (w : Workload) (stm : Stm K) (items : All (BuiltItem w.header) w.items) (sized : stm.config ≡ config_of w.header) where
+module _ {K : Type 0} (good : List ℕ → Type 0) (cut : Bool) (policy : Policy) (w : Workload) (stm : Stm K) (items : All (ParsedItem w.header) w.items) (sized : stm.config ≡ config_of w.header) where
   part_of : Worker K → Part
   part_of r = record { caller = caller_of r.desc.who.role; made = (known r.desc).made; seen = (known r.desc).seen; front = (known r.desc).front; rows = r.rows.items }
 

@@ -1,4 +1,4 @@
--- The turns behind a schedule, caller by caller.
+-- The turns after a schedule, caller by caller.
 use Rattle.std.proofs.Common.{ℕ, zero, suc, ◌≡◌, ◌<◌, ◌≤◌, ◌+◌, Bool, true, false, List, [], ◌∷◌, ◌++◌, length, get_or, set, refl, sym, ap, ◌∙◌, arith, subst, inl, inr, length-append, add-one}
 use Rattle.std.specs.Prelude.{Result, Ok, Err, replicate, ◌||◌}
 use Rattle.std.proofs.lemmas.List.{length-map}
@@ -15,7 +15,7 @@ use Rattle.tx_answers.specs.declared.answers.Commit.TheVariants as commits
 use Rattle.tx_answers.specs.declared.answers.Irrev.TheVariants as irrevs
 use Rattle.stm_model.specs.declared.stop.Stop.TheVariants as stops
 use Rattle.stm_script.specs.declared.op.Op.TheVariants.{Irrev}
-use Rattle.tx_answers.specs.Known.{owed}
+use Rattle.tx_answers.specs.CallerState.{owed}
 use Rattle.stm_model.specs.AlgorithmLaws.{granted-irrevocable, irrevocable-wrote}
 use Rattle.stm_tx.specs.Descs.{known}
 use Rattle.stm_trace.specs.declared.line.Line.{Line}
@@ -24,7 +24,7 @@ use Rattle.stm_trace.specs.declared.said.Phase.TheVariants.{Between, Inside, Clo
 use Rattle.stm_trace.specs.declared.said.Said.{Said}
 use Rattle.stm_trace.specs.declared.said.Said.TheVariants.{TryBegin, Reply, Stopped, TryCancel, TryIrrevocable, TryCommit, TryClose, Looked, Installed, Reserved, Idle, Dropped, Reopened}
 use Rattle.stm_trace.specs.Fits.{turns}
-use Rattle.stm_trace.specs.Places.{Place, after, granted_at, is_forced, irrevocable, writes}
+use Rattle.stm_trace.specs.Places.{CallerProgress, after, granted_at, is_forced, irrevocable, writes}
 use Rattle.stm_trace.specs.Played.{Played}
 use Rattle.stm_trace.specs.PlayLaws.{append-nil, may-finish, may-wind, never-full, played-none}
 use Rattle.stm_trace.specs.RoundLaws.{WentRound, round-none, round-next, round-halted, round-all, rounds-cut, rounds-fit}
@@ -46,7 +46,7 @@ use Rattle.stm_worker.specs.Leavings.{HasNothingOpen, HasOnlyIrrevocableOpen, No
 use Rattle.stm_worker.specs.Workers.{place_of}
 use Rattle.stm_driver.proofs.ScheduleLaws.{plays-none, plays-as, plays-next, plays-halt, plays-early, took-plays, took-halts, place-is, same-length}
 
-module _ {K : Type 0} (config : Config) (may : Place → Said → Type 0) (holds : Place → Type 0) where
+module _ {K : Type 0} (config : Config) (may : CallerProgress → Said → Type 0) (holds : CallerProgress → Type 0) where
   pub rounded-none : (ws : List (Worker K)) (lines : List Line) → Rounded config may holds 0 ws ws lines lines
   rounded-none ws lines = record { round = λ h sizes. round-none h may holds (places ws) lines; covered = omega arith }
 
@@ -78,12 +78,12 @@ module _ {K : Type 0} (config : Config) (may : Place → Said → Type 0) (holds
     again-halts halt q =
         (k + 1, plays-early config may us ws a c (replicate k n ++ n ∷ []) [] (replicate (k + 1) n) halt (append-nil (replicate k n ++ n ∷ []) ∙ replicate-next k n) (plays-halt config may us vs ws a b c (replicate k n) (n ∷ []) p halt q))
 
-granted-stays : (forced : Bool) (at : Place) → at.phase ≡ Inside → HasOnlyIrrevocableOpen (granted_at forced at)
+granted-stays : (forced : Bool) (at : CallerProgress) → at.phase ≡ Inside → HasOnlyIrrevocableOpen (granted_at forced at)
 granted-stays true at here = inr (here, granted-irrevocable at.alg at.wrote)
 granted-stays false at here = inr (here, granted-irrevocable at.alg (at.wrote || writes Irrev 1))
 
 -- who can't cancel its open attempt still can't, until it ends
-irrevocable-stays : (at : Place) (said : Said) → at.phase ≡ Inside → irrevocable at ≡ true → MaySay at said → HasOnlyIrrevocableOpen (after at said)
+irrevocable-stays : (at : CallerProgress) (said : Said) → at.phase ≡ Inside → irrevocable at ≡ true → MaySay at said → HasOnlyIrrevocableOpen (after at said)
 irrevocable-stays at (TryBegin b) here is m = absurd (let e : Between ≡ Inside = sym m.0 ∙ here in cc)
 irrevocable-stays at (Reply op reply) here is m = inr (here, irrevocable-wrote at.alg at.granted at.wrote (writes op reply) is)
 irrevocable-stays at (Stopped op (stops.Conflict cause)) here is m = inl refl
@@ -109,7 +109,7 @@ irrevocable-stays at Idle here is m = absurd (let e : Between ≡ Inside = sym m
 irrevocable-stays at Dropped here is m = absurd m
 irrevocable-stays at Reopened here is m = absurd m
 
-still-inside : (at : Place) → HasOnlyIrrevocableOpen at → (HasNothingOpen at → ⊥) → (at.phase ≡ Inside) × (irrevocable at ≡ true)
+still-inside : (at : CallerProgress) → HasOnlyIrrevocableOpen at → (HasNothingOpen at → ⊥) → (at.phase ≡ Inside) × (irrevocable at ≡ true)
 still-inside at (inl e) unclosed = absurd (unclosed e)
 still-inside at (inr e) unclosed = e
 
@@ -152,7 +152,7 @@ module _ {K : Type 0} where
     gave-goes ws d w said old new lt t lines = (
       1,
       took-plays good stm MayWind MayWind ws (set ws n w) old new n said lt (record { was = d; now = w; turned = t.turned; is = refl; lines = lines }) t.turned.here t.calm,
-      inl (ap (λ (p : Place). p.phase) (place-set ws n w lt) ∙ t.nothing_open),
+      inl (ap (λ (p : CallerProgress). p.phase) (place-set ws n w lt) ∙ t.nothing_open),
     )
 
     module _ (ws vs : List (Worker K)) (old new : List Line) (lt : n < length ws) where
@@ -166,7 +166,7 @@ module _ {K : Type 0} where
           let t = h.1 in
           let still = still-inside (place_at ws n) closing (λ e. unclosed (subst HasNothingOpen (at-of d) e)) in
           let at = place_of (get_or ws n t.was) in
-          let here : at.phase ≡ Inside = ap (λ (p : Place). p.phase) (sym (at-of t.was)) ∙ still.0 in
+          let here : at.phase ≡ Inside = ap (λ (p : CallerProgress). p.phase) (sym (at-of t.was)) ∙ still.0 in
           let is : irrevocable at ≡ true = ap irrevocable (sym (at-of t.was)) ∙ still.1 in (
             took-plays good stm MaySay MayWind ws vs old new n h.0 lt t (may-wind at h.0 here is t.turned.here) h.2,
             subst (λ x. HasOnlyIrrevocableOpen (place_at x n)) (sym t.is) (subst HasOnlyIrrevocableOpen (sym (place-set ws n t.now lt ∙ t.turned.now)) (irrevocable-stays at h.0 here is t.turned.here)),
@@ -179,7 +179,7 @@ module _ {K : Type 0} where
           let still = still-inside (place_at ws n) closing (λ e. unclosed (subst HasNothingOpen (at-of d) e)) in
           let at = place_of (get_or ws n t.was) in
           took-halts good stm MaySay MayWind ws vs old new n h.0 lt t
-          (may-wind at h.0 (ap (λ (p : Place). p.phase) (sym (at-of t.was)) ∙ still.0) (ap irrevocable (sym (at-of t.was)) ∙ still.1) t.turned.here) clock h.2 t.turned.here
+          (may-wind at h.0 (ap (λ (p : CallerProgress). p.phase) (sym (at-of t.was)) ∙ still.0) (ap irrevocable (sym (at-of t.was)) ∙ still.1) t.turned.here) clock h.2 t.turned.here
       wind-halt d Memory closing unclosed h = tt
 
       still-busy : (d e : Worker K) → (IsOver (place_of (get_or ws n d)) → ⊥) → IsOver (place_of (get_or ws n e)) → ⊥
@@ -276,7 +276,7 @@ replicate-both zero k n = ap (λ (i : ℕ). replicate i n) (let e : k ≡ zero +
 replicate-both (suc j) k n = ap (λ ns. n ∷ ns) (replicate-both j k n) ∙ ap (λ (i : ℕ). replicate i n) (let e : suc (j + k) ≡ suc j + k = omega arith in e)
 
 -- turns of one caller, and then others of the same
-pub goes-on : {K : Type 0} (config : Config) (may : Place → Said → Type 0) (first last : Place → Type 0) (us vs ws : List (Worker K)) (a b c : List Line) (n : ℕ) (r : Result (Unit {0}) Halt)
+pub goes-on : {K : Type 0} (config : Config) (may : CallerProgress → Said → Type 0) (first last : CallerProgress → Type 0) (us vs ws : List (Worker K)) (a b c : List Line) (n : ℕ) (r : Result (Unit {0}) Halt)
     → Goes config may first us vs a b n (Ok tt) → Goes config may last vs ws b c n r → Goes config may last us ws a c n r
 goes-on config may first last us vs ws a b c n (Ok x) p q =
     (p.0 + q.0, plays-as config may us ws a c (replicate p.0 n ++ replicate q.0 n) (replicate (p.0 + q.0) n) (replicate-both p.0 q.0 n) (plays-next config may us vs ws a b c (replicate p.0 n) (replicate q.0 n) p.1 q.1), q.2)

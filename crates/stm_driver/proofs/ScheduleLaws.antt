@@ -1,4 +1,4 @@
--- From one turn of one worker to turns of many, one behind the other.
+-- From one turn of one worker to turns of many, one after the other.
 use Rattle.std.proofs.Common.{ℕ, zero, suc, ◌≡◌, ◌<◌, ◌≤◌, ◌+◌, ◌*◌, ◌^◌, List, [], ◌∷◌, ◌++◌, length, get_or, set, refl, sym, ap, ◌∙◌, arith, subst, inl, inr, length-append}
 use Rattle.std.specs.Prelude.{Bool, true, false, Some, None, Ok, Err, MatchOption}
 use Rattle.std.proofs.lemmas.List.{append-nil, get_or-map}
@@ -9,7 +9,7 @@ use Rattle.tx_answers.specs.declared.answers.Begin.TheVariants as begins
 use Rattle.tx_answers.specs.declared.answers.Commit.TheVariants as commits
 use Rattle.tx_answers.specs.declared.answers.Irrev.TheVariants as irrevs
 use Rattle.stm_model.specs.declared.stop.Stop.TheVariants as stops
-use Rattle.tx_answers.specs.Known.{owed}
+use Rattle.tx_answers.specs.CallerState.{owed}
 use Rattle.stm_rule.specs.Callers.{Handle, IsSameCaller}
 use Rattle.stm_tx.specs.Descs.{known}
 use Rattle.stm_trace.specs.declared.line.Line.{Line}
@@ -20,7 +20,7 @@ use Rattle.stm_worker.specs.Courses.{is_cut}
 use Rattle.stm_trace.specs.declared.said.Said.{Said}
 use Rattle.stm_trace.specs.declared.said.Said.TheVariants.{TryBegin, Reply, Stopped, TryCancel, TryIrrevocable, TryCommit, TryClose, Looked, Installed, Reserved, Idle, Dropped, Reopened}
 use Rattle.stm_trace.specs.Fits.{no_place}
-use Rattle.stm_trace.specs.Places.{Place, after, clock_of}
+use Rattle.stm_trace.specs.Places.{CallerProgress, after, clock_of}
 use Rattle.stm_trace.specs.Played.{Played, Halted}
 use Rattle.stm_trace.specs.PlayLaws.{played-none, played-one, halted-one, played-append, halted-append, played-as, halted-early}
 use Rattle.stm_trace.specs.Turns.{HasSizes, MaySay}
@@ -37,7 +37,7 @@ use Rattle.stm_worker.specs.InstallLaws.{installed-on, knows-append, uncut-appen
 use Rattle.stm_worker.specs.Workers.{place_of, IsSame, Loaded, Sound, Turned}
 
 -- who found the clock full has no attempt open
-pub full-between : (at : Place) (said : Said) (clock : ℕ) → clock_of said ≡ Some clock → MaySay at said → (after at said).phase ≡ Between
+pub full-between : (at : CallerProgress) (said : Said) (clock : ℕ) → clock_of said ≡ Some clock → MaySay at said → (after at said).phase ≡ Between
 full-between at (TryBegin (begins.Begun alg)) clock e m = absurd cc
 full-between at (TryBegin (begins.Closed gate)) clock e m = absurd cc
 full-between at (TryBegin (begins.Held word)) clock e m = absurd cc
@@ -80,7 +80,7 @@ module _ {K : Type 0} where
   same-more v w s = record { kept = s.kept; course = s.course; went = s.went; uncut = λ e. absurd cc; installs = s.installs; alone = s.alone }
 
   -- a turn of the schedule, or of a thread, cuts nothing
-  pub same-said : (at : Place) (said : Said) (v w : Worker K) → MaySay at said → IsSame (is_cut said) v w → IsSame false v w
+  pub same-said : (at : CallerProgress) (said : Said) (v w : Worker K) → MaySay at said → IsSame (is_cut said) v w → IsSame false v w
   same-said at (TryBegin b) v w m s = s
   same-said at (Reply op reply) v w m s = s
   same-said at (Stopped op stop) v w m s = s
@@ -143,7 +143,7 @@ module _ {K : Type 0} where
   pub place-is : (ws : List (Worker K)) (n : ℕ) (d : Worker K) → n < length ws → place_at ws n ≡ place_of (get_or ws n d)
   place-is ws n d lt = get_or-map place_of ws n d no_place lt
 
-  module _ (config : Config) (may : Place → Said → Type 0) where
+  module _ (config : Config) (may : CallerProgress → Said → Type 0) where
     pub plays-none : (ws : List (Worker K)) (lines : List Line) → Plays config may ws ws lines lines [] (Ok tt)
     plays-none ws lines = ((λ h sizes. played-none h may (places ws) lines), omega arith)
 
@@ -166,7 +166,7 @@ module _ {K : Type 0} where
       plays-halt Memory q = tt
 
   module _ (good : List ℕ → Type 0) (stm : Stm K) where
-    module _ (asked may : Place → Said → Type 0) (ws vs : List (Worker K)) (old new : List Line) (n : ℕ) (said : Said) (lt : n < length ws)
+    module _ (asked may : CallerProgress → Said → Type 0) (ws vs : List (Worker K)) (old new : List Line) (n : ℕ) (said : Said) (lt : n < length ws)
         (t : Took good stm asked ws vs old new n said) (here : may (place_of (get_or ws n t.was)) said) where
       covered : AreCovered ws vs old new
       covered =
@@ -183,7 +183,7 @@ module _ {K : Type 0} where
 
       pub took-halts : (clock : ℕ) → clock_of said ≡ Some clock → MaySay (place_of (get_or ws n t.was)) said → Plays stm.config may ws vs old new (n ∷ []) (Err (ClockFull clock))
       took-halts clock full says =
-          let between = ap (λ (p : Place). p.phase) t.turned.now ∙ full-between (place_of (get_or ws n t.was)) said clock full says in
+          let between = ap (λ (p : CallerProgress). p.phase) t.turned.now ∙ full-between (place_of (get_or ws n t.was)) said clock full says in
           let found = subst (λ o. MatchOption o (Unit {0}) (λ c. (2 ^ 62 ≤ c) × Loaded (known t.now.desc) c)) full t.turned.found in (
             (λ h sizes. subst (λ x. Halted h may (places ws) (places x) old new (n ∷ []) clock) (sym t.is)
                 (halted-one h may place_of ws n t.was t.now said old new lt here (t.turned.fair h sizes) t.turned.now t.lines clock full)),
@@ -217,7 +217,7 @@ module _ {K : Type 0} (good : List ℕ → Type 0) (stm : Stm K) (rs : List (Cac
     set-same h = subst (AreSame true (workers_in rs)) (sym (workers-set rs n r)) (same-set (workers_in rs) n (worker_in d) (worker_in r) lt (subst (λ (x : Worker K). IsSame true x (worker_in r)) (sym (worker-at rs n d lt)) (same-more (worker_in (get_or rs n d)) (worker_in r) h)))
 
     -- it took a turn
-    pub took : (may : Place → Said → Type 0) (said : Said) (old new : List Line) → Turned good stm may (worker_in (get_or rs n d)) said (worker_in r) → new ≡ old ++ Of n said ∷ []
+    pub took : (may : CallerProgress → Said → Type 0) (said : Said) (old new : List Line) → Turned good stm may (worker_in (get_or rs n d)) said (worker_in r) → new ≡ old ++ Of n said ∷ []
         → Took good stm may (workers_in rs) (workers_in (set rs n r)) old new n said
     took may said old new t lines = record {
       was = worker_in d;

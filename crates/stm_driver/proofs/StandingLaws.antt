@@ -8,7 +8,7 @@ use Rattle.stm_rule.specs.declared.stm.Stm.{Stm}
 use Rattle.rule_base.specs.declared.layout.At.TheVariants.{Clock}
 use Rattle.stm_model.specs.declared.config.Config.{Config}
 use Rattle.rule_base.specs.declared.views.Act.{Act}
-use Rattle.rule_base.specs.declared.views.TrailItem.{TrailItem}
+use Rattle.rule_base.specs.declared.views.TracedStep.{TracedStep}
 use Rattle.rule_base.specs.StepsRule.{ClocksWithin}
 use Rattle.stm_model.specs.Histories.{Entry}
 use Rattle.stm_script.specs.declared.report.Kind.{Kind}
@@ -17,7 +17,7 @@ use Rattle.stm_script.specs.declared.report.Row.{Row}
 use Rattle.stm_script.specs.declared.workload.Workload.{Workload}
 use Rattle.stm_script.specs.Parts.{times}
 use Rattle.stm_script.specs.Reports.{regions_of, scripts_of, writers, writer_to}
-use Rattle.tx_answers.specs.Known.{caller_of}
+use Rattle.tx_answers.specs.CallerState.{caller_of}
 use Rattle.stm_tx.specs.Descs.{known}
 use Rattle.stm_trace.specs.declared.said.Phase.TheVariants.{Between}
 use Rattle.stm_trace.specs.Places.{items_of}
@@ -30,12 +30,12 @@ use Rattle.stm_driver.proofs.PartingLaws.{scripts-own, total, total-few}
 use Rattle.stm_driver.proofs.PreparedLaws.{IsOwn, AreOwn}
 
 -- a clock that was found is at most the last
-pub clock-within : (t : ℕ) (trail : List TrailItem) (act : Act) (x : ℕ) → ClocksWithin t trail → Contains trail (record { place = Clock; act = act; found = Some x }) → x ≤ t
-clock-within t trail act x w h = at trail h.0 w h.1 h.2
+pub clock-within : (t : ℕ) (step_trace : List TracedStep) (act : Act) (x : ℕ) → ClocksWithin t step_trace → Contains step_trace (record { place = Clock; act = act; found = Some x }) → x ≤ t
+clock-within t step_trace act x w h = at step_trace h.0 w h.1 h.2
   where
-    at : (is : List TrailItem) (k : ℕ) → ClocksWithin t is → k < length is → get_or is k (record { place = Clock; act = act; found = Some x }) ≡ record { place = Clock; act = act; found = Some x } → x ≤ t
+    at : (is : List TracedStep) (k : ℕ) → ClocksWithin t is → k < length is → get_or is k (record { place = Clock; act = act; found = Some x }) ≡ record { place = Clock; act = act; found = Some x } → x ≤ t
     at [] k w lt e = absurd (omega arith)
-    at (i ∷ is) zero w lt e = w.0 (ap (λ (y : TrailItem). y.place) e) x (ap (λ (y : TrailItem). y.found) e)
+    at (i ∷ is) zero w lt e = w.0 (ap (λ (y : TracedStep). y.place) e) x (ap (λ (y : TracedStep). y.found) e)
     at (i ∷ is) (suc k) w lt e = at is k w.1 (omega arith) e
 
 writers-few : (rows : List Row) → length (writers rows) ≤ length rows

@@ -10,17 +10,17 @@ use Rattle.stm_script.specs.declared.workload.Item.{Item}
 use Rattle.stm_script.specs.Parts.{times}
 use Rattle.stm_script.specs.Reports.{scripts_of}
 use Rattle.stm_rule.specs.Callers.{Handle, IsOf}
-use Rattle.tx_answers.specs.Known.{Known, IsIdle, caller_of}
+use Rattle.tx_answers.specs.CallerState.{CallerState, IsIdle, caller_of}
 use Rattle.stm_tx.specs.Descs.{known}
 use Rattle.stm_trace.specs.declared.said.Phase.TheVariants.{Between}
-use Rattle.stm_trace.specs.Places.{Place}
+use Rattle.stm_trace.specs.Places.{CallerProgress}
 use Rattle.stm_worker.specs.declared.worker.Worker.{Worker}
 use Rattle.stm_driver.specs.Openings.{IsNew}
-use Rattle.stm_worker.specs.Workers.{IsAt, WhenInside, ToSwitch, ItemsFit, IsUnderWay, Works, Stands, Starts, Sound}
+use Rattle.stm_worker.specs.Workers.{IsAt, WhenInside, ToSwitch, ItemsFit, IsUnderWay, Works, Stands, IsFreshWorker, Sound}
 
 module _ {K : Type 0} (good : List ℕ → Type 0) (stm : Stm K) where
   -- a caller that has made nothing has done nothing
-  start-works : (rs : List Region) (n : ℕ) (all : List Item) (v : Known) → v.made ≡ [] → Works good stm.config.words rs all n v []
+  start-works : (rs : List Region) (n : ℕ) (all : List Item) (v : CallerState) → v.made ≡ [] → Works good stm.config.words rs all n v []
   start-works rs n all v none = record {
     writers = sym (ap times none);
     each = λ i d lt. absurd (omega arith);
@@ -30,16 +30,16 @@ module _ {K : Type 0} (good : List ℕ → Type 0) (stm : Stm K) where
     places = λ i d lt. absurd (omega arith);
   }
 
-  pub starts-sound : (d : Handle K) (items : List Item) (rs : List Region) (alg : Alg) (policy : Policy) (these : List Alg) (u : Worker K) → stm.config.fence ≡ false → IsOf d stm → IsNew these (known d) → ItemsFit good stm.config.words rs (caller_of d.who.role) items → Starts d items rs alg policy u
+  pub starts-sound : (d : Handle K) (items : List Item) (rs : List Region) (alg : Alg) (policy : Policy) (these : List Alg) (u : Worker K) → stm.config.fence ≡ false → IsOf d stm → IsNew these (known d) → ItemsFit good stm.config.words rs (caller_of d.who.role) items → IsFreshWorker d items rs alg policy u
       → Sound good stm u
   starts-sound d items rs alg policy these u plain own new fits s =
       let who : caller_of u.desc.who.role ≡ caller_of d.who.role = ap (λ (x : Handle K). caller_of x.who.role) s.is_desc in
       let knows : known u.desc ≡ known d = ap known s.is_desc in
-      let phase : u.phase ≡ Between = ap (λ (p : Place). p.phase) s.at in
-      let left : u.items_left.now ≡ items = ap (λ (p : Place). p.left) s.at in
-      let none : u.rows.items ≡ [] = ap (λ (p : Place). p.rows) s.at in
-      let failed : u.failed ≡ 0 = ap (λ (p : Place). p.failed) s.at in
-      let unasked : u.chosen ≡ None = ap (λ (p : Place). p.chosen) s.at in
+      let phase : u.phase ≡ Between = ap (λ (p : CallerProgress). p.phase) s.at in
+      let left : u.items_left.now ≡ items = ap (λ (p : CallerProgress). p.left) s.at in
+      let none : u.rows.items ≡ [] = ap (λ (p : CallerProgress). p.rows) s.at in
+      let failed : u.failed ≡ 0 = ap (λ (p : CallerProgress). p.failed) s.at in
+      let unasked : u.chosen ≡ None = ap (λ (p : CallerProgress). p.chosen) s.at in
       let count = ap length none in
       let whole : u.items_left.now ≡ u.all.now = left ∙ sym s.all in
       let stands : Stands good stm.config.words u.regions.now u.all.now (caller_of u.desc.who.role) (known u.desc) u.rows.items Between =

@@ -12,7 +12,7 @@ use Rattle.stm_trace.specs.declared.said.Phase.{Phase}
 use Rattle.stm_trace.specs.declared.said.Phase.TheVariants.{Between, Inside}
 use Rattle.stm_trace.specs.declared.said.Said.{Said}
 use Rattle.stm_trace.specs.declared.said.Said.TheVariants.{TryBegin, Reply, Stopped, TryCancel, TryIrrevocable, TryCommit, TryClose, Looked, Installed, Reserved, Idle, Dropped, Reopened}
-use Rattle.stm_trace.specs.Places.{Place, after, clock_of}
+use Rattle.stm_trace.specs.Places.{CallerProgress, after, clock_of}
 use Rattle.stm_trace.specs.Turns.{BeforeTx, IsOver, MaySay}
 use Rattle.stm_worker.specs.declared.worker.Worker.{Worker}
 use Rattle.stm_worker.specs.Workers.{IsSame, IsUnderWay, Loaded, Sound, Starved, Turned, WhenInside, place_of}
@@ -22,7 +22,7 @@ use Rattle.stm_driver.specs.AllWorkers.{Enough, IsCovered, MetLimit}
 use Rattle.stm_driver.proofs.ScheduleLaws.{full-between, self-same}
 
 -- a transaction is still to do
-full-before : (at : Place) (said : Said) (clock : ℕ) → clock_of said ≡ Some clock → MaySay at said → (at.phase ≡ Inside → BeforeTx at.left) → BeforeTx (after at said).left
+full-before : (at : CallerProgress) (said : Said) (clock : ℕ) → clock_of said ≡ Some clock → MaySay at said → (at.phase ≡ Inside → BeforeTx at.left) → BeforeTx (after at said).left
 full-before at (TryBegin (begins.Begun alg)) clock e m here = absurd cc
 full-before at (TryBegin (begins.Closed gate)) clock e m here = absurd cc
 full-before at (TryBegin (begins.Held word)) clock e m here = absurd cc
@@ -53,13 +53,13 @@ full-before at Reopened clock e m here = absurd m
 
 module _ {K : Type 0} (good : List ℕ → Type 0) (stm : Stm K) (u w : Worker K) (said : Said) (clock : ℕ) (s : Sound good stm u) (t : Turned good stm MaySay u said w) (full : clock_of said ≡ Some clock) where
   pub halts-between : w.phase ≡ Between
-  halts-between = ap (λ (p : Place). p.phase) t.now ∙ full-between (place_of u) said clock full t.here
+  halts-between = ap (λ (p : CallerProgress). p.phase) t.now ∙ full-between (place_of u) said clock full t.here
 
   pub halts-limit : MetLimit w clock
   halts-limit =
       let found = subst (λ o. MatchOption o (Unit {0}) (λ c. (2 ^ 62 ≤ c) × Loaded (known w.desc) c)) full t.found in
       let way : (u.phase ≡ Inside) → IsUnderWay good stm.config.words u = λ e. subst (λ (p : Phase). WhenInside p (IsUnderWay good stm.config.words u)) e s.under_way in
-      (found.0, found.1, subst BeforeTx (sym (ap (λ (p : Place). p.left) t.now)) (full-before (place_of u) said clock full t.here (λ e. (way e).here)))
+      (found.0, found.1, subst BeforeTx (sym (ap (λ (p : CallerProgress). p.left) t.now)) (full-before (place_of u) said clock full t.here (λ e. (way e).here)))
 
 -- one that was refused memory stands as it did
 module _ {K : Type 0} (good : List ℕ → Type 0) (stm : Stm K) (u w : Worker K) (t : Starved good stm u w) where
@@ -71,7 +71,7 @@ pub idle-through : {K : Type 0} (good : List ℕ → Type 0) (stm : Stm K) (u w 
 idle-through good stm u w said t is =
     let now : place_of w ≡ place_of u = t.now ∙ ap (after (place_of u)) is in
     let over : IsOver (place_of u) = subst (MaySay (place_of u)) is t.here in
-    (ap (λ (p : Place). p.left) now ∙ over.1, ap (λ (p : Place). p.chosen) now ∙ over.2)
+    (ap (λ (p : CallerProgress). p.left) now ∙ over.1, ap (λ (p : CallerProgress). p.chosen) now ∙ over.2)
 
 -- what stays so of a worker from turn to turn: what is uncovered, and what is counted
 pub record KeepsCovered {K : Type 0} (stm : Stm K) (u w : Worker K) : Type 0 where

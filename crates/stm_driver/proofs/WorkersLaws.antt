@@ -12,7 +12,7 @@ use Rattle.stm_worker.specs.declared.worker.Worker.{Worker}
 use Rattle.stm_driver.specs.declared.workers.Runner.{Runner}
 use Rattle.stm_trace.specs.Adapting.{policy_for}
 use Rattle.stm_driver.specs.AllWorkers.{AreMade, Finished, worker_in, workers_in}
-use Rattle.stm_worker.specs.Workers.{Starts}
+use Rattle.stm_worker.specs.Workers.{IsFreshWorker}
 
 pub made-length : {K : Type 0} (items_for : ℕ → List Item) (rs : List Region) (alg : Alg) (policy : Policy) (n : ℕ) (ds : List (Handle K)) (ws : List (Worker K)) → AreMade items_for rs alg policy n ds ws → length ws ≡ length ds
 made-length items_for rs alg policy n [] [] m = refl
@@ -22,22 +22,22 @@ made-length items_for rs alg policy n (d ∷ ds) (w ∷ ws) m = ap suc (made-len
 
 -- one worker more
 pub made-more : {K : Type 0} (items_for : ℕ → List Item) (rs : List Region) (alg : Alg) (policy : Policy) (n : ℕ) (ds : List (Handle K)) (ws : List (Worker K)) (d : Handle K) (w : Worker K)
-    → AreMade items_for rs alg policy n ds ws → Starts d (items_for (n + length ds)) rs alg (policy_for policy (n + length ds)) w → AreMade items_for rs alg policy n (ds ++ d ∷ []) (ws ++ w ∷ [])
-made-more items_for rs alg policy n [] [] d w m s = (let here : n + 0 ≡ n = omega arith in subst (λ k. Starts d (items_for k) rs alg (policy_for policy k) w) here s, tt)
+    → AreMade items_for rs alg policy n ds ws → IsFreshWorker d (items_for (n + length ds)) rs alg (policy_for policy (n + length ds)) w → AreMade items_for rs alg policy n (ds ++ d ∷ []) (ws ++ w ∷ [])
+made-more items_for rs alg policy n [] [] d w m s = (let here : n + 0 ≡ n = omega arith in subst (λ k. IsFreshWorker d (items_for k) rs alg (policy_for policy k) w) here s, tt)
 made-more items_for rs alg policy n [] (x ∷ ws) d w m s = absurd m
 made-more items_for rs alg policy n (y ∷ ds) [] d w m s = absurd m
 made-more items_for rs alg policy n (y ∷ ds) (x ∷ ws) d w m s =
     let next : n + suc (length ds) ≡ suc n + length ds = omega arith in
-    (m.0, made-more items_for rs alg policy (suc n) ds ws d w m.1 (subst (λ k. Starts d (items_for k) rs alg (policy_for policy k) w) next s))
+    (m.0, made-more items_for rs alg policy (suc n) ds ws d w m.1 (subst (λ k. IsFreshWorker d (items_for k) rs alg (policy_for policy k) w) next s))
 
 -- a worker for each descriptor by its place
 pub made-of : {K : Type 0} (items_for : ℕ → List Item) (rs : List Region) (alg : Alg) (policy : Policy) (n : ℕ) (ds : List (Handle K)) (ws : List (Worker K)) → length ws ≡ length ds
-    → ((k : ℕ) (d : Handle K) (w : Worker K) → k < length ds → Starts (get_or ds k d) (items_for (n + k)) rs alg (policy_for policy (n + k)) (get_or ws k w)) → AreMade items_for rs alg policy n ds ws
+    → ((k : ℕ) (d : Handle K) (w : Worker K) → k < length ds → IsFreshWorker (get_or ds k d) (items_for (n + k)) rs alg (policy_for policy (n + k)) (get_or ws k w)) → AreMade items_for rs alg policy n ds ws
 made-of {K = K} items_for rs alg policy n [] [] len each = tt
 made-of {K = K} items_for rs alg policy n [] (w ∷ ws) len each = absurd (omega (arith, len))
 made-of {K = K} items_for rs alg policy n (d ∷ ds) [] len each = absurd (omega (arith, len))
 made-of {K = K} items_for rs alg policy n (d ∷ ds) (w ∷ ws) len each =
-    let at : ℕ → Handle K → Worker K → Type 0 = λ k d' w'. Starts d' (items_for k) rs alg (policy_for policy k) w' in
+    let at : ℕ → Handle K → Worker K → Type 0 = λ k d' w'. IsFreshWorker d' (items_for k) rs alg (policy_for policy k) w' in
     let here : n + 0 ≡ n = omega arith in (
       subst (λ k. at k d w) here (each 0 d w (omega arith)),
       made-of items_for rs alg policy (suc n) ds ws (omega (arith, len)) (λ k d' w' lt. (let next : n + suc k ≡ suc n + k = omega arith in subst (λ m. at m (get_or ds k d') (get_or ws k w')) next (each (suc k) d' w' (omega (arith, lt))))),
@@ -50,7 +50,7 @@ made-same items_for other rs alg policy callers n [] [] same le m = tt
 made-same items_for other rs alg policy callers n [] (w ∷ ws) same le m = absurd m
 made-same items_for other rs alg policy callers n (d ∷ ds) [] same le m = absurd m
 made-same items_for other rs alg policy callers n (d ∷ ds) (w ∷ ws) same le m =
-    (subst (λ k. Starts d k rs alg (policy_for policy n) w) (same n (omega arith)) m.0, made-same items_for other rs alg policy callers (suc n) ds ws same (omega arith) m.1)
+    (subst (λ k. IsFreshWorker d k rs alg (policy_for policy n) w) (same n (omega arith)) m.0, made-same items_for other rs alg policy callers (suc n) ds ws same (omega arith) m.1)
 
 -- a worker's run, told of what was lent and given back
 pub finished-as : {K : Type 0} (good : List ℕ → Type 0) (stm : Stm K) (x y r s : CachePadded (Runner K)) → x ≡ r → y ≡ s → Finished good stm x y → Finished good stm r s

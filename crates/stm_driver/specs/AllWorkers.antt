@@ -11,7 +11,7 @@ use Rattle.stm_script.specs.declared.report.Row.{Row}
 use Rattle.stm_script.specs.declared.workload.Item.{Item}
 use Rattle.stm_rule.specs.Callers.{Handle}
 use Rattle.stm_tx.specs.Descs.{known}
-use Rattle.tx_answers.specs.Known.{caller_of}
+use Rattle.tx_answers.specs.CallerState.{caller_of}
 use Rattle.stm_trace.specs.declared.said.Phase.TheVariants.{Between}
 use Rattle.stm_trace.specs.Adapting.{policy_for}
 use Rattle.stm_trace.specs.Turns.{BeforeTx, Lengthens}
@@ -19,7 +19,7 @@ use Rattle.stm_worker.specs.declared.worker.Worker.{Worker}
 use Rattle.stm_worker.specs.Leavings.{MadeIdle}
 use Rattle.stm_trace.specs.Places.{most_failed}
 use Rattle.stm_worker.specs.RiseCovers.{CountsNext, CoversBut, raised}
-use Rattle.stm_worker.specs.Workers.{IsSame, Loaded, Sound, Starts}
+use Rattle.stm_worker.specs.Workers.{IsSame, Loaded, Sound, IsFreshWorker}
 use Rattle.stm_driver.specs.declared.schedule.Halt.{Halt}
 use Rattle.stm_driver.specs.declared.schedule.Halt.TheVariants.{ClockFull, Memory}
 use Rattle.stm_driver.specs.declared.workers.Common.{Common}
@@ -49,11 +49,11 @@ module _ {K : Type 0} where
   AreMade items regions alg policy n [] [] = Unit {0}
   AreMade items regions alg policy n [] (w ∷ ws) = ⊥
   AreMade items regions alg policy n (d ∷ ds) [] = ⊥
-  AreMade items regions alg policy n (d ∷ ds) (w ∷ ws) = Starts d (items n) regions alg (policy_for policy n) w × AreMade items regions alg policy (suc n) ds ws
+  AreMade items regions alg policy n (d ∷ ds) (w ∷ ws) = IsFreshWorker d (items n) regions alg (policy_for policy n) w × AreMade items regions alg policy (suc n) ds ws
 
   -- what caller n's worker is made of, and what they all are
   abbrev pub IsMadeOf : Common → ℕ → Handle K → Worker K → Type 0
-  IsMadeOf c n d w = Starts d (slice_index_or c.parts.now n []) c.regions.now c.alg (policy_for c.policy n) w
+  IsMadeOf c n d w = IsFreshWorker d (slice_index_or c.parts.now n []) c.regions.now c.alg (policy_for c.policy n) w
 
   abbrev pub AreMadeOf : Common → List (Handle K) → List (Worker K) → Type 0
   AreMadeOf c ds ws = AreMade (λ n. slice_index_or c.parts.now n []) c.regions.now c.alg c.policy 0 ds ws

@@ -9,7 +9,7 @@ use Rattle.stm_script.specs.declared.report.Row.{Row}
 use Rattle.stm_script.specs.Scripts.{run_row}
 
 module _ (regions : List Region) (script : Row → List Op) (history : List Entry) (opening : List ℕ) where
-  -- behind a W row the memory is that of the history at its place; another row is run on that memory
+  -- after a W row the memory is that of the history at its place; another row is run on that memory
   abbrev pub IsAt : Kind → ℕ → List ℕ → List ℕ → Type 0
   IsAt W place before after = after ≡ memory_at place history opening
   IsAt R place before after = before ≡ memory_at place history opening

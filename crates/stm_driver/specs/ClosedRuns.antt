@@ -6,8 +6,8 @@ use Rattle.stm_script.specs.declared.report.Row.{Row}
 use Rattle.stm_script.specs.Reports.{nonzero, Ordered}
 use Rattle.stm_rule.specs.Closings.{Closes, Ended}
 use Rattle.stm_worker.specs.declared.worker.Worker.{Worker}
-use Rattle.stm_driver.specs.declared.outcome.Outcome.{Outcome}
-use Rattle.stm_driver.specs.declared.outcome.Outcome.TheVariants as outcomes
+use Rattle.stm_driver.specs.declared.outcome.RunOutcome.{RunOutcome}
+use Rattle.stm_driver.specs.declared.outcome.RunOutcome.TheVariants as outcomes
 use Rattle.stm_driver.specs.declared.schedule.Halt.{Halt}
 use Rattle.stm_driver.specs.declared.schedule.Halt.TheVariants.{ClockFull, Memory}
 use Rattle.stm_driver.specs.AllWorkers.{AreMadeIdle, descs_of, rows_of}
@@ -33,7 +33,7 @@ module _ {K : Type 0} (good : List ℕ → Type 0) (stm : Stm K) where
     pub closes : Closes good stm.config (descs_of after) words closed
 
   -- what a run came to, by how its turns ended
-  abbrev pub Came : List (Worker K) → Result (Unit {0}) Halt → Outcome → Type 0
+  abbrev pub Came : List (Worker K) → Result (Unit {0}) Halt → RunOutcome → Type 0
   Came ws (Ok x) (outcomes.ToEnd report closed) = Reported ws report closed
   Came ws (Ok x) (outcomes.ToLimit clock closed) = ⊥
   Came ws (Ok x) (outcomes.OutOfMemory closed) = (report : Report) × Reported ws report closed

@@ -2,7 +2,7 @@
 use Rattle.std.specs.Prelude.{ℕ, ◌≡◌, ◌<◌, List, [], ◌∷◌, ◌++◌, length, slice_index_or, IsPermutation}
 use Rattle.stm_script.specs.declared.report.Row.{Row}
 
--- one list behind the other
+-- one list after the other
 abbrev pub joined : List (List Row) → List Row
 joined [] = []
 joined (l ∷ ls) = l ++ joined ls

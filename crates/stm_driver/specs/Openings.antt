@@ -7,26 +7,26 @@ use Rattle.stm_script.specs.declared.workload.Header.{Header}
 use Rattle.stm_script.specs.Workloads.{config_of}
 use Rattle.stm_rule.specs.Callers.{Handle, IsOf}
 use Rattle.tx_answers.specs.Answers.{HoldsClosed}
-use Rattle.tx_answers.specs.Known.{Known, IsIdle}
+use Rattle.tx_answers.specs.CallerState.{CallerState, IsIdle}
 use Rattle.stm_tx.specs.Descs.{known}
 use Rattle.stm_worker.specs.Workers.{HasLengths}
 
 -- it has no entry, has raised the clock by one at most for each install, and has installed these
-pub record HasDone (these : List Alg) (v : Known) : Type 0 where
+pub record HasDone (these : List Alg) (v : CallerState) : Type 0 where
   pub made : v.made ≡ []
   pub rises : v.rises ≤ length these
   pub installs : v.installs ≡ these
 
-pub record IsNew (these : List Alg) (v : Known) : Type 0 where
+pub record IsNew (these : List Alg) (v : CallerState) : Type 0 where
   pub idle : IsIdle v
   pub done : HasDone these v
 
 -- its logs are as long as they were
-abbrev pub SameLengths : Known → Known → Type 0
+abbrev pub SameLengths : CallerState → CallerState → Type 0
 SameLengths v w = (w.reads_limit ≡ v.reads_limit) × (w.writes_limit ≡ v.writes_limit)
 
 -- it has closed the gate
-pub record HoldsGate (v : Known) : Type 0 where
+pub record HoldsGate (v : CallerState) : Type 0 where
   pub holds : HoldsClosed v
   pub done : HasDone [] v
 

@@ -11,8 +11,8 @@ use Rattle.stm_rule.specs.Callers.{Handle}
 use Rattle.stm_tx.specs.Descs.{known}
 use Rattle.stm_worker.specs.declared.worker.Worker.{Worker}
 use Rattle.stm_text.specs.declared.parse.Mode.{Mode}
-use Rattle.stm_text.specs.Built.{IsBuilt}
-use Rattle.stm_text.specs.Built as built
+use Rattle.stm_text.specs.Parsed.{IsParsed}
+use Rattle.stm_text.specs.Parsed as is_parsed
 use Rattle.tx_regions.specs.Regions.{AllWellFormed}
 use Rattle.stm_driver.specs.declared.preparing.Prepared.{Prepared}
 use Rattle.stm_driver.specs.declared.preparing.Room.{Room}
@@ -23,8 +23,8 @@ use Rattle.stm_script.specs.Reports.{regions_of, zeros}
 use Rattle.stm_driver.specs.Openings.{AllNew}
 
 -- an item of the grammar, which the header's memory takes
-abbrev pub BuiltItem : Header → Item → Type 0
-BuiltItem h i = built.ItemFits h i × ItemFits (regions_of h) h i
+abbrev pub ParsedItem : Header → Item → Type 0
+ParsedItem h i = is_parsed.ItemFits h i × ItemFits (regions_of h) h i
 
 -- what the item's script does keeps the rule on memories of this header
 abbrev pub ItemKeeps : (List ℕ → Type 0) → Header → Item → Type 0
@@ -59,15 +59,15 @@ pub record HasRoom {K : Type 0} (callers items heap : ℕ) (room : Room K) : Typ
 
 -- this is a workload that is prepared, its scripts keep the rule, and a good memory has its regions well formed
 pub record IsReadyFor {K : Type 0} (good : List ℕ → Type 0) (m : Mode) (policy : Policy) (w : Workload) (p : Prepared K) : Type 0 where
-  pub built : IsBuilt m w
+  pub is_parsed : IsParsed m w
   pub keeps : WorkloadKeeps good w
   pub regions : Forms good w
   pub prepared : IsPrepared w.header policy (parted w.header.callers w.items) p.stm (workers_in p.runners.items)
   pub room : HasRoom w.header.callers (length w.items) w.header.words p.room
 
--- the rule of the header's regions: it holds of a memory of zeros, and each script of a workload that is built keeps it
+-- the rule of the header's regions: it holds of a memory of zeros, and each script of a workload that was parsed keeps it
 abbrev pub RuleHolds : Type 0
 RuleHolds = (w : Workload) → AllWellFormed (regions_of w.header) (zeros w.header.words)
 
 abbrev pub RuleIsKept : Type 0
-RuleIsKept = (m : Mode) (w : Workload) → IsBuilt m w → WorkloadKeeps (AllWellFormed (regions_of w.header)) w
+RuleIsKept = (m : Mode) (w : Workload) → IsParsed m w → WorkloadKeeps (AllWellFormed (regions_of w.header)) w

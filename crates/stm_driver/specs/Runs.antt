@@ -19,10 +19,10 @@ use Rattle.stm_rule.specs.Closings.{Ended}
 use Rattle.stm_trace.specs.Adapting.{policy_for}
 use Rattle.stm_driver.specs.Along.{GoesAlong}
 use Rattle.stm_driver.specs.Openings.{first_installs}
-use Rattle.stm_driver.specs.declared.outcome.Outcome.{Outcome}
-use Rattle.stm_driver.specs.declared.outcome.Outcome.TheVariants.{ToEnd, ToLimit, OutOfMemory}
+use Rattle.stm_driver.specs.declared.outcome.RunOutcome.{RunOutcome}
+use Rattle.stm_driver.specs.declared.outcome.RunOutcome.TheVariants.{ToEnd, ToLimit, OutOfMemory}
 
--- what caller n installed, caller 0 after the header's algorithm: the switches of its items, and behind its transactions those that its policy asked for, by what its rows say and the attempts before them. cut: whether a schedule may have ended with an attempt open
+-- what caller n installed, caller 0 after the header's algorithm: the switches of its items, and after its transactions those that its policy asked for, by what its rows say and the attempts before them. cut: whether a schedule may have ended with an attempt open
 pub record HasInstalled (cut whole : Bool) (policy : Policy) (w : Workload) (rows : List Row) (n : ℕ) (installs : List Alg) : Type 0 where
   pub more : List Alg
   pub first : installs ≡ first_installs w.header.alg n ++ more
@@ -36,7 +36,7 @@ abbrev pub AreInstalls : Bool → Bool → Policy → Workload → List Row → 
 AreInstalls cut whole policy w rows n [] = Unit {0}
 AreInstalls cut whole policy w rows n (installs ∷ others) = HasInstalled cut whole policy w rows n installs × AreInstalls cut whole policy w rows (suc n) others
 
--- the history of the memory that was closed is legal, over zeros from the header's clock on, with each structure well formed at every moment, and has no entry behind the last clock
+-- the history of the memory that was closed is legal, over zeros from the header's clock on, with each structure well formed at every moment, and has no entry after the last clock
 pub record IsHistory (w : Workload) (closed : Ended) : Type 0 where
   pub legal : IsLegal (AllWellFormed (regions_of w.header)) (zeros w.header.words) w.header.clock closed.history
   pub times : Within closed.clock closed.history
@@ -106,12 +106,12 @@ pub record IsStopped (cut : Bool) (some : List Item → List Item → Type 0) (p
   pub ran : RanSome cut some policy w closed
 
 -- where memory was refused, for longer logs or for the report, the memory is that of a run of some of each caller's items to their end
-abbrev pub HasRun : Policy → Workload → Outcome → Type 0
+abbrev pub HasRun : Policy → Workload → RunOutcome → Type 0
 HasRun policy w (ToEnd report closed) = IsShown false policy w report closed
 HasRun policy w (ToLimit clock closed) = IsFull policy w clock closed
 HasRun policy w (OutOfMemory closed) = ((report : Report) × IsShown false policy w report closed) ⊎ IsStopped false AreFirst policy w closed
 
-abbrev pub HasStepped : Workload → List Line → Outcome → Type 0
+abbrev pub HasStepped : Workload → List Line → RunOutcome → Type 0
 HasStepped w lines (ToEnd report closed) = IsTraced w lines report closed
 HasStepped w lines (ToLimit clock closed) = IsCut w lines clock closed
 HasStepped w lines (OutOfMemory closed) = IsStopped true ArePart w.header.policy w closed

@@ -5,13 +5,13 @@ use Rattle.stm_model.specs.declared.config.Config.{Config}
 use Rattle.stm_script.specs.declared.report.Row.{Row}
 use Rattle.stm_script.specs.declared.workload.Go.{Go}
 use Rattle.stm_script.specs.declared.workload.Header.{Header}
-use Rattle.tx_answers.specs.Known.{owed}
+use Rattle.tx_answers.specs.CallerState.{owed}
 use Rattle.stm_tx.specs.Descs.{known}
 use Rattle.stm_trace.specs.declared.line.Line.{Line}
 use Rattle.stm_trace.specs.declared.line.Line.TheVariants.{Of}
 use Rattle.stm_trace.specs.declared.said.Phase.TheVariants.{Between}
 use Rattle.stm_trace.specs.declared.said.Said.{Said}
-use Rattle.stm_trace.specs.Places.{Place, clock_of}
+use Rattle.stm_trace.specs.Places.{CallerProgress, clock_of}
 use Rattle.stm_trace.specs.Turns.{MaySay, IsOver}
 use Rattle.stm_trace.specs.Fits.{IsWhole, IsCut, all_told}
 use Rattle.stm_trace.specs.Fits as fits
@@ -24,11 +24,11 @@ use Rattle.stm_trace.specs.Turns.{HasSizes}
 use Rattle.stm_worker.specs.Workers.{place_of, IsSame, Loaded, Sound, Turned}
 
 module _ {K : Type 0} where
-  abbrev pub places : List (Worker K) → List Place
+  abbrev pub places : List (Worker K) → List CallerProgress
   places ws = map place_of ws
 
   -- where caller n stands
-  abbrev pub place_at : List (Worker K) → ℕ → Place
+  abbrev pub place_at : List (Worker K) → ℕ → CallerProgress
   place_at ws n = fits.place_of (map place_of ws) n
 
   -- each is the same caller, and passed over no switch
@@ -51,20 +51,20 @@ module _ {K : Type 0} where
   FoundFull [] clock = ⊥
   FoundFull (w ∷ ws) clock = ((w.phase ≡ Between) × (2 ^ 62 ≤ clock) × Loaded (known w.desc) clock) ⊎ FoundFull ws clock
 
-  module _ (config : Config) (may : Place → Said → Type 0) where
+  module _ (config : Config) (may : CallerProgress → Said → Type 0) where
     -- turns of these callers in this order, or up to a full clock
     abbrev pub Plays : List (Worker K) → List (Worker K) → List Line → List Line → List ℕ → Result (Unit {0}) Halt → Type 0
     Plays ws vs old new order (Ok x) = ((h : Header) → HasSizes config h → Played h may (places ws) (places vs) old new order) × AreCovered ws vs old new
     Plays ws vs old new order (Err (ClockFull clock)) = ((h : Header) → HasSizes config h → Halted h may (places ws) (places vs) old new order clock) × AreCovered ws vs old new × FoundFull vs clock
     Plays ws vs old new order (Err Memory) = Unit {0}
 
-    module _ (holds : Place → Type 0) where
+    module _ (holds : CallerProgress → Type 0) where
       -- some turns of caller n, and then it stands so; or up to a full clock
       abbrev pub Goes : List (Worker K) → List (Worker K) → List Line → List Line → ℕ → Result (Unit {0}) Halt → Type 0
       Goes ws vs old new n (Ok x) = (turns : ℕ) × Plays ws vs old new (replicate turns n) (Ok x) × holds (place_at vs n)
       Goes ws vs old new n (Err halt) = (turns : ℕ) × Plays ws vs old new (replicate turns n) (Err halt)
 
-      -- the turns of all callers below n, one caller behind the other
+      -- the turns of all callers below n, one caller after the other
       pub record Rounded (n : ℕ) (ws vs : List (Worker K)) (old new : List Line) : Type 0 where
         pub round : (h : Header) → HasSizes config h → WentRound h may holds n (places ws) (places vs) old new
         pub covered : AreCovered ws vs old new
@@ -79,7 +79,7 @@ module _ {K : Type 0} where
     AreSound ws = All (Sound good stm) ws
 
     -- caller n took a turn, and said this, which is the one line more
-    pub record Took (may : Place → Said → Type 0) (ws vs : List (Worker K)) (old new : List Line) (n : ℕ) (said : Said) : Type 0 where
+    pub record Took (may : CallerProgress → Said → Type 0) (ws vs : List (Worker K)) (old new : List Line) (n : ℕ) (said : Said) : Type 0 where
       pub was : Worker K
       pub now : Worker K
       pub turned : Turned good stm may (slice_index_or ws n was) said now

@@ -11,7 +11,7 @@ ghost use Rattle.stm_driver.specs.ClosedRuns.{Came, IsReport};
 ghost use Rattle.stm_driver.specs.Preparings.{HasRoom};
 
 use crate::order::order;
-use crate::outcome::Outcome;
+use crate::outcome::RunOutcome;
 use crate::preparing::Room;
 use crate::schedule::Halt;
 use crate::workers::{Runner, take_apart};
@@ -33,7 +33,7 @@ pub fn close_memory<K: MemRule + Drop>(
     mut runners: Vec<CachePadded<Runner<K>>>,
     room: Room<K>,
     how: Result<(), Halt>,
-) -> Outcome
+) -> RunOutcome
     requires sound { AreSound (K.good stm.rule) stm (workers_in runners.items) }
     requires callers { AreCallers 0 (workers_in runners.items) }
     requires all { length (workers_in runners.items) ≡ stm.config.callers }
@@ -52,12 +52,12 @@ pub fn close_memory<K: MemRule + Drop>(
     let closed = close_into(stm, descs, &mut words);
     match how {
         Ok(()) => match report_of(alloc, rows, words.as_slice()) {
-            Ok(report) => Outcome::ToEnd { report, closed },
-            Err(Memory) => Outcome::OutOfMemory { closed },
+            Ok(report) => RunOutcome::ToEnd { report, closed },
+            Err(Memory) => RunOutcome::OutOfMemory { closed },
         },
         Err(halt) => match halt {
-            Halt::ClockFull { clock } => Outcome::ToLimit { clock, closed },
-            Halt::Memory => Outcome::OutOfMemory { closed },
+            Halt::ClockFull { clock } => RunOutcome::ToLimit { clock, closed },
+            Halt::Memory => RunOutcome::OutOfMemory { closed },
         },
     }
 }

@@ -1,4 +1,4 @@
-//! Behind a schedule: what is open ends, and then each caller goes on until nothing is left.
+//! After a schedule: what is open ends, and then each caller goes on until nothing is left.
 ghost use Rattle.std.specs.Prelude.{◌≡◌, ◌<◌, true, [], ◌∷◌, All, MatchBool, MatchOption, length};
 ghost use Rattle.stm_trace.specs.Turns.{MayWind};
 ghost use Rattle.stm_worker.specs.Leavings.{HasOnlyIrrevocableOpen, NothingToGiveUp, GaveUp};

@@ -2,16 +2,16 @@
 ghost use Rattle.stm_driver.specs.Preparings.{RuleHolds, RuleIsKept};
 
 use stm_script::laws::operations_keep_regions;
-use stm_text::laws::built_workloads_fit;
+use stm_text::laws::parsed_workloads_fit;
 use tx_regions::laws::memories_stay_good;
 
 /// Under the rule that the header's regions are well formed, what a run asks of its rule holds of every
-/// workload that is built.
+/// workload that was parsed.
 pub fn regions_are_kept()
     ensures holds { RuleHolds }
     ensures kept { RuleIsKept }
 {
     memories_stay_good();
     operations_keep_regions();
-    built_workloads_fit();
+    parsed_workloads_fit();
 }

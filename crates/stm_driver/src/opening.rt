@@ -1,9 +1,9 @@
 //! The memory of a workload, opened: the header's algorithm is installed before any caller begins.
 ghost use Rattle.std.specs.Prelude.{◌≡◌, ◌∷◌, [], true, replicate, IfOk};
-ghost use Rattle.stm_text.specs.Built.{HeaderFits};
+ghost use Rattle.stm_text.specs.Parsed.{HeaderFits};
 ghost use Rattle.stm_rule.specs.Callers.{IsOf, IsSameCaller};
 ghost use Rattle.tx_answers.specs.Answers.{SeesQuiet};
-ghost use Rattle.tx_answers.specs.Known.{caller_of};
+ghost use Rattle.tx_answers.specs.CallerState.{caller_of};
 ghost use Rattle.stm_tx.specs.Descs.{known};
 ghost use Rattle.stm_driver.specs.Openings.{IsNew, HoldsGate, OpensFor, SameLengths};
 

@@ -5,7 +5,7 @@ use stm_script::report::Report;
 
 /// What a run came to, with the closed memory.
 #[derive(Drop)]
-pub enum Outcome {
+pub enum RunOutcome {
     /// All transactions have ended.
     ToEnd { report: Report, closed: Closed },
     /// A call found the clock at its limit; what was open then ended without a row.

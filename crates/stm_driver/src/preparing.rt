@@ -1,7 +1,7 @@
 //! What stands before the first turn: a memory that is open for a workload, and a worker for each caller. All room of a
 //! run is taken here, since an irrevocable attempt can't be cancelled for want of memory.
 ghost use Rattle.std.specs.Prelude.{◌≡◌, length, replicate, IfOk};
-ghost use Rattle.stm_text.specs.Built.{HeaderFits};
+ghost use Rattle.stm_text.specs.Parsed.{HeaderFits};
 ghost use Rattle.stm_script.specs.Reports.{regions_of};
 ghost use Rattle.stm_driver.specs.AllWorkers.{workers_in};
 ghost use Rattle.stm_driver.specs.Preparings.{HasRoom, IsPrepared};

@@ -7,26 +7,26 @@ ghost use Rattle.stm_driver.specs.Runs.{HasStepped};
 
 use crate::closing::close_memory;
 use crate::finishing::drive;
-use crate::outcome::Outcome;
+use crate::outcome::RunOutcome;
 use crate::preparing::Prepared;
 use std::alloc::Global;
 use std::sync::Wait;
 use stm_model::rule::MemRule;
 use stm_script::laws::report_replays;
 use stm_script::workload::Go;
-use stm_text::laws::built_workloads_fit;
+use stm_text::laws::parsed_workloads_fit;
 use stm_trace::line::Line;
 
 /// Runs the transactions of all callers in the turns of the workload's schedule, and then each caller's to
 /// their end: the trace, and what the run came to; caller 0 switches besides by the text's policy. Where memory is
 /// refused, for longer logs, for the trace between two turns or for the report's pairs, the run ends with
-/// [`Outcome::OutOfMemory`].
+/// [`RunOutcome::OutOfMemory`].
 pub fn step<R: Wait, K: MemRule + Drop>(
     rt: &R,
     alloc: Global,
     prepared: Prepared<K>,
     schedule: &[Go],
-) -> (Vec<Line>, Outcome)
+) -> (Vec<Line>, RunOutcome)
     requires ready { (w : Workload) × IsReadyFor (K.good prepared.stm.rule) Step w.header.policy w prepared × (schedule.now ≡ w.schedule) }
     ensures { (w : Workload) → IsReadyFor (K.good prepared.entry.stm.rule) Step w.header.policy w prepared.entry → schedule.now ≡ w.schedule → HasStepped w result.0.items result.1 }
 {
@@ -35,7 +35,7 @@ pub fn step<R: Wait, K: MemRule + Drop>(
         mut runners,
         room,
     } = prepared;
-    built_workloads_fit();
+    parsed_workloads_fit();
     report_replays(&stm.rule);
     let mut lines = Vec::new(alloc);
     let how = drive(

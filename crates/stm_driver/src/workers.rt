@@ -1,6 +1,6 @@
 //! The workers of all callers.
 ghost use Rattle.std.specs.Prelude.{◌≡◌, ◌<◌, ◌≤◌, [], length, map, slice_index_or, vec_len, vec_capacity, IfOk, IsPermutation, Ok};
-ghost use Rattle.tx_answers.specs.Known.{caller_of};
+ghost use Rattle.tx_answers.specs.CallerState.{caller_of};
 ghost use Rattle.stm_driver.specs.AllWorkers.{AreMade, AreMadeOf, AreNumbered, IsMadeOf, workers_in, descs_of, rows_of, how_all, sooner};
 ghost use Rattle.stm_trace.specs.Adapting.{policy_for};
 ghost use Rattle.stm_driver.specs.Gatherings.{joined};

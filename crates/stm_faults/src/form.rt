@@ -1,6 +1,6 @@
 //! What may stand on a line of a workload: its forms, in which a capital letter stands for a word, and what each of these
 //! letters may be.
-use crate::spot::{Place, Spot};
+use crate::spot::{LineKind, Spot};
 use std::alloc::AllocError;
 use stm_check::words::first_word;
 use stm_model::config::{
@@ -100,26 +100,26 @@ fn find(forms: &[&'static str], word: &[u8]) -> Option<&'static str> {
 /// The form of an item, an operation or turns that begins with this word, where one may stand there.
 pub(crate) fn form_of(spot: &Spot, word: &[u8]) -> Option<&'static str> {
     match (spot.place, spot.version) {
-        (Place::Items, Version::One) => find(&ITEMS, word),
-        (Place::Items, Version::Two) => find(&ITEMS, word).or(find(&LONGER, word)),
-        (Place::Ops, Version::One) => find(&PLAIN, word).or(find(&STRUCTURED, word)),
-        (Place::Ops, Version::Two) => find(&PLAIN, word).or(find(&PLACED, word)),
-        (Place::Turns, _) => find(&TURNS, word),
-        (Place::Head(_) | Place::Region(_) | Place::Policy, _) => None,
+        (LineKind::Items, Version::One) => find(&ITEMS, word),
+        (LineKind::Items, Version::Two) => find(&ITEMS, word).or(find(&LONGER, word)),
+        (LineKind::Ops, Version::One) => find(&PLAIN, word).or(find(&STRUCTURED, word)),
+        (LineKind::Ops, Version::Two) => find(&PLAIN, word).or(find(&PLACED, word)),
+        (LineKind::Turns, _) => find(&TURNS, word),
+        (LineKind::Head(_) | LineKind::Region(_) | LineKind::Policy, _) => None,
     }
 }
 
 /// The form of a line that begins with this word, where one may stand there.
 pub(crate) fn begun_by(spot: &Spot, word: &[u8]) -> Option<&'static str> {
     match (spot.place, spot.version) {
-        (Place::Head(10), Version::One) => find(&["structs SWITCH"], word),
-        (Place::Head(10), Version::Two) => find(&["regions N"], word),
-        (Place::Head(number), _) => {
+        (LineKind::Head(10), Version::One) => find(&["structs SWITCH"], word),
+        (LineKind::Head(10), Version::Two) => find(&["regions N"], word),
+        (LineKind::Head(number), _) => {
             let form = HEAD.get(number.saturating_sub(1))?;
             find(&[*form], word)
         }
-        (Place::Region(_), _) => find(&["region KIND AT SIZE"], word),
-        (Place::Policy, _) => find(&["policy P"], word),
+        (LineKind::Region(_), _) => find(&["region KIND AT SIZE"], word),
+        (LineKind::Policy, _) => find(&["policy P"], word),
         _ => form_of(spot, word),
     }
 }
@@ -132,16 +132,16 @@ pub(crate) fn put_expected(said: &mut String, spot: &Spot, word: &[u8]) -> Resul
         return put_form(said, spot, form);
     }
     match (spot.place, spot.version) {
-        (Place::Head(number), _) => put_head(said, spot, number),
-        (Place::Region(_), _) => put_region(said),
-        (Place::Policy, _) => put_policy(said),
-        (Place::Items, Version::One) => put_forms(said, "", &ITEMS),
-        (Place::Items, Version::Two) => {
+        (LineKind::Head(number), _) => put_head(said, spot, number),
+        (LineKind::Region(_), _) => put_region(said),
+        (LineKind::Policy, _) => put_policy(said),
+        (LineKind::Items, Version::One) => put_forms(said, "", &ITEMS),
+        (LineKind::Items, Version::Two) => {
             put_forms(said, "", &LONGER)?;
             put_forms(said, ", ", &ITEMS)
         }
-        (Place::Ops, _) => put_operations(said, spot),
-        (Place::Turns, _) => put_forms(said, "", &TURNS),
+        (LineKind::Ops, _) => put_operations(said, spot),
+        (LineKind::Turns, _) => put_forms(said, "", &TURNS),
     }
 }
 

@@ -13,14 +13,14 @@ use stm_text::{code, lines};
 
 /// What may stand on a line of a report.
 #[derive(Clone, Copy, Drop, Debug, PartialEq, Eq)]
-enum Place {
+enum ReportLine {
     Title,
     /// A row, a word of the memory or `end`.
     Rows,
     /// A word of the memory or `end`.
     Words,
     /// Nothing.
-    Behind,
+    After,
 }
 
 /// What is wrong with a text that `check` refuses with this line and this code: the part that the line is in, the line
@@ -151,8 +151,8 @@ pub(crate) fn put_report_fault(
 }
 
 /// Where a line of a report stands, counted from 1, where the lines above have no fault; and what stands from it on.
-fn place_of(report: &[u8], line: usize) -> (Place, &[u8]) {
-    let mut place = Place::Title;
+fn place_of(report: &[u8], line: usize) -> (ReportLine, &[u8]) {
+    let mut place = ReportLine::Title;
     let mut rest = report;
     for _ in 1..line {
         match lines::find(b'\n', rest) {
@@ -168,32 +168,32 @@ fn place_of(report: &[u8], line: usize) -> (Place, &[u8]) {
 }
 
 /// Where the line stands after one that begins with this word.
-fn after(place: Place, word: &[u8]) -> Place {
+fn after(place: ReportLine, word: &[u8]) -> ReportLine {
     match place {
-        Place::Title => Place::Rows,
-        Place::Rows | Place::Words => {
+        ReportLine::Title => ReportLine::Rows,
+        ReportLine::Rows | ReportLine::Words => {
             if lines::is(word, b"end") {
-                Place::Behind
+                ReportLine::After
             } else if lines::is(word, b"mem") {
-                Place::Words
+                ReportLine::Words
             } else {
                 place
             }
         }
-        Place::Behind => place,
+        ReportLine::After => place,
     }
 }
 
 /// Appends what may stand on a line.
-fn put_expected(said: &mut String, place: Place) -> Result<(), AllocError> {
+fn put_expected(said: &mut String, place: ReportLine) -> Result<(), AllocError> {
     said.push_str(match place {
-        Place::Title => "; here stands `report 1`",
-        Place::Rows => {
+        ReportLine::Title => "; here stands `report 1`",
+        ReportLine::Rows => {
             "; here stands a row, `K PLACE CALLER SEQ : REPLIES` with K one of W, R, C, and after it ` ! EMITS` where there are emits; or `mem ADDRESS VALUE`, or `end`"
         }
-        Place::Words => {
+        ReportLine::Words => {
             "; here stands `mem ADDRESS VALUE`, the address above that of the line before and the value not 0, or `end`"
         }
-        Place::Behind => "; nothing follows `end`",
+        ReportLine::After => "; nothing follows `end`",
     })
 }

@@ -6,7 +6,7 @@ use stm_text::lines;
 
 /// What stands on a line.
 #[derive(Clone, Copy, Drop, Debug, PartialEq, Eq)]
-pub(crate) enum Place {
+pub(crate) enum LineKind {
     /// The line of this number of the header, from 1 to 10.
     Head(usize),
     /// A region, of so many that are still to come.
@@ -23,7 +23,7 @@ pub(crate) enum Place {
 /// Where a line stands, and what the header above it has, as far as the ranges of numbers go.
 #[derive(Clone, Copy, Drop, Debug, PartialEq, Eq)]
 pub(crate) struct Spot {
-    pub(crate) place: Place,
+    pub(crate) place: LineKind,
     pub(crate) version: Version,
     pub(crate) words: u64,
     pub(crate) callers: u64,
@@ -37,7 +37,7 @@ impl Spot {
     /// The first line of a text.
     fn opening() -> Spot {
         Spot {
-            place: Place::Head(1),
+            place: LineKind::Head(1),
             version: Version::One,
             words: 0,
             callers: 0,
@@ -50,22 +50,22 @@ impl Spot {
     fn after(self, line: &[u8]) -> Spot {
         let (first, rest) = first_word(line);
         match self.place {
-            Place::Head(number) => self.after_head(number, second_word(rest)),
-            Place::Region(left) => self.at(region_of(left.saturating_sub(1))),
-            Place::Policy => self.at(Place::Items),
-            Place::Items => self.at(after_item(first)),
-            Place::Ops => self.at(after_operation(first)),
-            Place::Turns => self,
+            LineKind::Head(number) => self.after_head(number, second_word(rest)),
+            LineKind::Region(left) => self.at(region_of(left.saturating_sub(1))),
+            LineKind::Policy => self.at(LineKind::Items),
+            LineKind::Items => self.at(after_item(first)),
+            LineKind::Ops => self.at(after_operation(first)),
+            LineKind::Turns => self,
         }
     }
 
-    fn at(self, place: Place) -> Spot {
+    fn at(self, place: LineKind) -> Spot {
         Spot { place, ..self }
     }
 
-    /// Behind a line of the header, of which this is the second word.
+    /// After a line of the header, of which this is the second word.
     fn after_head(self, number: usize, word: &[u8]) -> Spot {
-        let next = self.at(Place::Head(number.saturating_add(1)));
+        let next = self.at(LineKind::Head(number.saturating_add(1)));
         let value = lines::number(word).unwrap_or(0);
         match number {
             1 => Spot {
@@ -85,12 +85,12 @@ impl Spot {
         }
     }
 
-    /// Behind the tenth line, with which the header of version 1 ends.
+    /// After the tenth line, with which the header of version 1 ends.
     fn after_header(self, word: &[u8], value: u64) -> Spot {
         match self.version {
             Version::One => Spot {
                 structures: lines::is(word, b"on"),
-                place: Place::Items,
+                place: LineKind::Items,
                 ..self
             },
             Version::Two => Spot {
@@ -120,31 +120,31 @@ fn version_of(word: &[u8]) -> Version {
 }
 
 /// Where a line stands with so many regions still to come.
-fn region_of(left: u64) -> Place {
+fn region_of(left: u64) -> LineKind {
     if left == 0 {
-        Place::Policy
+        LineKind::Policy
     } else {
-        Place::Region(left)
+        LineKind::Region(left)
     }
 }
 
 /// Where the line after that of an item stands, by its first word.
-fn after_item(word: &[u8]) -> Place {
+fn after_item(word: &[u8]) -> LineKind {
     if lines::is(word, b"tx") {
-        Place::Ops
+        LineKind::Ops
     } else if lines::is(word, b"schedule") {
-        Place::Turns
+        LineKind::Turns
     } else {
-        Place::Items
+        LineKind::Items
     }
 }
 
 /// Where the line after that of an operation stands.
-fn after_operation(word: &[u8]) -> Place {
+fn after_operation(word: &[u8]) -> LineKind {
     if lines::is(word, b"end") {
-        Place::Items
+        LineKind::Items
     } else {
-        Place::Ops
+        LineKind::Ops
     }
 }
 

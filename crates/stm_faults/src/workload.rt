@@ -1,7 +1,7 @@
 //! The fault of a workload's text, in a sentence.
 use crate::form::{begun_by, put_expected};
 use crate::shown::{first_line, from_line, put_bytes, put_line, put_wrong_byte};
-use crate::spot::{Place, Spot, second_word, spot_of};
+use crate::spot::{LineKind, Spot, second_word, spot_of};
 use std::alloc::{AllocError, Global};
 use stm_check::words::first_word;
 use stm_script::workload::{MAX_ITEMS, MAX_OPS, MAX_TURNS, STRUCTS_END, Version};
@@ -86,7 +86,7 @@ fn put_bytes_fault(said: &mut String, bytes: &[u8]) -> Result<(), AllocError> {
 
 /// Whether a schedule was refused that `step` takes.
 fn is_schedule_of_run(spot: &Spot, bytes: &[u8]) -> bool {
-    spot.place == Place::Items && lines::is(bytes, b"schedule")
+    spot.place == LineKind::Items && lines::is(bytes, b"schedule")
 }
 
 /// What is wrong with the words of a line.
@@ -113,7 +113,7 @@ fn wrong_word(spot: &Spot, bytes: &[u8]) -> &'static str {
     }
 }
 
-/// How many spaces there are, and so how many words behind them, where one stands before each.
+/// How many spaces there are, and so how many words after them, where one stands before each.
 fn count_spaces(bytes: &[u8]) -> usize {
     let mut count = 0usize;
     for byte in bytes {
@@ -139,8 +139,8 @@ fn has_wrong_space(bytes: &[u8]) -> bool {
 /// Appends of what there is too much.
 fn put_many(said: &mut String, spot: &Spot) -> Result<(), AllocError> {
     match spot.place {
-        Place::Ops => write!(said, "a transaction has at most {MAX_OPS} operations"),
-        Place::Turns => write!(
+        LineKind::Ops => write!(said, "a transaction has at most {MAX_OPS} operations"),
+        LineKind::Turns => write!(
             said,
             "the turns of a schedule are at most {MAX_TURNS} in all"
         ),
@@ -156,14 +156,14 @@ fn put_region_fault(
     bytes: &[u8],
 ) -> Result<(), AllocError> {
     match spot.place {
-        Place::Head(_) => {
+        LineKind::Head(_) => {
             write!(
                 said,
                 "structures take {STRUCTS_END} words, and line 2 gives {}",
                 spot.words
             )
         }
-        Place::Region(left) => {
+        LineKind::Region(left) => {
             write!(
                 said,
                 "a region begins where the one above it ends or later, and ends within the {} words; a counter has SIZE words, a list 1 + 2 SIZE, a hash 16 + 2 SIZE, a tree 1 + 3 SIZE, a queue 2 + SIZE, a summap 1 + 5 SIZE",
@@ -194,7 +194,7 @@ fn put_extents(said: &mut String, text: &[u8], above: u64, bytes: &[u8]) -> Resu
     }
 }
 
-/// The first word of a region, and the one behind its last, by its line.
+/// The first word of a region, and the one after its last, by its line.
 fn extent_of(bytes: &[u8]) -> Option<(u64, u64)> {
     let (_, rest) = first_word(bytes);
     let kind = second_word(rest);

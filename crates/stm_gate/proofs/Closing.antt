@@ -19,8 +19,8 @@ use Rattle.stm_rule.specs.Findings.{FindsGate, FindsTaken}
 use Rattle.tx_answers.specs.declared.answers.CloseGate.TheVariants.{Closed, Taken}
 use Rattle.tx_answers.specs.Answers.{Closes, ClosesGate, Stays}
 use Rattle.tx_answers.specs.Causes.{NamesOther}
-use Rattle.tx_answers.specs.Known.{known_of, is_in, is_closing, is_settled}
-use Rattle.tx_answers.specs.KnownLaws.{grows-same}
+use Rattle.tx_answers.specs.CallerState.{known_of, is_in, is_closing, is_settled}
+use Rattle.tx_answers.specs.CallerStateLaws.{grows-same}
 use Rattle.stm_gate.specs.InnerLaws.{ungranted-of, unlocked-of}
 use Rattle.rule_base.specs.GateSteps.{reopen}
 

@@ -33,8 +33,8 @@ use Rattle.tx_answers.specs.Answers.{HoldsClosed, entry}
 use Rattle.tx_answers.specs.Fences.{TakesRange, ReadsDirect, WritesDirect, GivesAt, Gives}
 use Rattle.tx_answers.specs.Fences as fences
 use Rattle.tx_answers.specs.declared.answers.Give.TheVariants.{Unchanged, ClockFull}
-use Rattle.tx_answers.specs.Known.{known_of, kept_under, written_under, granted_under, locked_under, is_in, is_closing, is_settled, zeros}
-use Rattle.tx_answers.specs.KnownLaws.{grows-same, ascending-append, within-append}
+use Rattle.tx_answers.specs.CallerState.{known_of, kept_under, written_under, granted_under, locked_under, is_in, is_closing, is_settled, zeros}
+use Rattle.tx_answers.specs.CallerStateLaws.{grows-same, ascending-append, within-append}
 use Rattle.stm_gate.specs.InnerLaws.{granted-same}
 use Rattle.stm_gate.specs.KeptLaws.{kept-same}
 use Rattle.stm_gate.specs.LeavingLaws.{finds-full}
@@ -72,7 +72,7 @@ written-same Serial granted v u o attempt owned = ap (λ t. items t.stores) atte
 
 -- of a step in the range its caller knows that, and nothing else, anew
 beside : (v u : View) (o : Own) → u.history ≡ v.history → u.gate ≡ v.gate → u.lock ≡ v.lock → u.tml ≡ v.tml → u.attempt ≡ v.attempt → u.owned ≡ v.owned
-    → u.steps ≡ record v.steps { trail = u.steps.trail } → known_of u o ≡ record (known_of v o) { top = (known_of u o).top; trail = (known_of u o).trail; fenced = (known_of u o).fenced }
+    → u.steps ≡ record v.steps { step_trace = u.steps.step_trace } → known_of u o ≡ record (known_of v o) { top = (known_of u o).top; step_trace = (known_of u o).step_trace; fenced = (known_of u o).fenced }
 beside v u o history gate lock tml attempt owned steps = λ i. record (known_of u o) {
   made = public_history (history i).made;
   seen = public_history (history i).seen;
@@ -130,7 +130,7 @@ module _ (good : List ℕ → Type 0) (c : Config) (n : ℕ) where
 
   pub tells-direct_read : (a x : ℕ) (v w : View) (o : Own) → a < c.words → Tells (fence_load a) (FenceLoads a) v x w → ReadsDirect good c n a x (known_of v o) (known_of w o)
   tells-direct_read a x v w o low t = subst (λ (y : View). ReadsDirect good c n a x (known_of v o) (known_of y o)) (sym t.2) (record {
-    stays = record { is = beside v (view_after (fence_load a) t.0 v x) o refl refl refl refl refl refl refl; item = record { place = Heap a; act = Load; found = Some x }; trail = refl };
+    stays = record { is = beside v (view_after (fence_load a) t.0 v x) o refl refl refl refl refl refl refl; item = record { place = Heap a; act = Load; found = Some x }; step_trace = refl };
     range = refl;
     value = by (touches v.fence.stores a) refl;
   })
@@ -149,7 +149,7 @@ module _ (good : List ℕ → Type 0) (c : Config) (n : ℕ) where
 
   pub tells-direct_write : (a x : ℕ) (v w : View) (o : Own) → Tells (fence_store a x) Nothing v x w → WritesDirect good c n a x (known_of v o) (known_of w o)
   tells-direct_write a x v w o t = subst (λ (y : View). WritesDirect good c n a x (known_of v o) (known_of y o)) (sym t.2) (record {
-    stays = record { is = beside v (view_after (fence_store a x) t.0 v x) o refl refl refl refl refl refl refl; item = record { place = Heap a; act = Store x; found = None }; trail = refl };
+    stays = record { is = beside v (view_after (fence_store a x) t.0 v x) o refl refl refl refl refl refl refl; item = record { place = Heap a; act = Store x; found = None }; step_trace = refl };
     range = refl;
   })
 
@@ -238,7 +238,7 @@ module _ (good : List ℕ → Type 0) (c : Config) (n : ℕ) where
       → Tells settle (FindsEven l.algorithm) v t w → CanFenceCommit rule l.algorithm time w
   can-commit t time l v w o k held some keeps low is s = subst (CanFenceCommit rule l.algorithm time) (sym s.2) (record {
     phase = k.phase;
-    calm = refl;
+    quiescent = refl;
     named = k.named;
     holds = held;
     ungiven = k.ungiven;
@@ -262,7 +262,7 @@ module _ (good : List ℕ → Type 0) (c : Config) (n : ℕ) where
         up_to = within-append (time - 1) time before.0 (made ∷ []) before.3 (omega arith) (omega arith, tt);
         front_rose = (let q = shown.front in omega arith);
         more = record { place = Gate; act = Store (gate_word 0 (1 + n) l.algorithm); found = None } ∷ record { place = Done; act = Store time; found = None } ∷ record { place = Base; act = Store time; found = None } ∷ record { place = Clock; act = Store time; found = None } ∷ record { place = Clock; act = Load; found = Some t } ∷ [];
-        trail = refl;
+        step_trace = refl;
         reads_limit = refl;
         writes_limit = refl;
         fenced = refl;

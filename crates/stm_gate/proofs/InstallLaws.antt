@@ -8,7 +8,7 @@ use Rattle.stm_model.specs.declared.alg.Alg.{Alg}
 use Rattle.stm_model.specs.declared.config.Config.{Config}
 use Rattle.rule_base.specs.declared.layout.At.TheVariants.{Base, Done, Gate}
 use Rattle.rule_base.specs.declared.views.Act.TheVariants.{Store}
-use Rattle.rule_base.specs.declared.views.TrailItem.{TrailItem}
+use Rattle.rule_base.specs.declared.views.TracedStep.{TracedStep}
 use Rattle.rule_base.specs.declared.views.View.{View}
 use Rattle.rule_base.specs.Encodings.{gate_word}
 use Rattle.rule_base.specs.InstallSteps.{settle, even_clock, store_base, store_done, install}
@@ -19,8 +19,8 @@ use Rattle.stm_rule.specs.declared.local.Local.{Local}
 use Rattle.stm_rule.specs.Attempts.{IsClear, IsClosing, HasRoom, StandsBy, Stands}
 use Rattle.stm_rule.specs.Findings.{FindsWithin}
 use Rattle.tx_answers.specs.Answers.{HoldsClosed, Installs, SeesQuiet}
-use Rattle.tx_answers.specs.Known.{known_of}
-use Rattle.tx_answers.specs.KnownLaws.{grows-same}
+use Rattle.tx_answers.specs.CallerState.{known_of}
+use Rattle.tx_answers.specs.CallerStateLaws.{grows-same}
 use Rattle.stm_gate.specs.InnerLaws.{ungranted-of, unlocked-of}
 use Rattle.stm_gate.specs.Installing.{Settles}
 
@@ -45,7 +45,7 @@ module _ (good : List ℕ → Type 0) (c : Config) (n : ℕ) where
     closed = record {
       holds = record { phase = h.phase; running = h.running; closing = h.closing; holds = h.holds; ungranted = ungranted-of alg last.gate v.lock ungranted clear.unfixed; unlocked = unlocked-of alg v.lock.taken v.tml.writer clear.unlocked clear.unwritten };
       made = refl;
-      grows = grows-same (known_of v o) (known_of last o) refl refl (three ++ z.more) (sym (append_assoc three z.more v.steps.trail)) refl refl refl;
+      grows = grows-same (known_of v o) (known_of last o) refl refl (three ++ z.more) (sym (append_assoc three z.more v.steps.step_trace)) refl refl refl;
       checked = λ k e. e;
     };
     quiet = quiet;
@@ -57,12 +57,12 @@ module _ (good : List ℕ → Type 0) (c : Config) (n : ℕ) where
   })
     where
       at : View
-      at = record v { gate = record v.gate { calm = true; time = t; rebased = false; completed = false }; attempt = record v.attempt { entered = z.entered }; steps = record v.steps { rises = z.rises; trail = z.more ++ v.steps.trail } }
+      at = record v { gate = record v.gate { quiescent = true; time = t; rebased = false; completed = false }; attempt = record v.attempt { entered = z.entered }; steps = record v.steps { rises = z.rises; step_trace = z.more ++ v.steps.step_trace } }
 
       last : View
       last = view_after (install n fence alg) d.0 (view_after (store_done t) b.0 (view_after (store_base t) a.0 at t) t) (gate_word fence (1 + n) alg)
 
-      three : List TrailItem
+      three : List TracedStep
       three = record { place = Gate; act = Store (gate_word fence (1 + n) alg); found = None } ∷ record { place = Done; act = Store t; found = None } ∷ record { place = Base; act = Store t; found = None } ∷ []
 
       path : w ≡ last
@@ -85,7 +85,7 @@ closing-installed callers n fence alg l t v s u y w k z a b d = subst (IsClosing
 })
   where
     at : View
-    at = record v { gate = record v.gate { calm = true; time = t; rebased = false; completed = false }; attempt = record v.attempt { entered = z.entered }; steps = record v.steps { rises = z.rises; trail = z.more ++ v.steps.trail } }
+    at = record v { gate = record v.gate { quiescent = true; time = t; rebased = false; completed = false }; attempt = record v.attempt { entered = z.entered }; steps = record v.steps { rises = z.rises; step_trace = z.more ++ v.steps.step_trace } }
 
     path : w ≡ view_after (install n fence alg) d.0 (view_after (store_done t) b.0 (view_after (store_base t) a.0 at t) t) (gate_word fence (1 + n) alg)
     path = d.2 ∙ ap (λ x. view_after (install n fence alg) d.0 x (gate_word fence (1 + n) alg)) (b.2 ∙ ap (λ x. view_after (store_done t) b.0 x t) (a.2 ∙ ap (λ x. view_after (store_base t) a.0 x t) z.is))

@@ -24,7 +24,7 @@ use Rattle.tx_answers.specs.declared.answers.Commit.TheVariants.{ReadOnly}
 use Rattle.tx_answers.specs.declared.answers.Read.TheVariants.{Value}
 use Rattle.tx_answers.specs.declared.answers.Write.TheVariants.{Done}
 use Rattle.tx_answers.specs.Answers.{HasRead, HasWritten, KeepsRule, Commits, CommitsAt}
-use Rattle.tx_answers.specs.Known.{known_of, granted_under, written_under, is_irrevocable, wrote}
+use Rattle.tx_answers.specs.CallerState.{known_of, granted_under, written_under, is_irrevocable, wrote}
 use Rattle.stm_gate.specs.InnerLaws.{goes-inner, written-granted, irrevocable-granted, never-full}
 use Rattle.stm_gate.specs.KeptLaws.{kept-same, kept-irrevocable}
 use Rattle.stm_gate.specs.Leaving.{left}
@@ -44,7 +44,7 @@ module _ (good : List ℕ → Type 0) (c : Config) (n : ℕ) where
   pub tells-load : (a x : ℕ) (l : Local) (v w : View) (o : Own) → o.committing ≡ false → a < c.words → closes_gate v.gate.algorithm ≡ true → granted_under v.gate.algorithm v.gate v.lock ≡ true → IsInside good c n l v
       → Tells (direct_load a) (Loads rule c a) v x w → HasRead good c n a (Value x) (known_of v o) (known_of w o)
   tells-load a x l v w o quiet low closes granted i t = subst (λ (u : View). HasRead good c n a (Value x) (known_of v o) (known_of u o)) (sym t.2) (
-    goes-inner v u o i.phase (record { history = refl; gate = refl; lock = refl; writer = refl; fence = refl; start = refl; rises = refl; base = refl; installs = refl; trail = (_ ∷ [], refl) }),
+    goes-inner v u o i.phase (record { history = refl; gate = refl; lock = refl; writer = refl; fence = refl; start = refl; rises = refl; base = refl; installs = refl; step_trace = (_ ∷ [], refl) }),
     quiet,
     subst (λ (ws : List (ℕ × ℕ)). Reads (record { reads = items v.attempt.reads; writes = ws }) a x (record { reads = items (logged v.attempt a x); writes = written_under v.gate.algorithm v.gate.granted u o })) (sym (written v))
         (subst (λ (ws : List (ℕ × ℕ)). Reads (record { reads = items v.attempt.reads; writes = items v.attempt.stores }) a x (record { reads = items (logged v.attempt a x); writes = ws })) (sym (written u))
@@ -65,7 +65,7 @@ module _ (good : List ℕ → Type 0) (c : Config) (n : ℕ) where
   pub tells-store : (a x : ℕ) (l : Local) (v w : View) (o : Own) → o.committing ≡ false → closes_gate v.gate.algorithm ≡ true → granted_under v.gate.algorithm v.gate v.lock ≡ true → IsInside good c n l v
       → Tells (direct_store a x) Nothing v x w → HasWritten good c n a x Done (known_of v o) (known_of w o)
   tells-store a x l v w o quiet closes granted i t = subst (λ (u : View). HasWritten good c n a x Done (known_of v o) (known_of u o)) (sym t.2) (
-    goes-inner v u o i.phase (record { history = refl; gate = refl; lock = refl; writer = refl; fence = refl; start = refl; rises = refl; base = refl; installs = refl; trail = (_ ∷ [], refl) }),
+    goes-inner v u o i.phase (record { history = refl; gate = refl; lock = refl; writer = refl; fence = refl; start = refl; rises = refl; base = refl; installs = refl; step_trace = (_ ∷ [], refl) }),
     quiet,
     (refl, λ b. ap (item_at b) (written u ∙ ap (put a x) (sym (written v)))),
     opaque-at good c n u o l.start i.start i.front i.legal i.below i.sees i.reads_inside,
@@ -126,7 +126,7 @@ module _ (good : List ℕ → Type 0) (c : Config) (n : ℕ) where
       → CommitsAt good c n t (known_of v o) (known_of w o)
   tells-commit alg t l v s u y w o named time dirty closes granted i a b d is = subst (λ (x : View). CommitsAt good c n t (known_of v o) (known_of x o)) (sym path)
       (commits-left n good c t a.0 v last o a.1 (record {
-        carried = record { named = refl; base = refl; installs = refl; fence = refl; trail = (_ ∷ _ ∷ _ ∷ [], refl); unlocked = p.unlocked; unwritten = p.unwritten };
+        carried = record { named = refl; base = refl; installs = refl; fence = refl; step_trace = (_ ∷ _ ∷ _ ∷ [], refl); unlocked = p.unlocked; unwritten = p.unwritten };
         history = refl;
         rises = (let r = p.rises in let e : entry_rise v.gate.algorithm ≡ entry_rise alg = ap entry_rise (i.named ∙ named) in omega arith);
       }) (let m = entry-some alg in let k = i.start in omega arith) (let m = entry-some alg in let k = i.front in omega arith) (p.dirty dirty) (written-here l v o closes granted i))
@@ -144,9 +144,9 @@ module _ (good : List ℕ → Type 0) (c : Config) (n : ℕ) where
   pub may-base : (alg : Alg) (t : ℕ) (l : Local) (v s : View) → closes_gate v.gate.algorithm ≡ true → granted_under v.gate.algorithm v.gate v.lock ≡ true → IsInside good c n l v
       → Tells (direct_commit n alg t) (steps.Commits rule c n t) v t s → CanMark t s
   may-base alg t l v s closes granted i a = let p = (promoted-of good c n l v i closes granted).2 in
-      subst (CanMark t) (sym a.2) (record { closing = λ e. absurd (let k : true ≡ false = sym p.granted ∙ e in cc); calm = p.calm; time = refl })
+      subst (CanMark t) (sym a.2) (record { closing = λ e. absurd (let k : true ≡ false = sym p.granted ∙ e in cc); quiescent = p.quiescent; time = refl })
 
   pub may-done : (alg : Alg) (t : ℕ) (l : Local) (v s u : View) → closes_gate v.gate.algorithm ≡ true → granted_under v.gate.algorithm v.gate v.lock ≡ true → IsInside good c n l v
       → Tells (direct_commit n alg t) (steps.Commits rule c n t) v t s → Tells (store_base t) Nothing s t u → CanMark t u
   may-done alg t l v s u closes granted i a b = let m = may-base alg t l v s closes granted i a in
-      subst (CanMark t) (sym b.2) (record { closing = m.closing; calm = m.calm; time = m.time })
+      subst (CanMark t) (sym b.2) (record { closing = m.closing; quiescent = m.quiescent; time = m.time })

@@ -8,7 +8,7 @@ use Rattle.stm_model.specs.Logs.{Log}
 use Rattle.stm_model.specs.Memories.{is_empty}
 use Rattle.rule_base.specs.declared.layout.At.{At}
 use Rattle.rule_base.specs.declared.layout.At.TheVariants.{Clock, Record}
-use Rattle.rule_base.specs.declared.views.TrailItem.{TrailItem}
+use Rattle.rule_base.specs.declared.views.TracedStep.{TracedStep}
 use Rattle.rule_base.specs.declared.views.View.{View}
 use Rattle.rule_base.specs.InstallSteps.{HasChecked}
 use Rattle.rule_base.specs.Own.{Own}
@@ -16,13 +16,13 @@ use Rattle.stm_rule.specs.declared.local.Local.{Local}
 use Rattle.stm_rule.specs.Attempts.{IsInside}
 use Rattle.tx_answers.specs.declared.answers.Irrev.{Irrev}
 use Rattle.tx_answers.specs.declared.answers.Irrev.TheVariants as irrevs
-use Rattle.tx_answers.specs.Answers.{BecomesIrrevocable, Quits, Waits, Irrevs}
+use Rattle.tx_answers.specs.Answers.{TriesIrrevocable, Quits, Waits, Irrevs}
 use Rattle.tx_answers.specs.Causes.{Conflicts, FindsFull, IsInTheWay, IsStaleAt, has_item, read_filter}
 use Rattle.tx_answers.specs.Causes.Asked.{ToPromote}
 use Rattle.tx_answers.specs.Evidence.{Found, FoundAsWas, Untouched}
 use Rattle.tx_answers.specs.SlotEvidence.{FindsFirst, clock_load}
-use Rattle.tx_answers.specs.Known.{Known, Grows, known_of, is_irrevocable, is_in, is_closing, is_none, has_written}
-use Rattle.tx_answers.specs.KnownLaws.{grows-same, grows-trans, lock-trans}
+use Rattle.tx_answers.specs.CallerState.{CallerState, Grows, known_of, is_irrevocable, is_in, is_closing, is_none, has_written}
+use Rattle.tx_answers.specs.CallerStateLaws.{grows-same, grows-trans, lock-trans}
 use Rattle.stm_gate.specs.LeavingLaws.{found-earlier}
 use Rattle.stm_gate.specs.Opacity.{opaque-inside}
 use Rattle.stm_gate.specs.Promoting.{SparesRecords}
@@ -32,30 +32,30 @@ pub record IsAlone (callers n : ℕ) (v : View) : Type 0 where
   pub holds : v.gate.holds ≡ true
   pub quiet : HasChecked callers n v
 
-untouched-append : (p : At) (is js : List TrailItem) → Untouched p is → Untouched p js → Untouched p (is ++ js)
+untouched-append : (p : At) (is js : List TracedStep) → Untouched p is → Untouched p js → Untouched p (is ++ js)
 untouched-append p [] js a b = b
 untouched-append p (i ∷ is) js a b = (a.0, untouched-append p is js a.1 b)
 
 -- what was found of a record from a later moment on, as seen from before
-as-was-earlier : (r x : ℕ) (u v w : Known) → SparesRecords u v → FoundAsWas (Record r) x v w → FoundAsWas (Record r) x u w
+as-was-earlier : (r x : ℕ) (u v w : CallerState) → SparesRecords u v → FoundAsWas (Record r) x v w → FoundAsWas (Record r) x u w
 as-was-earlier r x u v w s f = record {
   early = f.early ++ s.0;
   act = f.act;
   late = f.late;
-  trail = f.trail ∙ ap (λ (t : List TrailItem). f.late ++ record { place = Record r; act = f.act; found = Some x } ∷ t) (ap (λ (t : List TrailItem). f.early ++ t) s.1 ∙ sym (append_assoc f.early s.0 u.trail));
+  step_trace = f.step_trace ∙ ap (λ (t : List TracedStep). f.late ++ record { place = Record r; act = f.act; found = Some x } ∷ t) (ap (λ (t : List TracedStep). f.early ++ t) s.1 ∙ sym (append_assoc f.early s.0 u.step_trace));
   untouched = untouched-append (Record r) f.early s.0 f.untouched (s.2 r);
 }
 
 module _ (good : List ℕ → Type 0) (c : Config) (n : ℕ) where
   -- what becomes of an attempt that is alone
-  abbrev pub Grants : Irrev → Known → Known → Type 0
-  Grants irrevs.Granted v w = BecomesIrrevocable good c n v w
+  abbrev pub Grants : Irrev → CallerState → CallerState → Type 0
+  Grants irrevs.Granted v w = TriesIrrevocable good c n v w
   Grants (irrevs.Busy caller status) v w = ⊥
   Grants (irrevs.Taken gate) v w = ⊥
   Grants (irrevs.Conflict cause) v w = Quits v w × Conflicts c n ToPromote cause v w × (1 < c.callers)
   Grants (irrevs.ClockFull clock) v w = Quits v w × (asks_at_grant v.alg ≡ true) × FindsFull clock v w
 
-  quits-after : (u v w : Known) → Waits good c n u v → Quits v w → Quits u w
+  quits-after : (u v w : CallerState) → Waits good c n u v → Quits v w → Quits u w
   quits-after u v w a b = let k = a.continues in record {
     ends = record { idle = b.ends.idle; grows = grows-trans u v w k.grows b.ends.grows; alg = b.ends.alg ∙ k.alg; base = b.ends.base ∙ k.base; installs = b.ends.installs ∙ k.installs };
     made = b.made ∙ k.made;
@@ -63,17 +63,17 @@ module _ (good : List ℕ → Type 0) (c : Config) (n : ℕ) where
     revocable = a.revocable;
   }
 
-  found-before : (place : At) (x : ℕ) (u v w : Known) → Waits good c n u v → Found place x v w → Found place x u w
-  found-before place x u v w a f = found-earlier place x u v w f a.continues.grows.more a.continues.grows.trail
+  found-before : (place : At) (x : ℕ) (u v w : CallerState) → Waits good c n u v → Found place x v w → Found place x u w
+  found-before place x u v w a f = found-earlier place x u v w f a.continues.grows.more a.continues.grows.step_trace
 
-  first-after : (time bits : ℕ) (u v w : Known) → Waits good c n u v → FindsFirst c.ring v.start (read_filter c n ToPromote v.log.reads) time bits v w → FindsFirst c.ring u.start (read_filter c n ToPromote u.log.reads) time bits u w
+  first-after : (time bits : ℕ) (u v w : CallerState) → Waits good c n u v → FindsFirst c.ring v.start (read_filter c n ToPromote v.log.reads) time bits v w → FindsFirst c.ring u.start (read_filter c n ToPromote u.log.reads) time bits u w
   first-after time bits u v w a f = subst (λ (g : Log). FindsFirst c.ring u.start (read_filter c n ToPromote g.reads) time bits u w) a.log (subst (λ (s : ℕ). FindsFirst c.ring s (read_filter c n ToPromote v.log.reads) time bits u w) a.start (record {
     early = f.early ++ k.more;
     clock = f.clock;
     loads = f.loads;
     later = f.later;
     late = f.late;
-    trail = f.trail ∙ ap (λ (t : List TrailItem). f.late ++ clock_load f.later ∷ (f.loads ++ clock_load f.clock ∷ t)) (ap (λ (t : List TrailItem). f.early ++ t) k.trail ∙ sym (append_assoc f.early k.more u.trail));
+    step_trace = f.step_trace ∙ ap (λ (t : List TracedStep). f.late ++ clock_load f.later ∷ (f.loads ++ clock_load f.clock ∷ t)) (ap (λ (t : List TracedStep). f.early ++ t) k.step_trace ∙ sym (append_assoc f.early k.more u.step_trace));
     near = f.near;
     first = f.first;
   }))
@@ -81,7 +81,7 @@ module _ (good : List ℕ → Type 0) (c : Config) (n : ℕ) where
       k : Grows u v
       k = a.continues.grows
 
-  conflicts-after : (cause : causes.the_data) (u v w : Known) → Waits good c n u v → SparesRecords u v → Conflicts c n ToPromote cause v w → Conflicts c n ToPromote cause u w
+  conflicts-after : (cause : causes.the_data) (u v w : CallerState) → Waits good c n u v → SparesRecords u v → Conflicts c n ToPromote cause v w → Conflicts c n ToPromote cause u w
   conflicts-after (causes.Clock had now) u v w a s b = (sym a.continues.alg ∙ b.0, b.1 ∙ a.start, b.2, found-before Clock now u v w a b.3)
   conflicts-after (causes.Record index word start) u v w a s b = (ap has_records (sym a.continues.alg) ∙ b.0, b.1 ∙ a.start, as-was-earlier index word u v w s b.2, way b.3)
     where
@@ -96,7 +96,7 @@ module _ (good : List ℕ → Type 0) (c : Config) (n : ℕ) where
   conflicts-after (causes.Overrun start clock) u v w a s b = (sym a.continues.alg ∙ b.0, b.1 ∙ a.start, found-before Clock clock u v w a b.2, b.3)
 
   -- THE CALL: it came to be alone, and then this became of it
-  pub irrevs-after : (r : irrevs.the_data) (u v w : Known) → Waits good c n u v → SparesRecords u v → Grants r v w → Irrevs good c n r u w
+  pub irrevs-after : (r : irrevs.the_data) (u v w : CallerState) → Waits good c n u v → SparesRecords u v → Grants r v w → Irrevs good c n r u w
   irrevs-after irrevs.Granted u v w a s b = let k = a.continues in let q = b.continues in
       let still : is_irrevocable v ≡ false = (λ j. irrevocable_under (k.alg j) (a.granted j) (not (is_empty (a.log j).writes))) ∙ a.revocable in record {
         continues = record {
@@ -129,7 +129,7 @@ module _ (good : List ℕ → Type 0) (c : Config) (n : ℕ) where
   irrevs-after (irrevs.ClockFull clock) u v w a s b = (quits-after u v w a b.0, ap asks_at_grant (sym a.continues.alg) ∙ b.1, record { limit = b.2.limit; found = found-before Clock clock u v w a b.2.found; top = b.2.top })
 
   -- an attempt that was irrevocable before stays as it was
-  pub irrevocable-already : (l : Local) (v : View) (o : Own) → o.committing ≡ false → IsInside good c n l v → is_irrevocable (known_of v o) ≡ true → BecomesIrrevocable good c n (known_of v o) (known_of v o)
+  pub irrevocable-already : (l : Local) (v : View) (o : Own) → o.committing ≡ false → IsInside good c n l v → is_irrevocable (known_of v o) ≡ true → TriesIrrevocable good c n (known_of v o) (known_of v o)
   irrevocable-already l v o quiet i irrevocable = record {
     continues = record {
       running = ap is_in i.phase;

@@ -9,15 +9,15 @@ use Rattle.rule_base.specs.declared.views.GateView.{GateView}
 use Rattle.rule_base.specs.declared.views.LockView.{LockView}
 use Rattle.rule_base.specs.declared.views.Phase.TheVariants.{In}
 use Rattle.rule_base.specs.declared.views.SeenHistory.{SeenHistory}
-use Rattle.rule_base.specs.declared.views.TrailItem.{TrailItem}
+use Rattle.rule_base.specs.declared.views.TracedStep.{TracedStep}
 use Rattle.rule_base.specs.declared.views.View.{View}
 use Rattle.rule_base.specs.Bridge.{items, public_history}
 use Rattle.rule_base.specs.History.{member}
 use Rattle.rule_base.specs.Own.{Own}
 use Rattle.tx_answers.specs.Answers.{StartMoves, GoesOn}
 use Rattle.tx_answers.specs.Causes.{Asked, has_item, reads_full, writes_full}
-use Rattle.tx_answers.specs.Known.{Known, known_of, fenced_of, granted_under, locked_under, written_under, is_in, is_closing, is_irrevocable}
-use Rattle.tx_answers.specs.KnownLaws.{grows-same}
+use Rattle.tx_answers.specs.CallerState.{CallerState, known_of, fenced_of, granted_under, locked_under, written_under, is_in, is_closing, is_irrevocable}
+use Rattle.tx_answers.specs.CallerStateLaws.{grows-same}
 
 pub record IsInner (v w : View) : Type 0 where
   pub history : w.history ≡ v.history
@@ -29,10 +29,10 @@ pub record IsInner (v w : View) : Type 0 where
   pub rises : w.steps.rises ≡ v.steps.rises
   pub base : w.steps.rises_at_begin ≡ v.steps.rises_at_begin
   pub installs : w.steps.installs ≡ v.steps.installs
-  pub trail : (more : List TrailItem) × (w.steps.trail ≡ more ++ v.steps.trail)
+  pub step_trace : (more : List TracedStep) × (w.steps.step_trace ≡ more ++ v.steps.step_trace)
 
 -- a start may stay
-pub start-stays : (c : Config) (asked : Asked) (a : Alg) (v w : Known) → w.start ≡ v.start → StartMoves c asked a v w
+pub start-stays : (c : Config) (asked : Asked) (a : Alg) (v w : CallerState) → w.start ≡ v.start → StartMoves c asked a v w
 start-stays c asked Cgl v w e = e
 start-stays c asked Tml v w e = e
 start-stays c asked OrecLazy v w e = inl e
@@ -46,7 +46,7 @@ goes-inner {c} {asked} v w o inside i = record {
     running = ap (λ (g : GateView). is_in g.phase) i.gate ∙ ap is_in inside;
     closing = ap (λ (g : GateView). is_closing g.phase) i.gate ∙ ap is_closing inside;
     made = ap (λ (h : SeenHistory). public_history h.made) i.history;
-    grows = grows-same (known_of v o) (known_of w o) (ap (λ (h : SeenHistory). public_history h.seen) i.history) (ap (λ (h : SeenHistory). h.front) i.history) i.trail.0 i.trail.1 refl refl (ap fenced_of i.fence);
+    grows = grows-same (known_of v o) (known_of w o) (ap (λ (h : SeenHistory). public_history h.seen) i.history) (ap (λ (h : SeenHistory). h.front) i.history) i.step_trace.0 i.step_trace.1 refl refl (ap fenced_of i.fence);
     alg = ap (λ (g : GateView). g.algorithm) i.gate;
     fence = ap (λ (g : GateView). g.fence) i.gate;
     base = i.base;
@@ -114,14 +114,14 @@ and-no true = refl
 and-no false = refl
 
 -- an irrevocable attempt needs no item more
-pub never-full : (a : ℕ) (v : Known) → is_irrevocable v ≡ true → (reads_full a v ≡ false) × (writes_full a v ≡ false)
+pub never-full : (a : ℕ) (v : CallerState) → is_irrevocable v ≡ true → (reads_full a v ≡ false) × (writes_full a v ≡ false)
 never-full a v irrevocable = (
   ap (λ b. has_read_log v.alg && (not b && (not (has_item a v.log.writes) && (not (has_item a v.log.reads) && (length v.log.reads == v.reads_limit))))) irrevocable ∙ and-no (has_read_log v.alg),
   ap (λ b. logs_writes v.alg && (not b && (not (member v.kept a) && (length v.kept == v.writes_limit)))) irrevocable ∙ and-no (logs_writes v.alg),
 )
 
 -- nor does one of an algorithm without logs
-pub no-log-full : (a : ℕ) (v : Known) → has_read_log v.alg ≡ false → logs_writes v.alg ≡ false → (reads_full a v ≡ false) × (writes_full a v ≡ false)
+pub no-log-full : (a : ℕ) (v : CallerState) → has_read_log v.alg ≡ false → logs_writes v.alg ≡ false → (reads_full a v ≡ false) × (writes_full a v ≡ false)
 no-log-full a v r w = (
   ap (λ b. b && (not (is_irrevocable v) && (not (has_item a v.log.writes) && (not (has_item a v.log.reads) && (length v.log.reads == v.reads_limit))))) r,
   ap (λ b. b && (not (is_irrevocable v) && (not (member v.kept a) && (length v.kept == v.writes_limit)))) w,

@@ -14,7 +14,7 @@ use Rattle.rule_base.specs.History.{member, touches}
 use Rattle.rule_base.specs.Own.{Own}
 use Rattle.tx_answers.specs.Answers.{kept_with}
 use Rattle.tx_answers.specs.Causes.{has_item, is_some}
-use Rattle.tx_answers.specs.Known.{Known, kept_under, is_irrevocable}
+use Rattle.tx_answers.specs.CallerState.{CallerState, kept_under, is_irrevocable}
 use Rattle.stm_gate.specs.Peeling.{minus, has-touched}
 
 -- THE ADDRESSES of a log
@@ -120,14 +120,14 @@ or-yes : (b c : Bool) → (b || (true || c)) ≡ true
 or-yes true c = refl
 or-yes false c = refl
 
-pub kept-irrevocable : (a : ℕ) (v : Known) → is_irrevocable v ≡ true → kept_with a v ≡ v.kept
+pub kept-irrevocable : (a : ℕ) (v : CallerState) → is_irrevocable v ≡ true → kept_with a v ≡ v.kept
 kept-irrevocable a v e = ap (λ b. if not (logs_writes v.alg) || (b || member v.kept a) then v.kept else v.kept ++ a ∷ []) e
     ∙ ap (λ b. if b then v.kept else v.kept ++ a ∷ []) (or-yes (not (logs_writes v.alg)) (member v.kept a))
 
-pub kept-unlogged : (a : ℕ) (v : Known) → logs_writes v.alg ≡ false → kept_with a v ≡ v.kept
+pub kept-unlogged : (a : ℕ) (v : CallerState) → logs_writes v.alg ≡ false → kept_with a v ≡ v.kept
 kept-unlogged a v e = ap (λ b. if not b || (is_irrevocable v || member v.kept a) then v.kept else v.kept ++ a ∷ []) e
 
--- and puts an address that is new behind the others
+-- and puts an address that is new after the others
 pub addresses-put : (a x : ℕ) (us : List (ℕ × ℕ)) → addresses (put a x us) ≡ (if member (addresses us) a then addresses us else addresses us ++ a ∷ [])
 addresses-put a x [] = refl
 addresses-put a x (u ∷ us) = by (u.0 == a) refl (member (addresses us) a) (addresses-put a x us)
@@ -139,13 +139,13 @@ addresses-put a x (u ∷ us) = by (u.0 == a) refl (member (addresses us) a) (add
     by false q false e = ap (λ (ks : List ℕ). u.0 ∷ ks) e
 
 -- which an attempt that can be taken back keeps
-pub kept-plain : (a : ℕ) (v : Known) → logs_writes v.alg ≡ true → is_irrevocable v ≡ false → kept_with a v ≡ (if member v.kept a then v.kept else v.kept ++ a ∷ [])
+pub kept-plain : (a : ℕ) (v : CallerState) → logs_writes v.alg ≡ true → is_irrevocable v ≡ false → kept_with a v ≡ (if member v.kept a then v.kept else v.kept ++ a ∷ [])
 kept-plain a v logs revocable = λ j. if not (logs j) || (revocable j || member v.kept a) then v.kept else v.kept ++ a ∷ []
 
-pub kept-put : (a x : ℕ) (us : List (ℕ × ℕ)) (v : Known) → logs_writes v.alg ≡ true → is_irrevocable v ≡ false → v.kept ≡ addresses us → addresses (put a x us) ≡ kept_with a v
+pub kept-put : (a x : ℕ) (us : List (ℕ × ℕ)) (v : CallerState) → logs_writes v.alg ≡ true → is_irrevocable v ≡ false → v.kept ≡ addresses us → addresses (put a x us) ≡ kept_with a v
 kept-put a x us v logs revocable kept = addresses-put a x us ∙ (ap (λ (ks : List ℕ). if member ks a then ks else ks ++ a ∷ []) (sym kept) ∙ sym (kept-plain a v logs revocable))
 
-pub kept-there : (a : ℕ) (v : Known) → member v.kept a ≡ true → kept_with a v ≡ v.kept
+pub kept-there : (a : ℕ) (v : CallerState) → member v.kept a ≡ true → kept_with a v ≡ v.kept
 kept-there a v e = ap (λ b. if not (logs_writes v.alg) || (is_irrevocable v || b) then v.kept else v.kept ++ a ∷ []) e
     ∙ ap (λ b. if b then v.kept else v.kept ++ a ∷ []) (or-last (not (logs_writes v.alg)) (is_irrevocable v))
   where

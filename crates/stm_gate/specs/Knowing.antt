@@ -1,11 +1,11 @@
 -- What contracts see of a descriptor as a caller, and what stays of a memory's caller.
 use Rattle.std.specs.Prelude.{ℕ}
 use Rattle.stm_rule.specs.Callers.{Handle}
-use Rattle.tx_answers.specs.Known.{Known, known_of, caller_of}
+use Rattle.tx_answers.specs.CallerState.{CallerState, known_of, caller_of}
 
 module _ {K : Type 0} where
   -- what the caller knows
-  abbrev pub known : Handle K → Known
+  abbrev pub known : Handle K → CallerState
   known d = known_of d.view d.own
 
   -- its number

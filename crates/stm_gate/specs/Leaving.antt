@@ -5,7 +5,7 @@ use Rattle.rule_base.specs.declared.layout.At.TheVariants.{Gate, Status}
 use Rattle.rule_base.specs.declared.views.Act.TheVariants.{Store}
 use Rattle.rule_base.specs.declared.views.GateView.{GateView}
 use Rattle.rule_base.specs.declared.views.Phase.TheVariants.{Idle, In}
-use Rattle.rule_base.specs.declared.views.TrailItem.{TrailItem}
+use Rattle.rule_base.specs.declared.views.TracedStep.{TracedStep}
 use Rattle.rule_base.specs.declared.views.View.{View}
 use Rattle.rule_base.specs.Encodings.{gate_word}
 
@@ -25,7 +25,7 @@ pub record CanLeave (v : View) : Type 0 where
   pub marked : v.gate.holds ≡ true → v.attempt.entered ≡ true → (v.gate.rebased ≡ true) × (v.gate.completed ≡ true)
 
 -- the last steps of caller n, the latest first: it stores the gate where it holds it, and its status
-abbrev pub last_steps : ℕ → Bool → ℕ → Alg → List TrailItem
+abbrev pub last_steps : ℕ → Bool → ℕ → Alg → List TracedStep
 last_steps n true fence alg = record { place = Status n; act = Store 0; found = None } ∷ record { place = Gate; act = Store (gate_word fence 0 alg); found = None } ∷ []
 last_steps n false fence alg = record { place = Status n; act = Store 0; found = None } ∷ []
 
@@ -37,7 +37,7 @@ gate_left held g = record g {
   holds = false;
   granted = false;
   checked = if held then [] else g.checked;
-  calm = if held then false else g.calm;
+  quiescent = if held then false else g.quiescent;
   rebased = if held then false else g.rebased;
   completed = if held then false else g.completed;
   giving = if held then false else g.giving;
@@ -50,7 +50,7 @@ left_by n held v = record v {
   tml = record v.tml { inside = false };
   owned = record v.owned { inside = false };
   ring_read = record v.ring_read { inside = false };
-  steps = record v.steps { trail = last_steps n held v.gate.fence v.gate.algorithm ++ v.steps.trail };
+  steps = record v.steps { step_trace = last_steps n held v.gate.fence v.gate.algorithm ++ v.steps.step_trace };
 }
 
 -- the view of caller n after the last steps of its attempt: all else is as it was

@@ -15,7 +15,7 @@ use Rattle.rule_base.specs.declared.layout.At.{At}
 use Rattle.rule_base.specs.declared.layout.At.TheVariants.{Clock}
 use Rattle.rule_base.specs.declared.views.Act.{Act}
 use Rattle.rule_base.specs.declared.views.SeenHistory.{SeenHistory}
-use Rattle.rule_base.specs.declared.views.TrailItem.{TrailItem}
+use Rattle.rule_base.specs.declared.views.TracedStep.{TracedStep}
 use Rattle.rule_base.specs.declared.views.View.{View}
 use Rattle.rule_base.specs.Bridge.{items, of_words, public_entry, public_history}
 use Rattle.rule_base.specs.BridgeLemmas.{legal-public, length-public_history}
@@ -25,18 +25,18 @@ use Rattle.rule_seq.specs.CglSteps.{Commits, cgl_entry}
 use Rattle.tx_answers.specs.Answers.{Ends, Quits, EndsAt, CommitsAt, IsOpaque, entry}
 use Rattle.tx_answers.specs.Causes.{FindsFull}
 use Rattle.tx_answers.specs.Evidence.{Found}
-use Rattle.tx_answers.specs.Known.{Known, Grows, known_of, fenced_of, is_irrevocable, has_written, written_under, zeros, clock_in, top_of}
+use Rattle.tx_answers.specs.CallerState.{CallerState, Grows, known_of, fenced_of, is_irrevocable, has_written, written_under, zeros, clock_in, top_of}
 use Rattle.stm_gate.specs.InnerLaws.{unlocked-of}
 use Rattle.stm_gate.specs.Leaving.{last_steps, left}
 use Rattle.stm_gate.specs.Logging.{wrote-some}
 
--- from v to u the caller's algorithm, base, installs and fence stayed, its trail grew, and it has no lock
+-- from v to u the caller's algorithm, base, installs and fence stayed, its step trace grew, and it has no lock
 pub record Carried (v u : View) : Type 0 where
   pub named : u.gate.algorithm ≡ v.gate.algorithm
   pub base : u.steps.rises_at_begin ≡ v.steps.rises_at_begin
   pub installs : u.steps.installs ≡ v.steps.installs
   pub fence : u.fence ≡ v.fence
-  pub trail : (more : List TrailItem) × (u.steps.trail ≡ more ++ v.steps.trail)
+  pub step_trace : (more : List TracedStep) × (u.steps.step_trace ≡ more ++ v.steps.step_trace)
   pub unlocked : u.lock.taken ≡ false
   pub unwritten : u.tml.writer ≡ false
 
@@ -57,44 +57,44 @@ pub record IsMade (n t : ℕ) (before : List Entry) (v u : View) : Type 0 where
   pub rises : u.steps.rises ≡ v.steps.rises_at_begin + entry_rise v.gate.algorithm
 
 pub unmade-refl : (v : View) → v.lock.taken ≡ false → v.tml.writer ≡ false → IsUnmade v v
-unmade-refl v unlocked unwritten = record { carried = record { named = refl; base = refl; installs = refl; fence = refl; trail = ([], refl); unlocked = unlocked; unwritten = unwritten }; history = refl }
+unmade-refl v unlocked unwritten = record { carried = record { named = refl; base = refl; installs = refl; fence = refl; step_trace = ([], refl); unlocked = unlocked; unwritten = unwritten }; history = refl }
 
 unmade-raised : (v u : View) → IsUnmade v u → IsRaised v.history.front v u
 unmade-raised v u m = record { carried = m.carried; history = m.history }
 
 -- what was found in the middle, as seen from earlier and from later on
-pub found-later : (p : At) (x : ℕ) (u v w : Known) → Found p x u v → (more : List TrailItem) → w.trail ≡ more ++ v.trail → Found p x u w
+pub found-later : (p : At) (x : ℕ) (u v w : CallerState) → Found p x u v → (more : List TracedStep) → w.step_trace ≡ more ++ v.step_trace → Found p x u w
 found-later p x u v w f more t = (
   more ++ f.0,
-  t ∙ (ap (λ s. more ++ s) f.1 ∙ sym (append_assoc more f.0 u.trail)),
+  t ∙ (ap (λ s. more ++ s) f.1 ∙ sym (append_assoc more f.0 u.step_trace)),
   f.2,
   Contains-append_right more f.0 (record { place = p; act = f.2; found = Some x }) f.3,
 )
 
-pub found-earlier : (p : At) (x : ℕ) (u v w : Known) → Found p x v w → (more : List TrailItem) → v.trail ≡ more ++ u.trail → Found p x u w
+pub found-earlier : (p : At) (x : ℕ) (u v w : CallerState) → Found p x v w → (more : List TracedStep) → v.step_trace ≡ more ++ u.step_trace → Found p x u w
 found-earlier p x u v w f more t = (
   f.0 ++ more,
-  f.1 ∙ (ap (λ s. f.0 ++ s) t ∙ sym (append_assoc f.0 more u.trail)),
+  f.1 ∙ (ap (λ s. f.0 ++ s) t ∙ sym (append_assoc f.0 more u.step_trace)),
   f.2,
   Contains-append_left f.0 more (record { place = p; act = f.2; found = Some x }) f.3,
 )
 
 -- a clock that was found is at most the greatest one
-top-at : (is t : List TrailItem) (act : Act) (x k : ℕ) → k < length is → get_or is k (record { place = Clock; act = act; found = Some x }) ≡ record { place = Clock; act = act; found = Some x } → x ≤ top_of (is ++ t)
+top-at : (is t : List TracedStep) (act : Act) (x k : ℕ) → k < length is → get_or is k (record { place = Clock; act = act; found = Some x }) ≡ record { place = Clock; act = act; found = Some x } → x ≤ top_of (is ++ t)
 top-at [] t act x k l e = absurd (omega arith)
-top-at (i ∷ is) t act x zero l e = let same : clock_in i.place i.found ≡ x = ap (λ (j : TrailItem). clock_in j.place j.found) e in omega arith
+top-at (i ∷ is) t act x zero l e = let same : clock_in i.place i.found ≡ x = ap (λ (j : TracedStep). clock_in j.place j.found) e in omega arith
 top-at (i ∷ is) t act x (suc k) l e = let rest : x ≤ top_of (is ++ t) = top-at is t act x k (omega arith) e in omega arith
 
-pub found-top : (x : ℕ) (v w : Known) → Found Clock x v w → x ≤ top_of w.trail
-found-top x v w f = subst (λ (t : List TrailItem). x ≤ top_of t) (sym f.1) (top-at f.0 v.trail f.2 x f.3.0 f.3.1 f.3.2)
+pub found-top : (x : ℕ) (v w : CallerState) → Found Clock x v w → x ≤ top_of w.step_trace
+found-top x v w f = subst (λ (t : List TracedStep). x ≤ top_of t) (sym f.1) (top-at f.0 v.step_trace f.2 x f.3.0 f.3.1 f.3.2)
 
 -- a clock at its limit was found
 pub finds-full : (x : ℕ) (v u : View) (o p : Own) → CLOCK_LIMIT ≤ x → Found Clock x (known_of v o) (known_of u p) → FindsFull x (known_of v o) (known_of u p)
 finds-full x v u o p high f = record { limit = high; found = f; top = found-top x (known_of v o) (known_of u p) f }
 
 module _ (n : ℕ) where
-  pub trail-left : (v u : View) → Carried v u → (more : List TrailItem) × ((left n u).steps.trail ≡ more ++ v.steps.trail)
-  trail-left v u c = let last = last_steps n u.gate.holds u.gate.fence u.gate.algorithm in (last ++ c.trail.0, ap (λ s. last ++ s) c.trail.1 ∙ sym (append_assoc last c.trail.0 v.steps.trail))
+  pub step_trace-left : (v u : View) → Carried v u → (more : List TracedStep) × ((left n u).steps.step_trace ≡ more ++ v.steps.step_trace)
+  step_trace-left v u c = let last = last_steps n u.gate.holds u.gate.fence u.gate.algorithm in (last ++ c.step_trace.0, ap (λ s. last ++ s) c.step_trace.1 ∙ sym (append_assoc last c.step_trace.0 v.steps.step_trace))
 
   -- what was found before the last steps
   pub found-left : (place : At) (x : ℕ) (v u : View) (o p : Own) → Found place x (known_of v o) (known_of u p) → Found place x (known_of v o) (known_of (left n u) p)
@@ -104,14 +104,14 @@ module _ (n : ℕ) where
   ends-left v u o c grows = record { idle = (refl, refl, refl, refl, unlocked-of u.gate.algorithm u.lock.taken u.tml.writer c.unlocked c.unwritten); grows = grows; alg = c.named; base = c.base; installs = ap reverse c.installs }
 
   raised-ends : (t : ℕ) (v u : View) (o : Own) → IsRaised t v u → v.history.front ≤ t → Ends (known_of v o) (known_of (left n u) o)
-  raised-ends t v u o m up = let k = trail-left v u m.carried in ends-left v u o m.carried (record {
+  raised-ends t v u o m up = let k = step_trace-left v u m.carried in ends-left v u o m.carried (record {
     later = [];
     is = ap (λ (h : SeenHistory). public_history h.seen) m.history ∙ sym (append-nil (public_history v.history.seen));
     ascending = tt;
     up_to = tt;
     front_rose = subst (λ (h : SeenHistory). v.history.front ≤ h.front) (sym m.history) up;
     more = k.0;
-    trail = k.1;
+    step_trace = k.1;
     reads_limit = refl;
     writes_limit = refl;
     fenced = ap fenced_of m.carried.fence;
@@ -144,14 +144,14 @@ module _ (n : ℕ) where
     pub commits-left : (t : ℕ) (w : World) (v u : View) (o : Own) → Commits (of_words good c.words) c n t w v t → IsMade n t w.history v u → v.attempt.start < t → v.history.front < t → v.attempt.stores ≢ []
         → written_under v.gate.algorithm v.gate.granted v o ≡ items v.attempt.stores → CommitsAt good c n t (known_of v o) (known_of (left n u) o)
     commits-left t w v u o s m later above some written = record {
-      ends = ends-left v u o m.carried (let k = trail-left v u m.carried in record {
+      ends = ends-left v u o m.carried (let k = step_trace-left v u m.carried in record {
         later = made ∷ [];
         is = ap (λ (h : SeenHistory). public_history h.seen) m.history ∙ ap (λ (h : List public.Entry). h ++ made ∷ []) (sym (ap public_history s.seen));
         ascending = (above, tt);
         up_to = (front_at, tt);
         front_rose = (let f = front_is in omega arith);
         more = k.0;
-        trail = k.1;
+        step_trace = k.1;
         reads_limit = refl;
         writes_limit = refl;
         fenced = ap fenced_of m.carried.fence;

@@ -1,7 +1,7 @@
 -- What looks at other callers come to, by a caller that holds the gate.
 use Rattle.std.specs.Prelude.{ℕ, ◌≡◌, ◌≢◌, ◌+◌, ◌++◌, List, true}
 use Rattle.rule_base.specs.declared.layout.At.TheVariants.{Status}
-use Rattle.rule_base.specs.declared.views.TrailItem.{TrailItem}
+use Rattle.rule_base.specs.declared.views.TracedStep.{TracedStep}
 use Rattle.rule_base.specs.declared.views.View.{View}
 use Rattle.rule_base.specs.History.{member}
 use Rattle.rule_base.specs.InstallSteps.{HasChecked}
@@ -12,17 +12,17 @@ use Rattle.tx_answers.specs.declared.answers.Look.{Look}
 use Rattle.tx_answers.specs.declared.answers.Look.TheVariants as looks
 use Rattle.tx_answers.specs.Answers.{OfUnseen, IsBusy}
 use Rattle.tx_answers.specs.Evidence.{Found}
-use Rattle.tx_answers.specs.Known.{known_of}
+use Rattle.tx_answers.specs.CallerState.{known_of}
 
--- the view with these callers seen idle, and with this trail
-abbrev pub looked : View → List ℕ → List TrailItem → View
-looked v checked trail = record v { gate = record v.gate { checked = checked }; steps = record v.steps { trail = trail } }
+-- the view with these callers seen idle, and with this step trace
+abbrev pub looked : View → List ℕ → List TracedStep → View
+looked v checked step_trace = record v { gate = record v.gate { checked = checked }; steps = record v.steps { step_trace = step_trace } }
 
 -- some looks took place: only callers not yet seen idle were looked at, none seen is forgotten, and nothing else changed
 pub record LooksOn (v w : View) : Type 0 where
   pub checked : List ℕ
-  pub more : List TrailItem
-  pub is : w ≡ looked v checked (more ++ v.steps.trail)
+  pub more : List TracedStep
+  pub is : w ≡ looked v checked (more ++ v.steps.step_trace)
   pub kept : (k : ℕ) → member v.gate.checked k ≡ true → member checked k ≡ true
   pub unseen : OfUnseen v.gate.checked more
 

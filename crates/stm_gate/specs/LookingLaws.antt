@@ -1,11 +1,11 @@
--- What looks come to, one behind another.
+-- What looks come to, one after another.
 use Rattle.std.proofs.Common.{ℕ, ◌≡◌, ◌≢◌, ◌<◌, ◌+◌, List, [], ◌∷◌, ◌++◌, Bool, true, false, refl, sym, ap, ◌∙◌, arith, subst, append_assoc}
 use Rattle.std.proofs.lemmas.Bool.Decides.{nat_tests}
 use Rattle.std.specs.Prelude.{Some, ◌==◌, if◌then◌else◌}
 use Rattle.stm_model.specs.declared.config.Config.{Config}
 use Rattle.rule_base.specs.declared.layout.At.TheVariants.{Status}
 use Rattle.rule_base.specs.declared.views.Act.TheVariants.{Load}
-use Rattle.rule_base.specs.declared.views.TrailItem.{TrailItem}
+use Rattle.rule_base.specs.declared.views.TracedStep.{TracedStep}
 use Rattle.rule_base.specs.declared.views.View.{View}
 use Rattle.rule_base.specs.GateSteps.{check}
 use Rattle.rule_base.specs.History.{member}
@@ -16,8 +16,8 @@ use Rattle.tx_answers.specs.declared.answers.Look.{Look}
 use Rattle.tx_answers.specs.declared.answers.Look.TheVariants.{Quiet, Busy}
 use Rattle.tx_answers.specs.Answers.{HoldsClosed, Looked, Looks, OfUnseen}
 use Rattle.tx_answers.specs.Evidence.{Found}
-use Rattle.tx_answers.specs.Known.{known_of}
-use Rattle.tx_answers.specs.KnownLaws.{grows-same}
+use Rattle.tx_answers.specs.CallerState.{known_of}
+use Rattle.tx_answers.specs.CallerStateLaws.{grows-same}
 use Rattle.rule_base.specs.Own.{Own}
 use Rattle.stm_gate.specs.InnerLaws.{granted-same}
 use Rattle.stm_gate.specs.LeavingLaws.{found-earlier}
@@ -31,11 +31,11 @@ unseen-before : (k : ℕ) (xs ys : List ℕ) → ((j : ℕ) → member xs j ≡ 
 unseen-before k xs ys more out true e = absurd (let t : true ≡ false = sym (more k e) ∙ out in cc)
 unseen-before k xs ys more out false e = refl
 
-of-unseen-before : (xs ys : List ℕ) (is : List TrailItem) → ((j : ℕ) → member xs j ≡ true → member ys j ≡ true) → OfUnseen ys is → OfUnseen xs is
+of-unseen-before : (xs ys : List ℕ) (is : List TracedStep) → ((j : ℕ) → member xs j ≡ true → member ys j ≡ true) → OfUnseen ys is → OfUnseen xs is
 of-unseen-before xs ys [] more h = tt
 of-unseen-before xs ys (i ∷ is) more h = ((h.0.0, h.0.1, unseen-before h.0.0 xs ys more h.0.2 (member xs h.0.0) refl), of-unseen-before xs ys is more h.1)
 
-of-unseen-append : (xs : List ℕ) (is js : List TrailItem) → OfUnseen xs is → OfUnseen xs js → OfUnseen xs (is ++ js)
+of-unseen-append : (xs : List ℕ) (is js : List TracedStep) → OfUnseen xs is → OfUnseen xs js → OfUnseen xs (is ++ js)
 of-unseen-append xs [] js a b = b
 of-unseen-append xs (i ∷ is) js a b = (a.0, of-unseen-append xs is js a.1 b)
 
@@ -54,8 +54,8 @@ looks-more u v w a b = subst (λ (x : View). LooksOn u x) (sym path) (record {
     bk : (k : ℕ) → member a.checked k ≡ true → member b.checked k ≡ true
     bk k e = b.kept k (ap (λ (cs : List ℕ). member cs k) at ∙ e)
 
-    path : w ≡ looked u b.checked ((b.more ++ a.more) ++ u.steps.trail)
-    path = b.is ∙ (ap (λ (x : View). looked x b.checked (b.more ++ x.steps.trail)) a.is ∙ ap (looked u b.checked) (sym (append_assoc b.more a.more u.steps.trail)))
+    path : w ≡ looked u b.checked ((b.more ++ a.more) ++ u.steps.step_trace)
+    path = b.is ∙ (ap (λ (x : View). looked x b.checked (b.more ++ x.steps.step_trace)) a.is ∙ ap (looked u b.checked) (sym (append_assoc b.more a.more u.steps.step_trace)))
 
 module _ (c : Config) (n : ℕ) where
   not-seen : (k : ℕ) (v : View) → HasLooked c.callers n k v → (b : Bool) → member v.gate.checked k ≡ b → b ≡ false
@@ -107,7 +107,7 @@ module _ (c : Config) (n : ℕ) where
       busy b = let apart : (x == 0) ≡ false = grind (arith, nat_tests) in let cs : w.gate.checked ≡ v.gate.checked = at false apart in (
         other,
         record { low = seen.low; seen = λ j l d. ap (λ (ds : List ℕ). member ds j) cs ∙ seen.seen j l d; unseen = λ j m. seen.unseen j (sym (ap (λ (ds : List ℕ). member ds j) cs) ∙ m) },
-        (record { place = Status k; act = Load; found = Some x } ∷ [], ap (λ (y : View). y.steps.trail) t.2, Load, (0, omega arith, refl)),
+        (record { place = Status k; act = Load; found = Some x } ∷ [], ap (λ (y : View). y.steps.step_trace) t.2, Load, (0, omega arith, refl)),
       )
 
   two : (k : ℕ) → k < c.callers → n < c.callers → k ≢ n → 1 < c.callers
@@ -121,7 +121,7 @@ module _ (c : Config) (n : ℕ) where
       record {
         other = (low, h.0, two k low own h.0);
         announced = (let e = busy in omega arith);
-        found = found-earlier (Status k) x (known_of u (idle_own c)) (known_of v (idle_own c)) (known_of w (idle_own c)) h.2 a.more (ap (λ (y : View). y.steps.trail) a.is);
+        found = found-earlier (Status k) x (known_of u (idle_own c)) (known_of v (idle_own c)) (known_of w (idle_own c)) h.2 a.more (ap (λ (y : View). y.steps.step_trace) a.is);
         before = h.1.seen;
       },
     )
@@ -132,7 +132,7 @@ module _ (c : Config) (n : ℕ) where
       closed = record {
         holds = record { phase = h.phase; running = h.running; closing = h.closing; holds = h.holds; ungranted = granted-same u.gate.algorithm (record u.gate { checked = a.checked }) u.gate u.lock refl ∙ h.ungranted; unlocked = h.unlocked };
         made = refl;
-        grows = grows-same (known_of u o) (known_of (looked u a.checked (a.more ++ u.steps.trail)) o) refl refl a.more refl refl refl refl;
+        grows = grows-same (known_of u o) (known_of (looked u a.checked (a.more ++ u.steps.step_trace)) o) refl refl a.more refl refl refl refl;
         checked = a.kept;
       };
       steps = (a.more, refl, a.unseen);

@@ -16,11 +16,11 @@ use Rattle.rule_base.specs.BridgeLemmas.{memories, words_of-same, explains-items
 use Rattle.rule_base.specs.History.{word_at, word_now, Inside, Below, upto, Explains, Legal}
 use Rattle.rule_base.specs.HistoryLemmas.{word_at-all, upto-all}
 use Rattle.tx_answers.specs.Answers.{IsOpaque}
-use Rattle.tx_answers.specs.Known.{known_of, zeros}
+use Rattle.tx_answers.specs.CallerState.{known_of, zeros}
 use Rattle.rule_base.specs.Own.{Own}
 use Rattle.stm_rule.specs.declared.local.Local.{Local}
 use Rattle.stm_rule.specs.Attempts.{IsInside}
-use Rattle.tx_answers.specs.KnownLaws.{ascending-append, within-append}
+use Rattle.tx_answers.specs.CallerStateLaws.{ascending-append, within-append}
 
 -- the memory at the start is that after what was seen
 pub memory-now : (words : ℕ) (h : List Entry) (s : ℕ) → Below h (s + 1) → memory_at s (public_history h) (zeros words) ≡ words_of words (word_now h)

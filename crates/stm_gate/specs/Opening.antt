@@ -11,7 +11,7 @@ use Rattle.stm_rule.specs.declared.local.Local.{Local}
 use Rattle.stm_rule.specs.declared.stm.Stm.{Stm}
 use Rattle.stm_rule.specs.Attempts.{Stands, good_by, own_of}
 use Rattle.stm_rule.specs.Callers.{Handle, IsOf}
-use Rattle.tx_answers.specs.Known.{Known, known_of, caller_of}
+use Rattle.tx_answers.specs.CallerState.{CallerState, known_of, caller_of}
 use Rattle.stm_gate.specs.Knowing.{known, number}
 use Rattle.stm_gate.specs.Standing.{stands-of}
 use Rattle.stm_gate.specs.Told.{stands-back}
@@ -46,21 +46,21 @@ module _ {K : Type 0} (good : K → List ℕ → Type 0) (stm : Stm K) where
 
   module _ {e : Handle K} {who : Who K} {v : View} {n : ℕ} {l : Local} (a : Opened e who v n l) where
     -- what is known of the descriptor is known of its view
-    pub of-view : (P : ℕ → Known → Type 0) → P (number e) (known e) → P n (known_of v (own_of l))
-    of-view P p = subst (λ (k : Known). P n k) a.knows (subst (λ (k : ℕ). P k (known e)) a.name p)
+    pub of-view : (P : ℕ → CallerState → Type 0) → P (number e) (known e) → P n (known_of v (own_of l))
+    of-view P p = subst (λ (k : CallerState). P n k) a.knows (subst (λ (k : ℕ). P k (known e)) a.name p)
 
     pub of-seen : (P : ℕ → View → Type 0) → P (number e) e.view → P n v
     of-seen P p = subst (λ (w : View). P n w) a.view (subst (λ (k : ℕ). P k e.view) a.name p)
 
-    pub is-known : (P : ℕ → Known → Type 0) → P n (known_of v (own_of l)) → P (number e) (known e)
-    is-known P p = subst (λ (k : ℕ). P k (known e)) (sym a.name) (subst (λ (k : Known). P n k) (sym a.knows) p)
+    pub is-known : (P : ℕ → CallerState → Type 0) → P n (known_of v (own_of l)) → P (number e) (known e)
+    is-known P p = subst (λ (k : ℕ). P k (known e)) (sym a.name) (subst (λ (k : CallerState). P n k) (sym a.knows) p)
 
     -- and what is told of the view is told of the descriptor
-    pub tells-of : (P : ℕ → Known → Known → Type 0) (w : Known) → P n (known_of v (own_of l)) w → P (number e) (known e) w
-    tells-of P w p = subst (λ (k : ℕ). P k (known e) w) (sym a.name) (subst (λ (k : Known). P n k w) (sym a.knows) p)
+    pub tells-of : (P : ℕ → CallerState → CallerState → Type 0) (w : CallerState) → P n (known_of v (own_of l)) w → P (number e) (known e) w
+    tells-of P w p = subst (λ (k : ℕ). P k (known e) w) (sym a.name) (subst (λ (k : CallerState). P n k w) (sym a.knows) p)
 
     -- the caller's own part stays
-    pub shows : (P : ℕ → Known → Known → Type 0) (w : View) (m : Local) → own_of m ≡ own_of l → P n (known_of v (own_of l)) (known_of w (own_of l)) → P (number e) (known e) (known_of w (own_of m))
+    pub shows : (P : ℕ → CallerState → CallerState → Type 0) (w : View) (m : Local) → own_of m ≡ own_of l → P n (known_of v (own_of l)) (known_of w (own_of l)) → P (number e) (known e) (known_of w (own_of m))
     shows P w m own p = tells-of P (known_of w (own_of m)) (subst (λ (o : Own). P n (known_of v (own_of l)) (known_of w o)) (sym own) p)
 
     -- which stands, with the fields and the view that it has then

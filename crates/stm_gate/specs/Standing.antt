@@ -21,7 +21,7 @@ use Rattle.stm_rule.specs.declared.local.Local.{Local}
 use Rattle.stm_rule.specs.Attempts.{good_by, own_of, Keeps, IsInside, IsTml, IsPromoted, Stands}
 use Rattle.stm_rule.specs.Callers.{Handle}
 use Rattle.stm_rule.specs.StandLemmas.{inside-of}
-use Rattle.tx_answers.specs.Known.{Known, known_of, granted_under, is_in}
+use Rattle.tx_answers.specs.CallerState.{CallerState, known_of, granted_under, is_in}
 use Rattle.stm_gate.specs.Knowing.{known, number}
 
 pub in-of : (p : Phase) → is_in p ≡ true → p ≡ In
@@ -52,7 +52,7 @@ module _ {K : Type 0} where
   who-of kind shows s x t h = ap (λ (y : SeatView K). y.who) h.3
 
   -- what was shown of the views of caller n is so of its descriptor d, which was e at the call; its own part stands
-  pub shown-of : (R : ℕ → Known → Known → Type 0) (d e : Handle K) (n : ℕ) (w : View) (l m : Local) → d ≡ e → own_of m ≡ own_of l → number d ≡ n
+  pub shown-of : (R : ℕ → CallerState → CallerState → Type 0) (d e : Handle K) (n : ℕ) (w : View) (l m : Local) → d ≡ e → own_of m ≡ own_of l → number d ≡ n
       → R n (known d) (known_of w (own_of l)) → R (number e) (known e) (known_of w (own_of m))
   shown-of R d e n w l m same own name h = subst (λ (p : Handle K). R (number p) (known p) (known_of w (own_of m))) same
       (subst (λ (o : Own). R (number d) (known d) (known_of w o)) (sym own)
@@ -61,7 +61,7 @@ module _ {K : Type 0} where
 -- what stands of a promoted attempt under each algorithm
 pub record IsDirect (l : Local) (v : View) : Type 0 where
   pub granted : v.gate.granted ≡ true
-  pub calm : v.gate.calm ≡ true
+  pub quiescent : v.gate.quiescent ≡ true
   pub unlocked : v.lock.taken ≡ false
   pub unwritten : v.tml.writer ≡ false
   pub clean : l.wrote ≡ false → v.attempt.stores ≡ []
@@ -70,7 +70,7 @@ pub record IsDirect (l : Local) (v : View) : Type 0 where
   pub limit : l.start + entry_rise l.algorithm ≤ CLOCK_LIMIT
 
 direct-of : (l : Local) (v : View) → IsPromoted l v → IsDirect l v
-direct-of l v p = record { granted = p.granted; calm = p.calm; unlocked = p.clear.unlocked; unwritten = p.clear.unwritten; clean = p.clean; dirty = p.dirty; rises = p.rises; limit = p.limit }
+direct-of l v p = record { granted = p.granted; quiescent = p.quiescent; unlocked = p.clear.unlocked; unwritten = p.clear.unwritten; clean = p.clean; dirty = p.dirty; rises = p.rises; limit = p.limit }
 
 module _ (good : List ℕ → Type 0) (c : Config) (n : ℕ) (l : Local) (v : View) where
   closed_alg : (a : Alg) → closes_gate a ≡ true → (gate : GateView) (lock : LockView) → granted_under a gate lock ≡ true → gate.granted ≡ true
@@ -92,7 +92,7 @@ module _ (good : List ℕ → Type 0) (c : Config) (n : ℕ) (l : Local) (v : Vi
   by-alg Tml false e g k = absurd cc
   by-alg OrecLazy true e g k = direct-of l v k
   by-alg OrecLazy false e g k = absurd cc
-  by-alg OrecEager true e g k = record { granted = k.granted; calm = k.calm; unlocked = k.unlocked; unwritten = k.unwritten; clean = k.clean; dirty = k.dirty; rises = k.rises; limit = k.limit }
+  by-alg OrecEager true e g k = record { granted = k.granted; quiescent = k.quiescent; unlocked = k.unlocked; unwritten = k.unwritten; clean = k.clean; dirty = k.dirty; rises = k.rises; limit = k.limit }
   by-alg OrecEager false e g k = absurd cc
   by-alg RingSw true e g k = direct-of l v k
   by-alg RingSw false e g k = absurd cc

@@ -15,7 +15,7 @@ use Rattle.tx_answers.specs.declared.answers.Begin.TheVariants.{Begun, Closed, H
 use Rattle.tx_answers.specs.Answers.{HasOthers, IsHeld, IsOpaque, start_word}
 use Rattle.tx_answers.specs.Causes.{FindsFull}
 use Rattle.tx_answers.specs.Evidence.{Found, Exchanged}
-use Rattle.tx_answers.specs.Known.{Known, Grows, known_of, no_log}
+use Rattle.tx_answers.specs.CallerState.{CallerState, Grows, known_of, no_log}
 
 -- the caller found the gate open under this algorithm
 pub record CanBegin (alg : Alg) (v : View) : Type 0 where
@@ -32,7 +32,7 @@ abbrev pub IsFresh : Own → Type 0
 IsFresh o = (o.committing ≡ false) × (o.buffered ≡ []) × (o.depth ≡ 0) × (o.marks ≡ [])
 
 -- what no begin changes
-pub record KeepsCaller (v w : Known) : Type 0 where
+pub record KeepsCaller (v w : CallerState) : Type 0 where
   pub made : w.made ≡ v.made
   pub grows : Grows v w
   pub rises : w.rises ≡ v.rises
@@ -45,7 +45,7 @@ pub record Waits (alg : Alg) (v w : View) : Type 0 where
 
 module _ (good : List ℕ → Type 0) (c : Config) (n : ℕ) (alg : Alg) where
   -- an attempt stands at a start that was loaded, not before anything that was seen
-  pub record StartsFrom (start : ℕ) (v w : Known) : Type 0 where
+  pub record StartsFrom (start : ℕ) (v w : CallerState) : Type 0 where
     pub keeps : KeepsCaller v w
     pub found : Found (start_word alg) start v w
     pub is : w.start ≡ start

@@ -12,7 +12,7 @@ use Rattle.stm_rule.specs.declared.local.Local.{Local}
 use Rattle.stm_rule.specs.Attempts.{own_of, good_by, IsInside, HasRoom, Stands, StandsBy}
 use Rattle.stm_rule.specs.Callers.{Handle}
 use Rattle.stm_gate.specs.Knowing.{known, number}
-use Rattle.tx_answers.specs.Known.{Known, known_of, caller_of}
+use Rattle.tx_answers.specs.CallerState.{CallerState, known_of, caller_of}
 
 -- an undo log of the same length leaves the descriptor's own part
 pub own-by : (l m : Local) → m ≡ record l { undo = m.undo } → m.undo.len ≡ l.undo.len → own_of m ≡ own_of l
@@ -34,7 +34,7 @@ stands-in {K} good c rule who n l v config value running holds lengths i =
     (record { holds = holds; lengths = lengths; by = subst (λ (r : Bool). StandsBy (good rule) c n l r l.holds v) (sym running) i }))
 
 -- d was the descriptor e at the call, t is its seat after it, and m its fields
-pub told : {K : Type 0} → (P : ℕ → Known → Known → Type 0) (d e : Handle K) (n : ℕ) (t : SeatView K) (m : Local) → d ≡ e → t.who ≡ d.who → d.who.role ≡ Caller n
+pub told : {K : Type 0} → (P : ℕ → CallerState → CallerState → Type 0) (d e : Handle K) (n : ℕ) (t : SeatView K) (m : Local) → d ≡ e → t.who ≡ d.who → d.who.role ≡ Caller n
     → P n (known d) (known_of t.view (own_of m)) → P (number e) (known e) (known_of t.view (own_of m))
 told {K} P d e n t m same who role p = subst (λ (h : Handle K). P (number h) (known h) (known_of t.view (own_of m))) same
     (subst (λ (q : Who K). P (number d) (known d) (known_of t.view (own_of m))) (sym who)

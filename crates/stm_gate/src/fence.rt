@@ -12,7 +12,7 @@ ghost use Rattle.rule_base.specs.Encodings.{fenced};
 ghost use Rattle.stm_rule.specs.Callers.{IsOf, IsSameCaller};
 ghost use Rattle.tx_answers.specs.Answers.{HoldsClosed, SeesQuiet};
 ghost use Rattle.tx_answers.specs.Fences.{Fences, ReadsDirect, WritesDirect, KeepsFenced, Gives};
-ghost use Rattle.tx_answers.specs.Known.{IsIdle};
+ghost use Rattle.tx_answers.specs.CallerState.{IsIdle};
 ghost use Rattle.stm_gate.specs.Knowing.{known, number};
 
 use rule_base::words::{fence_number, gate_word};

@@ -12,7 +12,7 @@ ghost use Rattle.rule_base.specs.declared.views.Phase.TheVariants.{Closing};
 ghost use Rattle.stm_rule.specs.Callers.{IsOf, IsSameCaller, IsSeatOf};
 ghost use Rattle.stm_rule.specs.Kept.{IsSameSeat, view_of};
 ghost use Rattle.tx_answers.specs.Answers.{Closes, Looks, Installs, Reopens, HoldsClosed, SeesQuiet};
-ghost use Rattle.tx_answers.specs.Known.{IsIdle};
+ghost use Rattle.tx_answers.specs.CallerState.{IsIdle};
 ghost use Rattle.stm_gate.specs.Installing.{Settles};
 ghost use Rattle.stm_gate.specs.Knowing.{known, number};
 

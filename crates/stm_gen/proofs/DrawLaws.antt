@@ -7,7 +7,7 @@ use Rattle.rand_pcg.specs.Pcg.{multiplier_64, pcg32, pcg32_of_seed}
 use Rattle.rand_core.specs.Pcg32Seed.{pcg32_seed}
 use Rattle.stm_script.specs.declared.workload.Item.TheVariants.{Tx}
 use Rattle.stm_gen.specs.Draws.{seeded, generator_at}
-use Rattle.stm_gen.specs.Generated.{drawn_move, draws_before, operation, switch_behind, items_for}
+use Rattle.stm_gen.specs.Generated.{drawn_move, draws_before, operation, switch_after, items_for}
 
 pub at-start : (seed : ℕ) → pcg32_of_seed (pcg32_seed 16 seed) ≡ generator_at seed 0
 unfolding seeded state_after
@@ -36,8 +36,8 @@ moves-else seed i a b =
 pub draws-on : (i : ℕ) → i % 4 ≢ 2 → i % 4 ≢ 3 → draws_before i + 3 ≡ draws_before (i + 1)
 draws-on i a b = omega arith
 
--- one transaction more, and what stands behind it
-pub items-on : (n callers seed : ℕ) → (items_for n callers seed ++ Tx (n % callers) (operation seed n ∷ []) ∷ []) ++ switch_behind n ≡ items_for (n + 1) callers seed
+-- one transaction more, and what stands after it
+pub items-on : (n callers seed : ℕ) → (items_for n callers seed ++ Tx (n % callers) (operation seed n ∷ []) ∷ []) ++ switch_after n ≡ items_for (n + 1) callers seed
 items-on n callers seed =
     let next : suc n ≡ n + 1 = omega arith in
-    append_assoc (items_for n callers seed) (Tx (n % callers) (operation seed n ∷ []) ∷ []) (switch_behind n) ∙ ap (λ k. items_for k callers seed) next
+    append_assoc (items_for n callers seed) (Tx (n % callers) (operation seed n ∷ []) ∷ []) (switch_after n) ∙ ap (λ k. items_for k callers seed) next

@@ -5,4 +5,4 @@ pub mod Replaying
 pub mod RowSums
 pub mod Totals
 pub mod SummaryLaws
-pub mod BuiltLaws
+pub mod ParsedLaws

@@ -10,7 +10,7 @@ use Rattle.stm_script.specs.declared.workload.Item.TheVariants.{Tx, Switch, Rese
 use Rattle.stm_script.specs.declared.report.Row.{Row}
 use Rattle.stm_script.specs.Reports.{scripts_of, script_of}
 use Rattle.stm_gen.specs.Draws.{drawn}
-use Rattle.stm_gen.specs.Generated.{drawn_move, draws_before, operation, switched, switch_behind, items_at, items_for}
+use Rattle.stm_gen.specs.Generated.{drawn_move, draws_before, operation, switched, switch_after, items_at, items_for}
 use Rattle.stm_gen.proofs.Weights.{items_sum, once, opens, counts, inserts, weigh}
 use Rattle.stm_gen.proofs.RowSums.{CallersBelow}
 use Rattle.stm_gen.proofs.Replaying.{IsMade}
@@ -24,7 +24,7 @@ below-append n (Tx caller script ∷ xs) ys x y = (x.0, below-append n xs ys x.1
 below-append n (Switch caller alg ∷ xs) ys x y = below-append n xs ys x y
 below-append n (Reserve caller reads writes ∷ xs) ys x y = below-append n xs ys x y
 
-switch-below : (n i : ℕ) → CallersBelow n (switch_behind i)
+switch-below : (n i : ℕ) → CallersBelow n (switch_after i)
 switch-below n i = by (i % 16 == 15)
   where
     by : (t : Bool) → CallersBelow n (if t then Switch 0 (switched (suc (i / 16))) ∷ [] else [])
@@ -50,7 +50,7 @@ made-append (Tx caller script ∷ xs) ys x y = (x.0, made-append xs ys x.1 y)
 made-append (Switch caller alg ∷ xs) ys x y = made-append xs ys x y
 made-append (Reserve caller reads writes ∷ xs) ys x y = made-append xs ys x y
 
-switch-made : (i : ℕ) → AllMade (switch_behind i)
+switch-made : (i : ℕ) → AllMade (switch_after i)
 switch-made i = by (i % 16 == 15)
   where
     by : (t : Bool) → AllMade (if t then Switch 0 (switched (suc (i / 16))) ∷ [] else [])
@@ -93,7 +93,7 @@ sum-append f (Tx caller script ∷ xs) ys = let rest = sum-append f xs ys in ome
 sum-append f (Switch caller alg ∷ xs) ys = sum-append f xs ys
 sum-append f (Reserve caller reads writes ∷ xs) ys = sum-append f xs ys
 
-switch-sum : (f : List Op → ℕ) (i : ℕ) → items_sum f (switch_behind i) ≡ 0
+switch-sum : (f : List Op → ℕ) (i : ℕ) → items_sum f (switch_after i) ≡ 0
 switch-sum f i = by (i % 16 == 15)
   where
     by : (t : Bool) → items_sum f (if t then Switch 0 (switched (suc (i / 16))) ∷ [] else []) ≡ 0

@@ -44,13 +44,13 @@ abbrev pub switched : ℕ → Alg
 switched zero = OrecLazy
 switched (suc j) = next_in_cycle (switched j)
 
--- the switch that stands behind transaction i, where one does
-abbrev pub switch_behind : ℕ → List Item
-switch_behind i = if i % SWITCH_EVERY == 15 then Switch 0 (switched (suc (i / SWITCH_EVERY))) ∷ [] else []
+-- the switch that stands after transaction i, where one does
+abbrev pub switch_after : ℕ → List Item
+switch_after i = if i % SWITCH_EVERY == 15 then Switch 0 (switched (suc (i / SWITCH_EVERY))) ∷ [] else []
 
--- transaction i, and what stands behind it
+-- transaction i, and what stands after it
 abbrev pub items_at : ℕ → ℕ → ℕ → List Item
-items_at callers seed i = Tx (i % callers) (operation seed i ∷ []) ∷ switch_behind i
+items_at callers seed i = Tx (i % callers) (operation seed i ∷ []) ∷ switch_after i
 
 -- the opening transaction, and the first n that follow
 abbrev pub items_for : ℕ → ℕ → ℕ → List Item

@@ -61,7 +61,7 @@ summary_bytes s =
     ++ (summary_line (codes "counter") s.counter
     ++ (summary_line (codes "list") s.list ++ codes "end\n"))))
 
--- the summary of so many transactions behind the opening one: of four one counts, and one adds a key, 24 keys in all
+-- the summary of so many transactions after the opening one: of four one counts, and one adds a key, 24 keys in all
 abbrev pub summary_for : ℕ → Summary
 summary_for n = record { commits = n + 1; accounts = 64000; counter = (n + 1) / 4; list = min (n / 4) 24 }
 

@@ -1,10 +1,10 @@
 //! Workloads, made from a seed.
 ghost use Rattle.std.specs.Prelude.{◌≡◌, ◌≤◌, ◌<◌, ◌+◌, ◌/◌, ℕ, [], ◌∷◌, ◌++◌, IfOk, OnOk};
 ghost use Rattle.stm_script.specs.declared.workload.Item.TheVariants.{Tx};
-ghost use Rattle.stm_text.specs.Built.{IsBuilt};
+ghost use Rattle.stm_text.specs.Parsed.{IsParsed};
 ghost use Rattle.stm_text.specs.declared.parse.Mode.TheVariants.{Run};
 ghost use Rattle.stm_gen.specs.Draws.{generator_at};
-ghost use Rattle.stm_gen.specs.Generated.{deposits, drawn_move, draws_before, generated, header_for, items_for, operation, switch_behind, switched};
+ghost use Rattle.stm_gen.specs.Generated.{deposits, drawn_move, draws_before, generated, header_for, items_for, operation, switch_after, switched};
 
 use crate::draws::{draw, seeded};
 use rand_pcg::Pcg32;
@@ -31,14 +31,14 @@ pub const MOST_MOVED: u32 = 100;
 pub const STRIPES: usize = 4;
 /// The keys that go into the list are less than this.
 pub const KEYS: usize = 24;
-/// Behind so many transactions caller 0 changes the algorithm.
+/// After so many transactions caller 0 changes the algorithm.
 pub const SWITCH_EVERY: usize = 16;
 
 /// The workload of so many transactions, 1 to [`MOST_TRANSACTIONS`], of 1 to 32 callers, drawn from the seed: one
 /// that `run` takes. Memory may be refused.
 ///
 /// Caller 0 opens with [`DEPOSIT`] to each account. Then the callers take turns: of four transactions two
-/// move between accounts, one counts and one adds a key to the list. Behind each sixteenth caller 0 switches
+/// move between accounts, one counts and one adds a key to the list. After each sixteenth caller 0 switches
 /// to the next algorithm in the cycle.
 pub fn generate(
     alloc: Global,
@@ -49,7 +49,7 @@ pub fn generate(
     requires transactions { transactions ≤ MOST_TRANSACTIONS }
     requires callers { (1 ≤ callers) × (callers ≤ 32) }
     ensures generated { IfOk result (λ w. w ≡ generated transactions callers seed) }
-    ensures built { IfOk result (λ w. IsBuilt Run w) }
+    ensures is_parsed { IfOk result (λ w. IsParsed Run w) }
 {
     let items = make_items(alloc, transactions, callers, seed)?;
     Ok(Workload {
@@ -82,11 +82,11 @@ fn make_items(
     Ok(items)
 }
 
-/// Behind each sixteenth transaction, a switch to the algorithm that follows `alg` in the cycle.
+/// After each sixteenth transaction, a switch to the algorithm that follows `alg` in the cycle.
 fn put_switch(items: &mut Vec<Item>, alg: &mut Alg, i: usize) -> Result<(), AllocError>
     requires small { i < MOST_TRANSACTIONS }
     requires last { alg.old ≡ switched (i / SWITCH_EVERY) }
-    ensures items { OnOk result (items.new.items ≡ items.old.items ++ switch_behind i) }
+    ensures items { OnOk result (items.new.items ≡ items.old.items ++ switch_after i) }
     ensures alg { OnOk result (alg.new ≡ switched ((i + 1) / SWITCH_EVERY)) }
 {
     if i % SWITCH_EVERY == 15 {

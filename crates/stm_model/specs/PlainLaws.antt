@@ -52,7 +52,7 @@ pub openings-length : (ws : List PlainWord) → length (openings ws) ≡ length 
 openings-length [] = refl
 openings-length (w ∷ ws) = ap suc (openings-length ws)
 
--- the opening values explain the reads of the words behind them
+-- the opening values explain the reads of the words after them
 openings-explain : (m : List ℕ) (i : ℕ) (ws : List PlainWord) → ((a k : ℕ) → a ≡ i + k → k < length ws → get_or m a 0 ≡ get_or (openings ws) k 0) → Explains m (reads_from i ws)
 openings-explain m i [] h = tt
 openings-explain m i (w ∷ ws) h = (h i 0 (omega arith) (omega arith), openings-explain m (suc i) ws (λ a k e lt. h a (suc k) (omega arith) (omega arith)))

@@ -7,6 +7,6 @@ pub record LimitsAre : Type 0 where
   -- how many outcomes a window has, and how many are counted
   pub window : WINDOW ≡ 16
   pub since : MOST_SINCE ≡ 65536
-  -- the greatest number behind `round:`, and behind `state:`
+  -- the greatest number after `round:`, and after `state:`
   pub round : MOST_ROUND ≡ 65536
   pub state : MOST_STATE ≡ 16

@@ -11,7 +11,7 @@ policy_word (Round n) = codes "round:" ++ decimal n
 policy_word Expert = codes "expert"
 policy_word (State n) = codes "state:" ++ decimal n
 
--- a number that stands behind the name of a policy
+-- a number that stands after the name of a policy
 abbrev pub IsUpTo : ℕ → ℕ → Type 0
 IsUpTo most n = (1 ≤ n) × (n ≤ most)
 

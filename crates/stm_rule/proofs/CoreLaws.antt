@@ -8,29 +8,29 @@ use Rattle.rule_base.specs.BridgeLemmas.{words_of-zeros}
 use Rattle.rule_base.specs.HistoryLemmas.{inside-more, small-more}
 use Rattle.stm_model.specs.Configs.{IsConfig}
 use Rattle.rule_base.specs.History.{member}
-use Rattle.rule_base.specs.StepKinds.{StepKind, Outcome, Advances, world_after}
+use Rattle.rule_base.specs.StepKinds.{StepKind, StepOutcome, Advances, world_after}
 use Rattle.rule_base.specs.declared.views.View.{View}
 use Rattle.rule_base.specs.World.{World}
-use Rattle.rule_seq.specs.CglRuns.CglStep.{acquires_lock, loads_start, loads_heap, stores_heap, stores_clock, frees_lock, loads_undo, loads_limit, takes_back}
+use Rattle.rule_seq.specs.CglRuns.CglStep.{acquires_lock, loads_start, loads_heap, stores_heap, stores_clock, frees_lock, loads_undo, loads_limit, stores_back}
 use Rattle.rule_seq.specs.TmlRuns.TmlStep.{tml_begins, tml_loads, tml_agains, tml_writes, tml_stores, tml_commits}
 use Rattle.stm_rule.specs.CoreRuns.{CoreStep, core_kind, CoreMay, CoreOpens, CoreCommits, CoreInstalls, CorePromotes, CoreRings, one_of_each, two_by_ring}
-use Rattle.stm_rule.specs.CoreRuns.CoreStep.{announces, loads_gate, departs, aims, takes_gate, checks, reopens, settles, evens_clock, stores_base, stores_done, installs, of_cgl, of_tml, looks_gate, seizes, grants, direct_loads, direct_stores, direct_commits, direct_lifts, direct_ups, returns, fences, fence_loads, fence_stores, fence_commits, unfences, hears, loads_end, of_ring, look_grants, move_grants, of_orec, orec_grants, orec_grants_all, direct_releases}
-use Rattle.rule_orec.specs.OrecRuns.OrecStep.{orec_begins, orec_samples, orec_loads, orec_confirms, orec_clocks, orec_clocks_all, orec_passes, orec_lasts, orec_looks, orec_limits, orec_locks, orec_commits, orec_writes_back, orec_times, orec_olds, orec_ups, orec_own_loads, orec_saves, orec_places, orec_restores, orec_lifts}
+use Rattle.stm_rule.specs.CoreRuns.CoreStep.{announces, loads_gate, departs, aims, takes_gate, checks, reopens, settles, evens_clock, stores_base, stores_done, installs, of_cgl, of_tml, looks_gate, seizes, grants, direct_loads, direct_stores, direct_commits, direct_raises_clock, direct_ups, returns, fences, fence_loads, fence_stores, fence_commits, unfences, hears, loads_end, of_ring, look_grants, move_grants, of_orec, orec_grants, orec_grants_all, direct_releases}
+use Rattle.rule_orec.specs.OrecRuns.OrecStep.{orec_begins, orec_samples, orec_loads, orec_confirms, orec_clocks, orec_clocks_all, orec_passes, orec_lasts, orec_looks, orec_limits, orec_locks, orec_commits, orec_writes_back, orec_times, orec_olds, orec_ups, orec_own_loads, orec_saves, orec_places, orec_restores, orec_raises_clock}
 use Rattle.stm_rule.specs.FencingLaws as fencing
 use Rattle.stm_rule.specs.GivingLaws as giving
 use Rattle.stm_rule.specs.Lifted as lifted
 use Rattle.rule_ring.specs.SlotFilter.{slot_filter}
 use Rattle.rule_ring.specs.RingSteps.{ring_word, ring_again, ring_slot}
 use Rattle.rule_ring.specs.RingRuns.RingStep.{ring_begins, ring_loads, ring_looks, ring_words, ring_agains, ring_moves, ring_locks, ring_ticks, ring_slots, ring_enters, ring_writes, ring_dones, ring_frees}
-use Rattle.stm_rule.specs.Product.{Whole}
+use Rattle.stm_rule.specs.Product.{Invariant}
 use Rattle.stm_rule.proofs.Taken.{◌▸◌, may-install}
-use Rattle.stm_rule.proofs.Opens.{whole_opens, opening_lies}
+use Rattle.stm_rule.proofs.Opens.{invariant_opens, opening_lies}
 
 -- what every law of a kind gives
-kept_by : {Rule : World → Type 0} {kind : StepKind} {shows : World → View → ℕ → Type 0} {n : ℕ} {w : World} → Outcome Rule kind shows n w → Rule (world_after kind n w) × Advances w (world_after kind n w)
+kept_by : {Rule : World → Type 0} {kind : StepKind} {shows : World → View → ℕ → Type 0} {n : ℕ} {w : World} → StepOutcome Rule kind shows n w → Rule (world_after kind n w) × Advances w (world_after kind n w)
 kept_by o = (o.rule, o.advances)
 
-pub one_step : (good : (ℕ → ℕ) → Type 0) (c : Config) (n : ℕ) (s : CoreStep) (w : World) → Whole good c w → CoreMay good c n s (w.views n) → Whole good c (world_after (core_kind n s) n w) × Advances w (world_after (core_kind n s) n w)
+pub one_step : (good : (ℕ → ℕ) → Type 0) (c : Config) (n : ℕ) (s : CoreStep) (w : World) → Invariant good c w → CoreMay good c n s (w.views n) → Invariant good c (world_after (core_kind n s) n w) × Advances w (world_after (core_kind n s) n w)
 one_step good c n announces w r m = kept_by (lifted.announces good c n m.0 w r m.1)
 one_step good c n loads_gate w r m = kept_by (lifted.loads_gate good c n w r m.1)
 one_step good c n departs w r m = kept_by (lifted.departs good c n w r m.1)
@@ -51,7 +51,7 @@ one_step good c n (of_cgl (stores_clock t)) w r m = kept_by (lifted.stores_clock
 one_step good c n (of_cgl frees_lock) w r m = kept_by (lifted.frees_lock good c n w r m.1)
 one_step good c n (of_cgl (loads_undo a)) w r m = kept_by (lifted.loads_undo good c n a w r m.1)
 one_step good c n (of_cgl (loads_limit fix)) w r m = kept_by (lifted.loads_limit good c n fix w r m.1)
-one_step good c n (of_cgl (takes_back a x)) w r m = kept_by (lifted.takes_back good c n a x w r m.1)
+one_step good c n (of_cgl (stores_back a x)) w r m = kept_by (lifted.stores_back good c n a x w r m.1)
 one_step good c n (of_tml tml_begins) w r m = kept_by (lifted.tml_begins good c n w r m.1)
 one_step good c n (of_tml (tml_loads a)) w r m = kept_by (lifted.tml_loads good c n a w r m.1)
 one_step good c n (of_tml tml_agains) w r m = kept_by (lifted.tml_agains good c n w r m.1)
@@ -61,12 +61,12 @@ one_step good c n (of_tml (tml_commits t)) w r m = kept_by (lifted.tml_commits g
 one_step good c n (of_ring ring_begins) w r m = kept_by (lifted.ring_begins good c n w r m.1)
 one_step good c n (of_ring (ring_loads a)) w r m = kept_by (lifted.ring_loads good c n a w r m.1)
 one_step good c n (of_ring ring_looks) w r m = kept_by (lifted.ring_looks good c n w r m.1)
-one_step good c n (of_ring (ring_words k e i)) w r m = subst (λ (q : ℕ). Whole good c (world_after (ring_word q e i) n w) × Advances w (world_after (ring_word q e i) n w)) (sym m.1.0) (kept_by (lifted.ring_words good c n e i w r m.1.1))
-one_step good c n (of_ring (ring_agains k)) w r m = subst (λ (q : ℕ). Whole good c (world_after (ring_again q) n w) × Advances w (world_after (ring_again q) n w)) (sym m.1.0) (kept_by (lifted.ring_agains good c n w r m.1.1))
+one_step good c n (of_ring (ring_words k e i)) w r m = subst (λ (q : ℕ). Invariant good c (world_after (ring_word q e i) n w) × Advances w (world_after (ring_word q e i) n w)) (sym m.1.0) (kept_by (lifted.ring_words good c n e i w r m.1.1))
+one_step good c n (of_ring (ring_agains k)) w r m = subst (λ (q : ℕ). Invariant good c (world_after (ring_again q) n w) × Advances w (world_after (ring_again q) n w)) (sym m.1.0) (kept_by (lifted.ring_agains good c n w r m.1.1))
 one_step good c n (of_ring ring_moves) w r m = kept_by (lifted.ring_moves good c n w r m.1)
 one_step good c n (of_ring ring_locks) w r m = kept_by (lifted.ring_locks good c n w r m.1)
 one_step good c n (of_ring ring_ticks) w r m = kept_by (lifted.ring_ticks good c n w r m.1)
-one_step good c n (of_ring (ring_slots k e i ws)) w r m = subst (λ (q : ℕ). Whole good c (world_after (ring_slot slot_filter q e i ws) n w) × Advances w (world_after (ring_slot slot_filter q e i ws) n w)) (sym m.1.0) (kept_by (lifted.ring_slots good c n e i ws w r m.1.1))
+one_step good c n (of_ring (ring_slots k e i ws)) w r m = subst (λ (q : ℕ). Invariant good c (world_after (ring_slot slot_filter q e i ws) n w) × Advances w (world_after (ring_slot slot_filter q e i ws) n w)) (sym m.1.0) (kept_by (lifted.ring_slots good c n e i ws w r m.1.1))
 one_step good c n (of_ring (ring_enters t)) w r m = kept_by (lifted.ring_enters good c n t m.0 w r m.1)
 one_step good c n (of_ring (ring_writes a x)) w r m = kept_by (lifted.ring_writes good c n a x w r m.1)
 one_step good c n (of_ring (ring_dones t)) w r m = kept_by (lifted.ring_dones good c n t w r m.1)
@@ -91,7 +91,7 @@ one_step good c n (of_orec (orec_own_loads a)) w g m = kept_by (lifted.orec_own_
 one_step good c n (of_orec (orec_saves a)) w g m = kept_by (lifted.orec_saves good c n a w g m.1)
 one_step good c n (of_orec (orec_places a x)) w g m = kept_by (lifted.orec_places good c n a x w g m.1)
 one_step good c n (of_orec (orec_restores a x)) w g m = kept_by (lifted.orec_restores good c n a x w g m.1)
-one_step good c n (of_orec (orec_lifts least)) w g m = kept_by (lifted.orec_lifts good c n least m.0 w g m.1)
+one_step good c n (of_orec (orec_raises_clock least)) w g m = kept_by (lifted.orec_raises_clock good c n least m.0 w g m.1)
 one_step good c n looks_gate w r m = kept_by (lifted.looks_gate good c n w r m.1)
 one_step good c n (seizes fence alg) w r m = kept_by (lifted.seizes good c n fence alg w r m.1)
 one_step good c n grants w r m = kept_by (lifted.grants good c n w r m.1)
@@ -103,7 +103,7 @@ one_step good c n (direct_releases q t) w r m = kept_by (lifted.direct_releases 
 one_step good c n (direct_loads a) w r m = kept_by (lifted.direct_loads good c n a w r m.1)
 one_step good c n (direct_stores a x) w r m = kept_by (lifted.direct_stores good c n a x w r m.1)
 one_step good c n (direct_commits alg t) w r m = kept_by (lifted.direct_commits good c n alg t m.0 w r m.1)
-one_step good c n (direct_lifts least) w r m = kept_by (lifted.direct_lifts good c n least m.0 w r m.1)
+one_step good c n (direct_raises_clock least) w r m = kept_by (lifted.direct_raises_clock good c n least m.0 w r m.1)
 one_step good c n (direct_ups q version) w r m = kept_by (lifted.direct_ups good c n q version w r m.1)
 one_step good c n (returns fence alg) w r m = kept_by (lifted.returns good c n fence alg w r m.1)
 one_step good c n (fences from count alg) w r m = kept_by (fencing.fences good c n from count alg w r m.1)
@@ -115,7 +115,7 @@ one_step good c n hears w r m = kept_by (lifted.hears good c n w r m.1)
 one_step good c n loads_end w r m = kept_by (lifted.loads_end good c n w r m.1)
 
 pub core_opens_lem : (good : List ℕ → Type 0) (c : Config) → IsConfig c → good (replicate c.words 0) → CoreOpens (of_words good c.words) c
-core_opens_lem good c config start = (whole_opens (of_words good c.words) c config (subst good (sym (words_of-zeros c.words)) start), opening_lies c)
+core_opens_lem good c config start = (invariant_opens (of_words good c.words) c config (subst good (sym (words_of-zeros c.words)) start), opening_lies c)
 
 pub core_commits_lem : (good : (ℕ → ℕ) → Type 0) (c : Config) → CoreCommits good c
 core_commits_lem good c a x callers clock inside small keeps = (
@@ -138,9 +138,9 @@ core_promotes_lem good c x inside small keeps = (
       (omega arith, record { runs = record { phase = refl; algorithm = refl; plain = refl }; outside = refl; unwritten = refl })
       ▸ (omega arith, (record { has = record { runs = record { phase = refl; algorithm = refl; plain = refl }; inside = refl }; inside = inside }, fenced-none 0))
       ▸ (omega arith, record { has = record { runs = record { phase = refl; algorithm = refl; plain = refl }; inside = refl }; reads = refl })
-      ▸ (omega arith, record { has = record { runs = record { phase = refl; algorithm = refl; plain = refl }; inside = refl }; reads = refl; start = refl; limit = omega arith; settled = refl; uncalm = refl })
+      ▸ (omega arith, record { has = record { runs = record { phase = refl; algorithm = refl; plain = refl }; inside = refl }; reads = refl; start = refl; limit = omega arith; settled = refl; not_quiescent = refl })
       ▸ (omega arith, (record { has = record { runs = record { phase = refl; algorithm = refl; plain = refl }; inside = refl }; writes = refl; inside = inside; small = small }, fenced-none 0))
-      ▸ (omega arith, record { has = record { runs = record { phase = refl; algorithm = refl; plain = refl }; inside = refl }; writes = refl; uncalm = refl; time = refl; limit = omega arith; wrote = λ e. cc; keeps = keeps 0 })
+      ▸ (omega arith, record { has = record { runs = record { phase = refl; algorithm = refl; plain = refl }; inside = refl }; writes = refl; not_quiescent = refl; time = refl; limit = omega arith; wrote = λ e. cc; keeps = keeps 0 })
       ▸ (omega arith, record { phase = refl; reopened = λ e. refl; unlocked = refl; disowned = refl; unwritten = refl; uncommitted = refl; unentered = λ e. refl })
       ▸ (omega arith, refl)
       ▸ (omega arith, refl)
@@ -151,8 +151,8 @@ core_promotes_lem good c x inside small keeps = (
       ▸ (omega arith, (record { granted = refl; inside = inside }, fenced-none 0))
       ▸ (omega arith, (record { granted = refl; inside = inside; small = small }, fenced-none 0))
       ▸ (omega arith, record { phase = refl; granted = refl; named = refl; time = refl; limit = omega arith; wrote = λ e. cc; keeps = keeps x })
-      ▸ (omega arith, record { closing = λ e. absurd cc; calm = refl; time = refl })
-      ▸ (omega arith, record { closing = λ e. absurd cc; calm = refl; time = refl })
+      ▸ (omega arith, record { closing = λ e. absurd cc; quiescent = refl; time = refl })
+      ▸ (omega arith, record { closing = λ e. absurd cc; quiescent = refl; time = refl })
       ▸ (omega arith, record { phase = refl; holds = refl; named = refl; spared = refl; marked = λ e. (refl, refl); unstored = refl; unlocked = refl; disowned = refl; unwritten = refl; uncommitted = refl; plain = λ e. absurd cc })
       ▸ (omega arith, record { phase = refl; reopened = λ e. refl; unlocked = refl; disowned = refl; unwritten = refl; uncommitted = refl; unentered = λ e. refl })
       ▸ (omega arith, refl)
@@ -160,9 +160,9 @@ core_promotes_lem good c x inside small keeps = (
       ▸ (omega arith, record { phase = refl; aimed = refl })
       ▸ (omega arith, record { phase = refl; reopened = λ e. absurd cc; unlocked = refl; disowned = refl; unwritten = refl; uncommitted = refl; unentered = λ e. refl })
       ▸ (omega arith, record { holds = refl; quiet = λ k l o. absurd (o (omega arith)) })
-      ▸ (omega arith, record { closing = λ e. refl; calm = refl; time = refl })
-      ▸ (omega arith, record { closing = λ e. refl; calm = refl; time = refl })
-      ▸ (omega arith, record { phase = refl; guarded = refl; ungiven = refl; calm = refl; rebased = refl; completed = refl; even = λ e. absurd cc })
+      ▸ (omega arith, record { closing = λ e. refl; quiescent = refl; time = refl })
+      ▸ (omega arith, record { closing = λ e. refl; quiescent = refl; time = refl })
+      ▸ (omega arith, record { phase = refl; guarded = refl; ungiven = refl; quiescent = refl; rebased = refl; completed = refl; even = λ e. absurd cc })
       ▸ (omega arith, record { phase = refl; absent = refl; named = refl; guarded = refl; ungiven = refl; unentered = refl })
       ▸ (omega arith, refl)
       ▸ (omega arith, refl)
@@ -192,12 +192,12 @@ core_installs_lem good c = (
       ▸ (omega arith, record { phase = refl; reopened = λ e. absurd cc; unlocked = refl; disowned = refl; unwritten = refl; uncommitted = refl; unentered = λ e. refl })
       ▸ (omega arith, record { holds = refl; other = λ e. cc })
       ▸ (omega arith, record { holds = refl; quiet = seen })
-      ▸ (omega arith, record { closing = λ e. refl; calm = refl; time = refl })
-      ▸ (omega arith, record { closing = λ e. refl; calm = refl; time = refl })
-      ▸ (omega arith, record { phase = refl; guarded = refl; ungiven = refl; calm = refl; rebased = refl; completed = refl; even = λ e. absurd cc })
+      ▸ (omega arith, record { closing = λ e. refl; quiescent = refl; time = refl })
+      ▸ (omega arith, record { closing = λ e. refl; quiescent = refl; time = refl })
+      ▸ (omega arith, record { phase = refl; guarded = refl; ungiven = refl; quiescent = refl; rebased = refl; completed = refl; even = λ e. absurd cc })
       ▸ tt,
   record { closing = refl; checked = seen },
-  record { calm = refl; rebased = refl; completed = refl },
+  record { quiescent = refl; rebased = refl; completed = refl },
 )
   where
     -- the other of two callers is caller 1
@@ -243,11 +243,11 @@ core_rings_lem good c x inside small keeps = (
       ▸ (omega arith, refl)
       ▸ (omega arith, record { phase = refl; named = refl; spared = refl; free = refl })
       ▸ (omega arith, record { holds = refl; quiet = λ k l o. absurd (o (omega arith)) })
-      ▸ (omega arith, record { has = record { runs = record { phase = refl; algorithm = refl; plain = refl }; inside = refl }; calm = refl; limit = omega arith; unlocked = refl; uncommitted = refl; unwritten = refl })
+      ▸ (omega arith, record { has = record { runs = record { phase = refl; algorithm = refl; plain = refl }; inside = refl }; quiescent = refl; limit = omega arith; unlocked = refl; uncommitted = refl; unwritten = refl })
       ▸ (omega arith, (record { granted = refl; inside = inside; small = small }, fenced-none 0))
       ▸ (omega arith, record { phase = refl; granted = refl; named = refl; time = refl; limit = omega arith; wrote = λ e. cc; keeps = keeps x })
-      ▸ (omega arith, record { closing = λ e. absurd cc; calm = refl; time = refl })
-      ▸ (omega arith, record { closing = λ e. absurd cc; calm = refl; time = refl })
+      ▸ (omega arith, record { closing = λ e. absurd cc; quiescent = refl; time = refl })
+      ▸ (omega arith, record { closing = λ e. absurd cc; quiescent = refl; time = refl })
       ▸ (omega arith, record { phase = refl; holds = refl; named = refl; spared = refl; marked = λ e. (refl, refl); unstored = refl; unlocked = refl; disowned = refl; unwritten = refl; uncommitted = refl; plain = λ e. absurd cc })
       ▸ (omega arith, record { phase = refl; reopened = λ e. refl; unlocked = refl; disowned = refl; unwritten = refl; uncommitted = refl; unentered = λ e. refl })
       ▸ tt

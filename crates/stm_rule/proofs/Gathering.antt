@@ -16,8 +16,8 @@ use Rattle.rule_base.specs.declared.views.Phase.TheVariants.{Idle, In, Closing}
 use Rattle.rule_base.specs.declared.views.Steps.{Steps}
 use Rattle.rule_base.specs.declared.views.View.{View}
 use Rattle.rule_base.specs.Encodings.{fence_of, fence_owner}
-use Rattle.rule_base.specs.Fence.{veiled, veil}
-use Rattle.rule_base.specs.FenceLaws.{veiled-none}
+use Rattle.rule_base.specs.Fence.{heap_without_fence, without_fence}
+use Rattle.rule_base.specs.FenceLaws.{heap_without_fence-none}
 use Rattle.rule_base.specs.Encodings.{alg_of, holder_of}
 use Rattle.rule_base.specs.History.{word_now}
 use Rattle.rule_base.specs.HistoryLemmas.{merged, made_by-none}
@@ -30,9 +30,9 @@ use Rattle.stm_rule.specs.Closings.{shown, installs_of, installs_by, installs_fr
 use Rattle.rule_base.specs.Regime.{mode_of, Regime}
 use Rattle.rule_base.specs.Regime.Mode.{Plain}
 use Rattle.rule_base.specs.RegimeLemmas.{plain-mode, regime-running}
-use Rattle.rule_base.specs.RunScene.{run_scene}
+use Rattle.rule_base.specs.RunProjection.{run_projection}
 use Rattle.stm_rule.specs.Frames.{ungranted-out, ungiven-out, owner-holds}
-use Rattle.stm_rule.specs.Product.{Runs, Core, Whole}
+use Rattle.stm_rule.specs.Product.{Runs, Core, Invariant}
 use Rattle.stm_rule.specs.Running.{at-rest}
 
 module _ {K : Type 0} where
@@ -142,7 +142,7 @@ installs_found f (g ∷ gs) k v all h = ⊎_elim
 
 -- while all callers are idle, and where there is no fence, the memory lies in the heap
 bare_rests : (good : (ℕ → ℕ) → Type 0) (c : Config) (w : World) → Core good c w → ((k : ℕ) → k < c.callers → (w.views k).gate.phase ≡ Idle) → (a : ℕ) → w.heap a ≡ word_now w.history a
-bare_rests good c w g idle = (at-rest c (alg_of w.gate) (run_scene w) (subst (λ (r : Regime). Runs c r (run_scene w)) (regime-running w ungranted) g.running) (free w.lock refl) (λ m t. let o : (w.views m).gate.phase ≡ In = g.attempts.busy m (busy-writer (w.views m) t) in let i = out m in cc) (λ m t. let o : (w.views m).gate.phase ≡ In = g.attempts.busy m (busy-turn (w.views m) t) in let i = out m in cc) (λ has r m e. let o : (w.views m).gate.phase ≡ In = g.records.inside m r (owner-holds good c w g r m e) in let i = out m in cc)).0
+bare_rests good c w g idle = (at-rest c (alg_of w.gate) (run_projection w) (subst (λ (r : Regime). Runs c r (run_projection w)) (regime-running w ungranted) g.running) (free w.lock refl) (λ m t. let o : (w.views m).gate.phase ≡ In = g.attempts.busy m (busy-writer (w.views m) t) in let i = out m in cc) (λ m t. let o : (w.views m).gate.phase ≡ In = g.attempts.busy m (busy-turn (w.views m) t) in let i = out m in cc) (λ has r m e. let o : (w.views m).gate.phase ≡ In = g.records.inside m r (owner-holds good c w g r m e) in let i = out m in cc)).0
   where
     out : (k : ℕ) → (w.views k).gate.phase ≡ Idle
     out k = ⊎_elim (λ (t : (leb c.callers k ≡ true) × (c.callers ≤ k)). g.gate.far k t.1) (λ (t : (leb c.callers k ≡ false) × (k < c.callers)). idle k t.1) (leb_tells c.callers k)
@@ -155,8 +155,8 @@ bare_rests good c w g idle = (at-rest c (alg_of w.gate) (run_scene w) (subst (λ
     ungranted n h = plain-mode (w.views n).gate (ungranted-out good c w n g (λ e. let i = out n in let k : Idle ≡ In = sym i ∙ e in cc)) (ungiven-out good c w n g (λ e. let i = out n in let k : Idle ≡ Closing = sym i ∙ e in cc))
 
 -- and where nobody has a fence
-pub rests : (good : (ℕ → ℕ) → Type 0) (c : Config) (w : World) → Whole good c w → ((k : ℕ) → k < c.callers → (w.views k).gate.phase ≡ Idle) → ((k : ℕ) → k < c.callers → c.fence ≡ true → (w.views k).fence.holds ≡ false) → (a : ℕ) → w.heap a ≡ word_now w.history a
-rests good c w g idle free a = sym (ap (λ (f : ℕ → ℕ). f a) (ap (λ k. veiled k w.heap w.history) none ∙ veiled-none w.heap w.history)) ∙ bare_rests good c (veil w) g.core idle a
+pub rests : (good : (ℕ → ℕ) → Type 0) (c : Config) (w : World) → Invariant good c w → ((k : ℕ) → k < c.callers → (w.views k).gate.phase ≡ Idle) → ((k : ℕ) → k < c.callers → c.fence ≡ true → (w.views k).fence.holds ≡ false) → (a : ℕ) → w.heap a ≡ word_now w.history a
+rests good c w g idle free a = sym (ap (λ (f : ℕ → ℕ). f a) (ap (λ k. heap_without_fence k w.heap w.history) none ∙ heap_without_fence-none w.heap w.history)) ∙ bare_rests good c (without_fence w) g.core idle a
   where
     by : c.fence ≡ true → (k : ℕ) → fence_owner (fence_of w.gate) ≡ k → fence_of w.gate ≡ 0
     by on zero e = g.fence.none e
@@ -170,7 +170,7 @@ rests good c w g idle free a = sym (ap (λ (f : ℕ → ℕ). f a) (ap (λ k. ve
         off false e = g.fence.off e
 
 -- two worlds whose callers made the same have one history
-pub same_history : (good : (ℕ → ℕ) → Type 0) (c : Config) (w x : World) → Whole good c w → Whole good c x → ((k : ℕ) → k < c.callers → (x.views k).history.made ≡ (w.views k).history.made) → x.history ≡ w.history
+pub same_history : (good : (ℕ → ℕ) → Type 0) (c : Config) (w x : World) → Invariant good c w → Invariant good c x → ((k : ℕ) → k < c.callers → (x.views k).history.made ≡ (w.views k).history.made) → x.history ≡ w.history
 same_history good c w x g h same = merged x.history w.history (x.clock + 1) (w.clock + 1) h.core.history.below g.core.history.below (λ n. ⊎_elim
     (λ (t : (leb c.callers n ≡ true) × (c.callers ≤ n)). made_by-none good c x.history n t.1 h.core.history.legal ∙ sym (made_by-none good c w.history n t.1 g.core.history.legal))
     (λ (t : (leb c.callers n ≡ false) × (n < c.callers)). sym (h.core.history.known n).made ∙ same n t.1 ∙ (g.core.history.known n).made)

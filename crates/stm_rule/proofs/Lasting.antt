@@ -10,16 +10,16 @@ use Rattle.rule_base.specs.PutLemmas.{put-else}
 use Rattle.rule_base.specs.Rest.{IsQuiet}
 use Rattle.rule_base.specs.StepKinds.{answer, view_after, world_after}
 use Rattle.rule_base.specs.World.{World}
-use Rattle.rule_seq.specs.CglRuns.CglStep.{acquires_lock, loads_start, loads_heap, stores_heap, stores_clock, frees_lock, loads_undo, loads_limit, takes_back}
+use Rattle.rule_seq.specs.CglRuns.CglStep.{acquires_lock, loads_start, loads_heap, stores_heap, stores_clock, frees_lock, loads_undo, loads_limit, stores_back}
 use Rattle.rule_seq.specs.TmlRuns.TmlStep.{tml_begins, tml_loads, tml_agains, tml_writes, tml_stores, tml_commits}
 use Rattle.rule_ring.specs.RingRuns.RingStep.{ring_begins, ring_loads, ring_looks, ring_words, ring_agains, ring_moves, ring_locks, ring_ticks, ring_slots, ring_enters, ring_writes, ring_dones, ring_frees}
 use Rattle.stm_rule.specs.CoreRuns.{CoreStep, core_kind, CoreMay}
-use Rattle.stm_rule.specs.CoreRuns.CoreStep.{announces, loads_gate, departs, aims, takes_gate, checks, reopens, settles, evens_clock, stores_base, stores_done, installs, of_cgl, of_tml, of_ring, looks_gate, seizes, grants, look_grants, move_grants, direct_loads, direct_stores, direct_commits, direct_lifts, direct_ups, returns, fences, fence_loads, fence_stores, fence_commits, unfences, hears, loads_end, of_orec, orec_grants, orec_grants_all, direct_releases}
-use Rattle.stm_rule.specs.Product.{Whole}
+use Rattle.stm_rule.specs.CoreRuns.CoreStep.{announces, loads_gate, departs, aims, takes_gate, checks, reopens, settles, evens_clock, stores_base, stores_done, installs, of_cgl, of_tml, of_ring, looks_gate, seizes, grants, look_grants, move_grants, direct_loads, direct_stores, direct_commits, direct_raises_clock, direct_ups, returns, fences, fence_loads, fence_stores, fence_commits, unfences, hears, loads_end, of_orec, orec_grants, orec_grants_all, direct_releases}
+use Rattle.stm_rule.specs.Product.{Invariant}
 use Rattle.stm_rule.specs.Quiescence.{RestLasts, GrantedLasts}
 use Rattle.stm_rule.specs.RestLaws.{quiet-rests, granted-rests}
-use Rattle.rule_orec.specs.OrecRuns.OrecStep.{orec_begins, orec_samples, orec_loads, orec_confirms, orec_clocks, orec_clocks_all, orec_passes, orec_lasts, orec_looks, orec_limits, orec_locks, orec_commits, orec_writes_back, orec_times, orec_olds, orec_ups, orec_own_loads, orec_saves, orec_places, orec_restores, orec_lifts}
-use Rattle.rule_base.specs.Fence.{veil}
+use Rattle.rule_orec.specs.OrecRuns.OrecStep.{orec_begins, orec_samples, orec_loads, orec_confirms, orec_clocks, orec_clocks_all, orec_passes, orec_lasts, orec_looks, orec_limits, orec_locks, orec_commits, orec_writes_back, orec_times, orec_olds, orec_ups, orec_own_loads, orec_saves, orec_places, orec_restores, orec_raises_clock}
+use Rattle.rule_base.specs.Fence.{without_fence}
 use Rattle.stm_rule.specs.FencedRest.{rest-of, at-rest-of}
 use Rattle.stm_rule.proofs.CoreLaws.{one_step}
 
@@ -28,7 +28,7 @@ module _ (good : (ℕ → ℕ) → Type 0) (c : Config) where
   Stands w x = (x.history ≡ w.history) × (x.clock ≡ w.clock)
 
   -- a caller at rest takes no step that adds an entry or stores the clock
-  stands : (m : ℕ) (s : CoreStep) (w : World) → Whole good c w → ((w.views m).gate.phase ≡ In → ⊥) → ((w.views m).gate.phase ≡ Closing → ⊥) → CoreMay good c m s (w.views m) → Stands w (world_after (core_kind m s) m w)
+  stands : (m : ℕ) (s : CoreStep) (w : World) → Invariant good c w → ((w.views m).gate.phase ≡ In → ⊥) → ((w.views m).gate.phase ≡ Closing → ⊥) → CoreMay good c m s (w.views m) → Stands w (world_after (core_kind m s) m w)
   stands m announces w g out apart may = (refl, refl)
   stands m loads_gate w g out apart may = (refl, refl)
   stands m departs w g out apart may = (refl, refl)
@@ -49,7 +49,7 @@ module _ (good : (ℕ → ℕ) → Type 0) (c : Config) where
   stands m (of_cgl frees_lock) w g out apart may = (refl, refl)
   stands m (of_cgl (loads_undo a)) w g out apart may = (refl, refl)
   stands m (of_cgl (loads_limit fix)) w g out apart may = (refl, refl)
-  stands m (of_cgl (takes_back a x)) w g out apart may = (refl, refl)
+  stands m (of_cgl (stores_back a x)) w g out apart may = (refl, refl)
   stands m (of_tml tml_begins) w g out apart may = (refl, refl)
   stands m (of_tml (tml_loads a)) w g out apart may = (refl, refl)
   stands m (of_tml tml_agains) w g out apart may = (refl, refl)
@@ -89,7 +89,7 @@ module _ (good : (ℕ → ℕ) → Type 0) (c : Config) where
   stands m (of_orec (orec_saves a)) w g out apart may = (refl, refl)
   stands m (of_orec (orec_places a x)) w g out apart may = (refl, refl)
   stands m (of_orec (orec_restores a x)) w g out apart may = (refl, refl)
-  stands m (of_orec (orec_lifts least)) w g out apart may = absurd (out may.1.has.runs.phase)
+  stands m (of_orec (orec_raises_clock least)) w g out apart may = absurd (out may.1.has.runs.phase)
   stands m looks_gate w g out apart may = (refl, refl)
   stands m (seizes fence alg) w g out apart may = (refl, refl)
   stands m grants w g out apart may = (refl, refl)
@@ -101,7 +101,7 @@ module _ (good : (ℕ → ℕ) → Type 0) (c : Config) where
   stands m (direct_loads a) w g out apart may = (refl, refl)
   stands m (direct_stores a x) w g out apart may = (refl, refl)
   stands m (direct_commits alg t) w g out apart may = absurd (out (g.core.install.promoted m may.1.granted).1)
-  stands m (direct_lifts least) w g out apart may = absurd (out (g.core.install.promoted m may.1.granted).1)
+  stands m (direct_raises_clock least) w g out apart may = absurd (out (g.core.install.promoted m may.1.granted).1)
   stands m (direct_ups r version) w g out apart may = (refl, refl)
   stands m (returns fence alg) w g out apart may = (refl, refl)
   stands m (fences from count alg) w g out apart may = (refl, refl)
@@ -121,7 +121,7 @@ module _ (good : (ℕ → ℕ) → Type 0) (c : Config) where
       }
 
   pub rest-lasts : RestLasts good c
-  rest-lasts n w [] g q others allowed = (at-rest-of good c n w g (quiet-rests good c n (veil w) g.core (record { closing = q.closing; checked = q.checked })), refl, refl)
+  rest-lasts n w [] g q others allowed = (at-rest-of good c n w g (quiet-rests good c n (without_fence w) g.core (record { closing = q.closing; checked = q.checked })), refl, refl)
   rest-lasts n w (s ∷ ss) g q others allowed =
       let rest = others-rest c.callers w n q.checked g.core.gate s.0 others.0 in
       let out : (w.views s.0).gate.phase ≡ In → ⊥ = λ e. (let p : false ≡ true = sym (ap rests e) ∙ rest in cc) in
@@ -131,7 +131,7 @@ module _ (good : (ℕ → ℕ) → Type 0) (c : Config) where
       (on.0, on.1 ∙ here.0, on.2 ∙ here.1)
 
   pub granted-lasts : GrantedLasts good c
-  granted-lasts n w [] g granted others allowed = (rest-of good c n w g (granted-rests good c n (veil w) g.core granted), refl, refl)
+  granted-lasts n w [] g granted others allowed = (rest-of good c n w g (granted-rests good c n (without_fence w) g.core granted), refl, refl)
   granted-lasts n w (s ∷ ss) g granted others allowed =
       let apart = others-rest c.callers w n (λ k low other. g.core.install.alone n k (g.core.install.promoted n granted).0 low other) g.core.gate s.0 others.0 in
       let out : (w.views s.0).gate.phase ≡ In → ⊥ = λ e. (let p : false ≡ true = sym (ap rests e) ∙ apart in cc) in

@@ -3,7 +3,7 @@ use Rattle.std.proofs.Common.{ℕ, zero, suc, ◌<◌, List, [], ◌∷◌, leng
 use Rattle.stm_model.specs.declared.config.Config.{Config}
 use Rattle.rule_base.specs.declared.views.SeenHistory.{SeenHistory}
 use Rattle.rule_base.specs.declared.views.View.{View}
-use Rattle.rule_base.specs.Fence.{veil}
+use Rattle.rule_base.specs.Fence.{without_fence}
 use Rattle.stm_rule.specs.Lifting.{learns-whole, loads_seat-whole}
 use Rattle.rule_base.specs.SeatLemmas.{seen-later}
 use Rattle.rule_base.specs.Seating.{IsSeen}
@@ -40,7 +40,7 @@ module _ (good : (ℕ → ℕ) → Type 0) (c : Config) where
       let o = one_step good c n step x.world r.rule may in
       record { rule = o.0; seen = all_later x.world (world_after (core_kind n step) n x.world) x.notes o.1 r.seen }
   one_deed n tells x r may =
-      let s = laws.tells good c n (veil x.world) r.rule.core may in
+      let s = laws.tells good c n (without_fence x.world) r.rule.core may in
       record {
         rule = loads_seat-whole good c n x.world r.rule;
         seen = (record { front = s.front; within = s.within; seen = s.seen }, all_put x.world (after_load n x.world).views x.notes r.seen);

@@ -13,12 +13,12 @@ use Rattle.stm_model.specs.declared.config.TheConstants.{MAX_WORDS, MAX_RECORDS,
 use Rattle.rule_base.specs.declared.seats.Role.TheVariants.{Dealer, Note}
 use Rattle.rule_base.specs.declared.seats.SeatView.{SeatView}
 use Rattle.rule_base.specs.EncodingLemmas.{fenced-none}
-use Rattle.rule_base.specs.Fence.{fence_scene, FenceRule}
-use Rattle.rule_base.specs.FenceLaws.{veiled-none}
+use Rattle.rule_base.specs.Fence.{fence_projection, FenceRule}
+use Rattle.rule_base.specs.FenceLaws.{heap_without_fence-none}
 use Rattle.rule_base.specs.BridgeLemmas.{words_of-zeros}
-use Rattle.rule_base.specs.GateRule.{gate_scene, GateRule}
-use Rattle.rule_base.specs.InstallRule.{install_scene, InstallRule}
-use Rattle.rule_base.specs.RecordRule.{record_scene, RecordRule}
+use Rattle.rule_base.specs.GateRule.{gate_projection, GateRule}
+use Rattle.rule_base.specs.InstallRule.{install_projection, InstallRule}
+use Rattle.rule_base.specs.RecordRule.{record_projection, RecordRule}
 use Rattle.rule_base.specs.ListLemmas.{contains-none}
 use Rattle.rule_base.specs.Opening.{first_view, opening_world}
 use Rattle.rule_base.specs.Places.{offset, size, InRange}
@@ -32,7 +32,7 @@ use Rattle.stm_rule.specs.declared.refusal.NewError.TheVariants as faults
 use Rattle.stm_rule.specs.declared.stm.Key.{Key}
 use Rattle.stm_rule.specs.Kept.{good_of, Kept, newcomer}
 use Rattle.stm_rule.specs.Openings.{opening_words}
-use Rattle.stm_rule.specs.Product.{Core, Whole}
+use Rattle.stm_rule.specs.Product.{Core, Invariant}
 use Rattle.stm_rule.specs.Refusals.{in_range, first_fault}
 
 zeros_at : (n k : ℕ) → get_or {A = ℕ} (replicate n 0) k 0 ≡ 0
@@ -64,7 +64,7 @@ opening_lies c =
     let at_base = lies-write c (record (zero_world c) { clock = c.clock }) (set (replicate (size c) 0) (offset c Clock) c.clock) Base c.clock at_clock tt in
     lies-write c (record (zero_world c) { clock = c.clock; base = c.clock }) (set (set (replicate (size c) 0) (offset c Clock) c.clock) (offset c Base) c.clock) Done c.clock at_base tt
 
-opening_gate : (c : Config) → IsConfig c → GateRule c.callers (gate_scene (opening_world c))
+opening_gate : (c : Config) → IsConfig c → GateRule c.callers (gate_projection (opening_world c))
 opening_gate c config = record {
   status = λ k. refl;
   absent = λ k e. refl;
@@ -86,7 +86,7 @@ opening_gate c config = record {
   far = λ n l. refl;
 }
 
-opening_install : (c : Config) → InstallRule c (install_scene (opening_world c))
+opening_install : (c : Config) → InstallRule c (install_projection (opening_world c))
 opening_install c = record {
   base = le_refl c.clock;
   done = le_refl c.clock;
@@ -100,7 +100,7 @@ opening_install c = record {
   completed = λ n e. absurd cc;
 }
 
-opening_records : (c : Config) → RecordRule (record_scene (opening_world c))
+opening_records : (c : Config) → RecordRule (record_projection (opening_world c))
 opening_records c = record {
   free = λ r e. (let z : 0 ≤ c.clock = omega arith in z);
   owned = λ r e. absurd cc;
@@ -123,7 +123,7 @@ core_opens good c config start = let w = cgl_world-opening good c config start (
 }
 
 -- no fence stands
-opening_fence : (c : Config) → FenceRule c (fence_scene (opening_world c))
+opening_fence : (c : Config) → FenceRule c (fence_projection (opening_world c))
 opening_fence c = record {
   mine = λ n e. absurd cc;
   owner = λ n e. absurd (omega arith);
@@ -136,9 +136,9 @@ opening_fence c = record {
   apart = λ n a p o. absurd cc;
 }
 
-pub whole_opens : (good : (ℕ → ℕ) → Type 0) (c : Config) → IsConfig c → good (λ a. 0) → Whole good c (opening_world c)
-whole_opens good c config start = record {
-  core = subst (Core good c) (sym (ap (λ (f : ℕ → ℕ). record (opening_world c) { heap = f }) (veiled-none (λ a. 0) []))) (core_opens good c config start);
+pub invariant_opens : (good : (ℕ → ℕ) → Type 0) (c : Config) → IsConfig c → good (λ a. 0) → Invariant good c (opening_world c)
+invariant_opens good c config start = record {
+  core = subst (Core good c) (sym (ap (λ (f : ℕ → ℕ). record (opening_world c) { heap = f }) (heap_without_fence-none (λ a. 0) []))) (core_opens good c config start);
   fence = opening_fence c;
 }
 
@@ -177,7 +177,7 @@ module _ {K : Type 0} (good : K → List ℕ → Type 0) (c : Config) (rule : K)
     world = opening_world c;
     lies = subst (Lies c (opening_world c)) (sym is) (opening_lies c);
     seats = opening_seats;
-    holds = whole_opens (good_of good c rule) c config (subst (good rule) (sym (words_of-zeros c.words)) start);
+    holds = invariant_opens (good_of good c rule) c config (subst (good rule) (sym (words_of-zeros c.words)) start);
   }
 
 -- a configuration without a fault has its numbers in range

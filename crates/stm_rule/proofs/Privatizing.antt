@@ -8,16 +8,16 @@ use Rattle.rule_base.specs.Notes.{after_seat_load, learned_view}
 use Rattle.rule_base.specs.PutLemmas.{put-all}
 use Rattle.rule_base.specs.StepKinds.{answer, view_after}
 use Rattle.rule_base.specs.World.{World, put}
-use Rattle.rule_seq.specs.CglRuns.CglStep.{acquires_lock, loads_start, loads_heap, stores_heap, stores_clock, frees_lock, loads_undo, loads_limit, takes_back}
+use Rattle.rule_seq.specs.CglRuns.CglStep.{acquires_lock, loads_start, loads_heap, stores_heap, stores_clock, frees_lock, loads_undo, loads_limit, stores_back}
 use Rattle.rule_seq.specs.TmlRuns.TmlStep.{tml_begins, tml_loads, tml_agains, tml_writes, tml_stores, tml_commits}
 use Rattle.rule_ring.specs.RingRuns.RingStep.{ring_begins, ring_loads, ring_looks, ring_words, ring_agains, ring_moves, ring_locks, ring_ticks, ring_slots, ring_enters, ring_writes, ring_dones, ring_frees}
-use Rattle.rule_orec.specs.OrecRuns.OrecStep.{orec_begins, orec_samples, orec_loads, orec_confirms, orec_clocks, orec_clocks_all, orec_passes, orec_lasts, orec_looks, orec_limits, orec_locks, orec_commits, orec_writes_back, orec_times, orec_olds, orec_ups, orec_own_loads, orec_saves, orec_places, orec_restores, orec_lifts}
+use Rattle.rule_orec.specs.OrecRuns.OrecStep.{orec_begins, orec_samples, orec_loads, orec_confirms, orec_clocks, orec_clocks_all, orec_passes, orec_lasts, orec_looks, orec_limits, orec_locks, orec_commits, orec_writes_back, orec_times, orec_olds, orec_ups, orec_own_loads, orec_saves, orec_places, orec_restores, orec_raises_clock}
 use Rattle.stm_rule.specs.CoreRuns.{CoreStep, core_kind, CoreMay}
-use Rattle.stm_rule.specs.CoreRuns.CoreStep.{announces, loads_gate, departs, aims, takes_gate, checks, reopens, settles, evens_clock, stores_base, stores_done, installs, of_cgl, of_tml, looks_gate, seizes, grants, direct_loads, direct_stores, direct_commits, direct_lifts, direct_ups, returns, fences, fence_loads, fence_stores, fence_commits, unfences, hears, loads_end, of_ring, look_grants, move_grants, of_orec, orec_grants, orec_grants_all, direct_releases}
+use Rattle.stm_rule.specs.CoreRuns.CoreStep.{announces, loads_gate, departs, aims, takes_gate, checks, reopens, settles, evens_clock, stores_base, stores_done, installs, of_cgl, of_tml, looks_gate, seizes, grants, direct_loads, direct_stores, direct_commits, direct_raises_clock, direct_ups, returns, fences, fence_loads, fence_stores, fence_commits, unfences, hears, loads_end, of_ring, look_grants, move_grants, of_orec, orec_grants, orec_grants_all, direct_releases}
 use Rattle.stm_rule.specs.NoteRuns.{Shared, Deed, note_at, after_deed, SharedRule, MayDo}
 use Rattle.stm_rule.specs.NoteRuns.Deed.{steps, tells, learns, gathers}
 use Rattle.stm_rule.specs.Privatization.{IsBeside, LeavesAlone, is_direct, gives_back, AllLeaveAlone, RangeIsPrivate}
-use Rattle.stm_rule.specs.Product.{Whole}
+use Rattle.stm_rule.specs.Product.{Invariant}
 use Rattle.stm_rule.specs.Sparing.{spared}
 use Rattle.stm_rule.proofs.NoteLaws.{one_deed}
 
@@ -26,7 +26,7 @@ no e = absurd (let f : true ≡ false = e in cc)
 
 module _ (good : (ℕ → ℕ) → Type 0) (c : Config) where
   -- but for the holder's direct loads and stores no step is in the range
-  beside : (m : ℕ) (s : CoreStep) (w : World) → Whole good c w → CoreMay good c m s (w.views m) → ((w.views m).fence.holds ≡ true → is_direct (steps s) ≡ false) → IsBeside (fence_of w.gate) (core_kind m s).place
+  beside : (m : ℕ) (s : CoreStep) (w : World) → Invariant good c w → CoreMay good c m s (w.views m) → ((w.views m).fence.holds ≡ true → is_direct (steps s) ≡ false) → IsBeside (fence_of w.gate) (core_kind m s).place
   beside m announces w g may plain = tt
   beside m loads_gate w g may plain = tt
   beside m departs w g may plain = tt
@@ -47,7 +47,7 @@ module _ (good : (ℕ → ℕ) → Type 0) (c : Config) where
   beside m (of_cgl frees_lock) w g may plain = tt
   beside m (of_cgl (loads_undo a)) w g may plain = spared good c m w a g may.1.0.has.phase may.1.1
   beside m (of_cgl (loads_limit k)) w g may plain = tt
-  beside m (of_cgl (takes_back a x)) w g may plain = g.fence.apart m a may.1.has.phase (grind (arith, may.1.logged, may.1.has.taken))
+  beside m (of_cgl (stores_back a x)) w g may plain = g.fence.apart m a may.1.has.phase (grind (arith, may.1.logged, may.1.has.taken))
   beside m (of_tml tml_begins) w g may plain = tt
   beside m (of_tml (tml_loads a)) w g may plain = spared good c m w a g may.1.0.has.runs.phase may.1.1
   beside m (of_tml tml_agains) w g may plain = tt
@@ -92,14 +92,14 @@ module _ (good : (ℕ → ℕ) → Type 0) (c : Config) where
   beside m (of_orec (orec_saves a)) w g may plain = spared good c m w a g may.1.0.opens.has.runs.phase may.1.1
   beside m (of_orec (orec_places a x)) w g may plain = g.fence.apart m a may.1.opens.has.runs.phase (grind (arith, may.1.undoable, may.1.opens.has.inside))
   beside m (of_orec (orec_restores a x)) w g may plain = g.fence.apart m a may.1.has.runs.phase (grind (arith, may.1.logged, may.1.has.inside))
-  beside m (of_orec (orec_lifts least)) w g may plain = tt
+  beside m (of_orec (orec_raises_clock least)) w g may plain = tt
   beside m (orec_grants r b) w g may plain = tt
   beside m orec_grants_all w g may plain = tt
   beside m (direct_releases r time) w g may plain = tt
   beside m (direct_loads a) w g may plain = spared good c m w a g (g.core.install.promoted m may.1.0.granted).1 may.1.1
   beside m (direct_stores a x) w g may plain = spared good c m w a g (g.core.install.promoted m may.1.0.granted).1 may.1.1
   beside m (direct_commits alg time) w g may plain = tt
-  beside m (direct_lifts least) w g may plain = tt
+  beside m (direct_raises_clock least) w g may plain = tt
   beside m (direct_ups r version) w g may plain = tt
   beside m (returns fence alg) w g may plain = tt
   beside m (fences from count alg) w g may plain = tt
@@ -111,7 +111,7 @@ module _ (good : (ℕ → ℕ) → Type 0) (c : Config) where
   beside m loads_end w g may plain = tt
 
   -- and all but the last step of a give-back leave the holder its range
-  still : (m : ℕ) (s : CoreStep) (w : World) → Whole good c w → CoreMay good c m s (w.views m) → (w.views m).fence.holds ≡ true → gives_back (steps s) ≡ false
+  still : (m : ℕ) (s : CoreStep) (w : World) → Invariant good c w → CoreMay good c m s (w.views m) → (w.views m).fence.holds ≡ true → gives_back (steps s) ≡ false
       → ((view_after (core_kind m s) w (w.views m) (answer (core_kind m s) w)).fence.holds ≡ true) × ((view_after (core_kind m s) w (w.views m) (answer (core_kind m s) w)).fence.number ≡ (w.views m).fence.number)
   still m announces w g may has kept = (has, refl)
   still m loads_gate w g may has kept = (has, refl)
@@ -133,7 +133,7 @@ module _ (good : (ℕ → ℕ) → Type 0) (c : Config) where
   still m (of_cgl frees_lock) w g may has kept = (has, refl)
   still m (of_cgl (loads_undo a)) w g may has kept = (has, refl)
   still m (of_cgl (loads_limit k)) w g may has kept = (has, refl)
-  still m (of_cgl (takes_back a x)) w g may has kept = (has, refl)
+  still m (of_cgl (stores_back a x)) w g may has kept = (has, refl)
   still m (of_tml tml_begins) w g may has kept = (has, refl)
   still m (of_tml (tml_loads a)) w g may has kept = (has, refl)
   still m (of_tml tml_agains) w g may has kept = (has, refl)
@@ -178,14 +178,14 @@ module _ (good : (ℕ → ℕ) → Type 0) (c : Config) where
   still m (of_orec (orec_saves a)) w g may has kept = (has, refl)
   still m (of_orec (orec_places a x)) w g may has kept = (has, refl)
   still m (of_orec (orec_restores a x)) w g may has kept = (has, refl)
-  still m (of_orec (orec_lifts least)) w g may has kept = (has, refl)
+  still m (of_orec (orec_raises_clock least)) w g may has kept = (has, refl)
   still m (orec_grants r b) w g may has kept = (has, refl)
   still m orec_grants_all w g may has kept = (has, refl)
   still m (direct_releases r time) w g may has kept = (has, refl)
   still m (direct_loads a) w g may has kept = (has, refl)
   still m (direct_stores a x) w g may has kept = (has, refl)
   still m (direct_commits alg time) w g may has kept = (has, refl)
-  still m (direct_lifts least) w g may has kept = (has, refl)
+  still m (direct_raises_clock least) w g may has kept = (has, refl)
   still m (direct_ups r version) w g may has kept = (has, refl)
   still m (returns fence alg) w g may has kept = (has, refl)
   still m (fences from count alg) w g may has kept =
@@ -200,7 +200,7 @@ module _ (good : (ℕ → ℕ) → Type 0) (c : Config) where
   still m loads_end w g may has kept = (has, refl)
 
   -- who has the range is one caller
-  one-holder : (m n : ℕ) (w : World) → Whole good c w → (w.views m).fence.holds ≡ true → (w.views n).fence.holds ≡ true → m ≡ n
+  one-holder : (m n : ℕ) (w : World) → Invariant good c w → (w.views m).fence.holds ≡ true → (w.views n).fence.holds ≡ true → m ≡ n
   one-holder m n w g a b = let p = (g.fence.mine m a).0 in let q = (g.fence.mine n b).0 in omega arith
 
   alone : (n m : ℕ) (d : Deed) (x : Shared) → SharedRule good c x → MayDo good c m d x → (x.world.views n).fence.holds ≡ true → (m ≡ n → is_direct d ≡ false) → LeavesAlone (x.world.views n).fence.number m d

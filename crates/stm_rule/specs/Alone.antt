@@ -1,4 +1,4 @@
--- With one caller alone each record is as its last step there found or left it, as its trail tells. So a record that it
+-- With one caller alone each record is as its last step there found or left it, as its step trace tells. So a record that it
 -- sampled is found again as it was. Without this clause a caller that is alone could meet a conflict.
 use Rattle.std.proofs.Common.{◌≡◌, ℕ, List, [], ◌∷◌, Bool, true, false, eqb, refl, sym, ap, ◌∙◌, ⊎_elim}
 use Rattle.std.specs.Prelude.{◌==◌, ◌⊎◌, max, if◌then◌else◌, Option, Some, None}
@@ -9,14 +9,14 @@ use Rattle.rule_base.specs.declared.layout.At.TheVariants.{Clock, Lock, Gate, Ba
 use Rattle.rule_base.specs.declared.views.Act.{Act}
 use Rattle.rule_base.specs.declared.views.Act.TheVariants.{Load, Store, Exchange, Raise}
 use Rattle.rule_base.specs.declared.views.Steps.{Steps}
-use Rattle.rule_base.specs.declared.views.TrailItem.{TrailItem}
+use Rattle.rule_base.specs.declared.views.TracedStep.{TracedStep}
 use Rattle.rule_base.specs.declared.views.View.{View}
 use Rattle.rule_base.specs.StepKinds.{StepKind, after_act, answer, answer_of, found_in, view_after, world_after, word_after}
 use Rattle.rule_base.specs.Notes.{after_seat_load}
 use Rattle.rule_base.specs.PutLemmas.{put-all}
 use Rattle.rule_base.specs.World.{World, fetch, put, write}
 
--- the word that a step left, as far as the trail tells it
+-- the word that a step left, as far as the step trace tells it
 abbrev pub left_by : Act → Option ℕ → Option ℕ
 left_by Load found = found
 left_by (Store value) found = Some value
@@ -37,12 +37,12 @@ is_record r (Slot s) = false
 is_record r (Heap a) = false
 
 -- what the last step at record r left there
-abbrev pub left_at : ℕ → List TrailItem → Option ℕ
+abbrev pub left_at : ℕ → List TracedStep → Option ℕ
 left_at r [] = None
 left_at r (i ∷ is) = if is_record r i.place then left_by i.act i.found else left_at r is
 
 abbrev pub Alone : Config → World → Type 0
-Alone c w = c.callers ≡ 1 → (r x : ℕ) → left_at r (w.views 0).steps.trail ≡ Some x → w.records r ≡ x
+Alone c w = c.callers ≡ 1 → (r x : ℕ) → left_at r (w.views 0).steps.step_trace ≡ Some x → w.records r ≡ x
 
 records-write : (w : World) (p : At) (x r : ℕ) → is_record r p ≡ false → (write w p x).records r ≡ w.records r
 records-write w Clock x r e = refl
@@ -88,21 +88,21 @@ left-is w (Heap a) act r x e l = absurd cc
 -- the load of a split or a join is of no record
 pub alone-seated : (c : Config) (w : World) (n : ℕ) (v : View) → v.steps ≡ (after_seat_load (w.views n)).steps → Alone c w → Alone c (record w { views = put w.views n v })
 alone-seated c w n v own a sole r x e =
-    let same : left_at r (put w.views n v 0).steps.trail ≡ left_at r (w.views 0).steps.trail = put-all w.views n v (λ m u. left_at r u.steps.trail ≡ left_at r (w.views m).steps.trail) (ap (λ (s : Steps). left_at r s.trail) own) (λ m d. refl) 0 in
+    let same : left_at r (put w.views n v 0).steps.step_trace ≡ left_at r (w.views 0).steps.step_trace = put-all w.views n v (λ m u. left_at r u.steps.step_trace ≡ left_at r (w.views m).steps.step_trace) (ap (λ (s : Steps). left_at r s.step_trace) own) (λ m d. refl) 0 in
     a sole r x (sym same ∙ e)
 
 module _ (c : Config) (kind : StepKind) (n : ℕ) (w : World) where
   -- a step of caller 0, or one that leaves the records
-  pub alone-kept : (kind.after w (w.views n) (answer kind w)).steps.trail ≡ (w.views n).steps.trail → (c.callers ≡ 1 → (n ≡ 0) ⊎ ((world_after kind n w).records ≡ w.records)) → Alone c w → Alone c (world_after kind n w)
+  pub alone-kept : (kind.after w (w.views n) (answer kind w)).steps.step_trace ≡ (w.views n).steps.step_trace → (c.callers ≡ 1 → (n ≡ 0) ⊎ ((world_after kind n w).records ≡ w.records)) → Alone c w → Alone c (world_after kind n w)
   alone-kept own one a sole r x = go (eqb 0 n) refl
     where
-      trail_of : View → List TrailItem
-      trail_of v = v.steps.trail
+      step_trace_of : View → List TracedStep
+      step_trace_of v = v.steps.step_trace
 
-      mine : (b : Bool) → is_record r kind.place ≡ b → (if b then left_by kind.act (found_in kind.act (answer kind w)) else left_at r (w.views 0).steps.trail) ≡ Some x → (after_act w kind.place kind.act).records r ≡ x
+      mine : (b : Bool) → is_record r kind.place ≡ b → (if b then left_by kind.act (found_in kind.act (answer kind w)) else left_at r (w.views 0).steps.step_trace) ≡ Some x → (after_act w kind.place kind.act).records r ≡ x
       mine true e l = left-is w kind.place kind.act r x e l
       mine false e l = records-act w kind.place kind.act r e ∙ a sole r x l
 
-      go : (b : Bool) → eqb 0 n ≡ b → left_at r (if b then view_after kind w (w.views n) (answer kind w) else w.views 0).steps.trail ≡ Some x → (world_after kind n w).records r ≡ x
-      go true e l = let z : 0 ≡ n = eqb-true 0 n e in mine (is_record r kind.place) refl (ap (λ (t : List TrailItem). if is_record r kind.place then left_by kind.act (found_in kind.act (answer kind w)) else left_at r t) (sym (own ∙ ap (λ (m : ℕ). trail_of (w.views m)) (sym z))) ∙ l)
+      go : (b : Bool) → eqb 0 n ≡ b → left_at r (if b then view_after kind w (w.views n) (answer kind w) else w.views 0).steps.step_trace ≡ Some x → (world_after kind n w).records r ≡ x
+      go true e l = let z : 0 ≡ n = eqb-true 0 n e in mine (is_record r kind.place) refl (ap (λ (t : List TracedStep). if is_record r kind.place then left_by kind.act (found_in kind.act (answer kind w)) else left_at r t) (sym (own ∙ ap (λ (m : ℕ). step_trace_of (w.views m)) (sym z))) ∙ l)
       go false e l = ⊎_elim (λ z. absurd (eqb-false 0 n e (sym z))) (λ same. ap (λ (f : ℕ → ℕ). f r) same ∙ a sole r x l) (one sole)

@@ -8,10 +8,10 @@ use Rattle.rule_base.specs.declared.views.Phase.TheVariants.{Idle, In}
 use Rattle.rule_base.specs.Regime.{Regime}
 use Rattle.rule_base.specs.Regime.Regime.{Running}
 use Rattle.rule_base.specs.RegimeLemmas.{regime-inside}
-use Rattle.rule_base.specs.RunScene.{run_scene}
+use Rattle.rule_base.specs.RunProjection.{run_projection}
 use Rattle.rule_base.specs.InstallSteps.{settle, CanSettle}
 use Rattle.rule_base.specs.StepKinds.{StepLaw}
-use Rattle.rule_base.specs.StepsRule.{steps_scene, all_rises}
+use Rattle.rule_base.specs.StepsRule.{steps_projection, all_rises}
 use Rattle.rule_base.specs.World.{World}
 use Rattle.rule_promoted.specs.PromotedSteps.{tml_grant, CanTmlGrant}
 use Rattle.rule_seq.specs.AttemptLemmas.{busy-writer}
@@ -32,17 +32,17 @@ module _ (good : (ℕ → ℕ) → Type 0) (c : Config) (n : ℕ) where
   pub sole-of : (w : World) → Core good c w → (w.views n).gate.phase ≡ In → FindsSole c w (w.views n) w.clock
   sole-of w g inside one =
       let first : n ≡ 0 = (let l = low w g inside in omega arith) in
-      let all : all_rises c.callers (steps_scene w).views ≡ 0 + (w.views 0).steps.rises = ap (λ k. all_rises k (steps_scene w).views) one in
+      let all : all_rises c.callers (steps_projection w).views ≡ 0 + (w.views 0).steps.rises = ap (λ k. all_rises k (steps_projection w).views) one in
       let own : (w.views n).steps.rises ≡ (w.views 0).steps.rises = ap (λ k. (w.views k).steps.rises) first in
-      let risen : w.clock ≡ c.clock + all_rises c.callers (steps_scene w).views = g.steps.risen in
+      let risen : w.clock ≡ c.clock + all_rises c.callers (steps_projection w).views = g.steps.risen in
       omega arith
 
   -- an odd clock is a writer's, which is another caller
   writer-of : (w : World) → Core good c w → (w.views n).gate.phase ≡ In → (w.views n).gate.algorithm ≡ Tml → (w.views n).gate.granted ≡ false → (w.views n).tml.writer ≡ false → w.clock % 2 ≡ 1 → 1 < c.callers
   writer-of w g inside tml plain reads odd = by (ltb 1 c.callers) refl
     where
-      r : TmlRule c.words (tml_part (run_scene w))
-      r = subst (λ (q : Regime). Runs c q (run_scene w)) (regime-inside c w n g.gate g.install inside plain ∙ ap Running tml) g.running
+      r : TmlRule c.words (tml_part (run_projection w))
+      r = subst (λ (q : Regime). Runs c q (run_projection w)) (regime-inside c w n g.gate g.install inside plain ∙ ap Running tml) g.running
 
       by : (b : Bool) → ltb 1 c.callers ≡ b → 1 < c.callers
       by true q = grind (arith, nat_tests)
@@ -55,15 +55,15 @@ module _ (good : (ℕ → ℕ) → Type 0) (c : Config) (n : ℕ) where
           let f : true ≡ false = sym (subst (λ (i : ℕ). (w.views i).tml.writer ≡ true) same t) ∙ reads in cc in
           absurd (let e = (r.free none).0 in omega arith)
 
-  pub uncalm : (w : World) → Core good c w → (w.views n).gate.holds ≡ false → (b : Bool) → (w.views n).gate.calm ≡ b → b ≡ false
-  uncalm w g free true e = absurd (let f : true ≡ false = sym (g.install.holding n e) ∙ free in cc)
-  uncalm w g free false e = refl
+  pub not_quiescent : (w : World) → Core good c w → (w.views n).gate.holds ≡ false → (b : Bool) → (w.views n).gate.quiescent ≡ b → b ≡ false
+  not_quiescent w g free true e = absurd (let f : true ≡ false = sym (g.install.holding n e) ∙ free in cc)
+  not_quiescent w g free false e = refl
 
   pub begins_beside : StepLaw (Core good c) tml_begin (FindsBegin good c) n CanTmlBegin
   begins_beside w g may = let o = tml_begins good c n w g may in record {
     rule = o.rule;
     advances = o.advances;
-    shown = record { begins = o.shown; sole = sole-of w g may.runs.phase; writer = writer-of w g may.runs.phase may.runs.algorithm may.runs.plain may.unwritten; uncalm = λ free. uncalm w g free (w.views n).gate.calm refl };
+    shown = record { begins = o.shown; sole = sole-of w g may.runs.phase; writer = writer-of w g may.runs.phase may.runs.algorithm may.runs.plain may.unwritten; not_quiescent = λ free. not_quiescent w g free (w.views n).gate.quiescent refl };
   }
 
   pub agains_beside : StepLaw (Core good c) tml_again (FindsAgain good c) n CanTmlAgain

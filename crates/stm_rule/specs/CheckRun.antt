@@ -74,11 +74,11 @@ core_checks_lem good c x low high small keeps = (
             (
               (omega arith, record { holds = refl; quiet = λ k l o. grind (arith, l, o) }),
               (
-                (omega arith, record { closing = λ e. refl; calm = refl; time = refl }),
+                (omega arith, record { closing = λ e. refl; quiescent = refl; time = refl }),
                 (
-                  (omega arith, record { closing = λ e. refl; calm = refl; time = refl }),
+                  (omega arith, record { closing = λ e. refl; quiescent = refl; time = refl }),
                   (
-                    (omega arith, record { phase = refl; guarded = refl; ungiven = refl; calm = refl; rebased = refl; completed = refl; even = λ e. absurd cc }),
+                    (omega arith, record { phase = refl; guarded = refl; ungiven = refl; quiescent = refl; rebased = refl; completed = refl; even = λ e. absurd cc }),
                     (
                       (omega arith, record { phase = refl; absent = refl; named = refl; guarded = refl; ungiven = refl; unentered = refl }),
                       (

@@ -14,11 +14,11 @@ use Rattle.rule_base.specs.Regime.Regime.{Running}
 use Rattle.rule_base.specs.RegimeLemmas.{plain-mode, regime-running, regime-kept}
 use Rattle.rule_base.specs.Encodings.{alg_of, holder_of, fence_of, gate_word}
 use Rattle.rule_base.specs.GateLaws.{aim-gate, take_gate-gate, check-gate, reopen-gate, holder-closed}
-use Rattle.rule_base.specs.GateRule.{gate_scene, may_hold}
+use Rattle.rule_base.specs.GateRule.{gate_projection, may_hold}
 use Rattle.rule_base.specs.GateSteps.{aim, CanAim, closed_at, take_gate, CanTakeGate, check, CanCheck, opened, reopen, CanReopen}
 use Rattle.rule_base.specs.History.{member}
 use Rattle.rule_base.specs.InstallLaws.{install-apart, install-view, install-looked}
-use Rattle.rule_base.specs.InstallRule.{install_scene, InstallRule}
+use Rattle.rule_base.specs.InstallRule.{install_projection, InstallRule}
 use Rattle.rule_base.specs.StepKinds.{view_after, world_after, Nothing, StepLaw}
 use Rattle.rule_base.specs.World.{World, put}
 use Rattle.stm_rule.specs.Findings.{NamesOther, FindsHolder, FindsTaken}
@@ -68,17 +68,17 @@ module _ (good : (ℕ → ℕ) → Type 0) (c : Config) (n : ℕ) where
       plain : (w.views n).gate.granted ≡ false
       plain = ungranted good c w n g free
 
-      settled : (b : Bool) → InstallRule c (install_scene (at b))
+      settled : (b : Bool) → InstallRule c (install_projection (at b))
       settled true = install-view c w (at true) n (closed_at word (w.views n).gate) (next true) refl refl refl refl refl refl refl refl plain refl g.install
       settled false = install-apart c w (at false) n (next false) refl refl refl refl free refl refl refl refl refl g.install
 
       runs : (b : Bool) → (b ≡ true → w.gate ≡ word) → regime (at b) ≡ regime w
       runs true e =
           let none : holder_of w.gate ≡ 0 = ap holder_of (e refl ∙ aimed) ∙ holder_of-open (fence_of w.gate) (alg_of w.gate) in
-          regime-handed w (at true) (next true) refl (alg_of-gate (fence_of word) (1 + n) (alg_of word) ∙ same) (λ m h. absurd (omega arith)) (λ m h. let k = holder-closed c.callers (gate_scene w) g.gate n low (fence_of word) (alg_of word) in omega arith) (plain-mode (next true).gate plain refl)
+          regime-handed w (at true) (next true) refl (alg_of-gate (fence_of word) (1 + n) (alg_of word) ∙ same) (λ m h. absurd (omega arith)) (λ m h. let k = holder-closed c.callers (gate_projection w) g.gate n low (fence_of word) (alg_of word) in omega arith) (plain-mode (next true).gate plain refl)
       runs false e = regime-kept w (at false) n (next false) refl refl refl
 
-      install : InstallRule c (install_scene (world_after (take_gate n word) n w))
+      install : InstallRule c (install_projection (world_after (take_gate n word) n w))
       install = settled (w.gate == word)
 
       closed : w.gate ≢ word → holder_of w.gate ≢ 0

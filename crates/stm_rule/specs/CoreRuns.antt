@@ -18,9 +18,9 @@ use Rattle.rule_base.specs.declared.entries.Cell.{Cell}
 use Rattle.rule_ring.specs.SlotFilter.{slot_filter}
 use Rattle.rule_seq.specs.CglRuns.{CglStep, cgl_kind, MayAs}
 use Rattle.rule_promoted.specs.PromotedSteps.{tml_grant, CanTmlGrant, ring_look_grant, CanRingGrant, ring_move_grant, CanRingMoveGrant, direct_load, CanDirectLoad, direct_store, CanDirectStore, direct_commit, CanDirectCommit, direct_release, CanDirectRelease}
-use Rattle.rule_promoted.specs.RaisingSteps.{direct_lift, CanDirectLift, direct_up, CanDirectUp}
+use Rattle.rule_promoted.specs.RaisingSteps.{direct_raise_clock, CanDirectRaiseClock, direct_up, CanDirectUp}
 use Rattle.rule_seq.specs.TmlRuns.{TmlStep, tml_kind, TmlMayAs}
-use Rattle.rule_seq.specs.CglRuns.CglStep.{acquires_lock, loads_start, loads_heap, stores_heap, stores_clock, frees_lock, loads_undo, loads_limit, takes_back}
+use Rattle.rule_seq.specs.CglRuns.CglStep.{acquires_lock, loads_start, loads_heap, stores_heap, stores_clock, frees_lock, loads_undo, loads_limit, stores_back}
 use Rattle.rule_seq.specs.TmlRuns.TmlStep.{tml_begins, tml_loads, tml_agains, tml_writes, tml_stores, tml_commits}
 use Rattle.stm_model.specs.declared.alg.Alg.TheVariants.{Tml, RingSw, Serial, OrecLazy, OrecEager}
 use Rattle.rule_base.specs.Ranks.{home_of}
@@ -36,7 +36,7 @@ use Rattle.rule_base.specs.FenceSteps.{fence, CanFence, fence_load, CanFenceLoad
 use Rattle.stm_rule.specs.Lifting.{IsSpared, AreSpared}
 use Rattle.stm_rule.specs.NoteSteps.{hear, load_end, CanLoadEnd}
 use Rattle.stm_rule.specs.Openings.{opening_words}
-use Rattle.stm_rule.specs.Product.{Whole}
+use Rattle.stm_rule.specs.Product.{Invariant}
 
 -- a step by its kind and its numbers
 pub data CoreStep : Type 0 where
@@ -67,7 +67,7 @@ pub data CoreStep : Type 0 where
   direct_loads : (a : ℕ) → CoreStep
   direct_stores : (a x : ℕ) → CoreStep
   direct_commits : (alg : Alg) (time : ℕ) → CoreStep
-  direct_lifts : (least : ℕ) → CoreStep
+  direct_raises_clock : (least : ℕ) → CoreStep
   direct_ups : (r version : ℕ) → CoreStep
   returns : (fence : ℕ) (alg : Alg) → CoreStep
   fences : (from count : ℕ) (alg : Alg) → CoreStep
@@ -106,7 +106,7 @@ core_kind n (direct_releases r time) = direct_release r time
 core_kind n (direct_loads a) = direct_load a
 core_kind n (direct_stores a x) = direct_store a x
 core_kind n (direct_commits alg time) = direct_commit n alg time
-core_kind n (direct_lifts least) = direct_lift least
+core_kind n (direct_raises_clock least) = direct_raise_clock least
 core_kind n (direct_ups r version) = direct_up r version
 core_kind n (returns fence alg) = return_gate fence alg
 core_kind n (fences from count alg) = fence n (fence_number n from count) alg
@@ -157,7 +157,7 @@ module _ (good : (ℕ → ℕ) → Type 0) (c : Config) where
   CoreMayAs n (direct_loads a) v = CanDirectLoad c.words a v × IsSpared a v
   CoreMayAs n (direct_stores a x) v = CanDirectStore c.words a x v × IsSpared a v
   CoreMayAs n (direct_commits alg time) v = CanDirectCommit good alg time v
-  CoreMayAs n (direct_lifts least) v = CanDirectLift least v
+  CoreMayAs n (direct_raises_clock least) v = CanDirectRaiseClock least v
   CoreMayAs n (direct_ups r version) v = CanDirectUp r version v
   CoreMayAs n (returns fence alg) v = CanReturn fence alg v
   CoreMayAs n (fences from count alg) v = CanFence c n from count alg v
@@ -174,7 +174,7 @@ module _ (good : (ℕ → ℕ) → Type 0) (c : Config) where
 
   -- the opening words and the first views meet the rule
   abbrev pub CoreOpens : Type 0
-  CoreOpens = Whole good c (opening_world c) × Lies c (opening_world c) (opening_words c)
+  CoreOpens = Invariant good c (opening_world c) × Lies c (opening_world c) (opening_words c)
 
   -- caller 0 comes in, reads the word at a, stores x there, commits at time t and leaves
   abbrev pub one_attempt : ℕ → ℕ → ℕ → List (ℕ × CoreStep)
@@ -189,7 +189,7 @@ module _ (good : (ℕ → ℕ) → Type 0) (c : Config) where
 
   -- caller 0 installs TML, commits once as a writer and once promoted, installs Serial, takes a store back, becomes irrevocable and commits
   abbrev pub one_of_each : ℕ → List (ℕ × CoreStep)
-  one_of_each x = (0, announces) ∷ (0, aims) ∷ (0, takes_gate 0) ∷ (0, departs) ∷ (0, settles) ∷ (0, stores_base 0) ∷ (0, stores_done 0) ∷ (0, installs 0 Tml) ∷ (0, reopens 0 Tml) ∷ (0, announces) ∷ (0, loads_gate) ∷ (0, of_tml tml_begins) ∷ (0, of_tml (tml_loads 0)) ∷ (0, of_tml tml_agains) ∷ (0, of_tml (tml_writes 0)) ∷ (0, of_tml (tml_stores 0 x)) ∷ (0, of_tml (tml_commits 2)) ∷ (0, departs) ∷ (0, announces) ∷ (0, loads_gate) ∷ (0, of_tml tml_begins) ∷ (0, looks_gate) ∷ (0, seizes 0 Tml) ∷ (0, grants) ∷ (0, direct_loads 0) ∷ (0, direct_stores 0 x) ∷ (0, direct_commits Tml 4) ∷ (0, stores_base 4) ∷ (0, stores_done 4) ∷ (0, returns 0 Tml) ∷ (0, departs) ∷ (0, announces) ∷ (0, aims) ∷ (0, takes_gate 1) ∷ (0, departs) ∷ (0, settles) ∷ (0, stores_base 4) ∷ (0, stores_done 4) ∷ (0, installs 0 Serial) ∷ (0, reopens 0 Serial) ∷ (0, announces) ∷ (0, loads_gate) ∷ (0, of_cgl acquires_lock) ∷ (0, of_cgl loads_start) ∷ (0, of_cgl (loads_heap 0)) ∷ (0, of_cgl (loads_undo 0)) ∷ (0, of_cgl (loads_limit false)) ∷ (0, of_cgl (stores_heap 0 0)) ∷ (0, of_cgl (takes_back 0 x)) ∷ (0, of_cgl (loads_limit true)) ∷ (0, of_cgl (stores_heap 0 x)) ∷ (0, of_cgl (stores_clock 5)) ∷ (0, of_cgl frees_lock) ∷ (0, departs) ∷ []
+  one_of_each x = (0, announces) ∷ (0, aims) ∷ (0, takes_gate 0) ∷ (0, departs) ∷ (0, settles) ∷ (0, stores_base 0) ∷ (0, stores_done 0) ∷ (0, installs 0 Tml) ∷ (0, reopens 0 Tml) ∷ (0, announces) ∷ (0, loads_gate) ∷ (0, of_tml tml_begins) ∷ (0, of_tml (tml_loads 0)) ∷ (0, of_tml tml_agains) ∷ (0, of_tml (tml_writes 0)) ∷ (0, of_tml (tml_stores 0 x)) ∷ (0, of_tml (tml_commits 2)) ∷ (0, departs) ∷ (0, announces) ∷ (0, loads_gate) ∷ (0, of_tml tml_begins) ∷ (0, looks_gate) ∷ (0, seizes 0 Tml) ∷ (0, grants) ∷ (0, direct_loads 0) ∷ (0, direct_stores 0 x) ∷ (0, direct_commits Tml 4) ∷ (0, stores_base 4) ∷ (0, stores_done 4) ∷ (0, returns 0 Tml) ∷ (0, departs) ∷ (0, announces) ∷ (0, aims) ∷ (0, takes_gate 1) ∷ (0, departs) ∷ (0, settles) ∷ (0, stores_base 4) ∷ (0, stores_done 4) ∷ (0, installs 0 Serial) ∷ (0, reopens 0 Serial) ∷ (0, announces) ∷ (0, loads_gate) ∷ (0, of_cgl acquires_lock) ∷ (0, of_cgl loads_start) ∷ (0, of_cgl (loads_heap 0)) ∷ (0, of_cgl (loads_undo 0)) ∷ (0, of_cgl (loads_limit false)) ∷ (0, of_cgl (stores_heap 0 0)) ∷ (0, of_cgl (stores_back 0 x)) ∷ (0, of_cgl (loads_limit true)) ∷ (0, of_cgl (stores_heap 0 x)) ∷ (0, of_cgl (stores_clock 5)) ∷ (0, of_cgl frees_lock) ∷ (0, departs) ∷ []
 
 -- with one caller and from clock 0 these steps are allowed; after the first 24 its attempt is promoted, and the history is in the end these three entries
 abbrev pub CorePromotes : ((ℕ → ℕ) → Type 0) → Config → Type 0

@@ -50,7 +50,7 @@ pub record IsEager (c : Config) (l : Local) (v : View) : Type 0 where
 pub record IsEagerPromoted (c : Config) (l : Local) (v : View) : Type 0 where
   pub granted : v.gate.granted ≡ true
   -- its start is the clock, which is its own
-  pub calm : v.gate.calm ≡ true
+  pub quiescent : v.gate.quiescent ≡ true
   pub holds : l.holds ≡ true
   pub unlocked : v.lock.taken ≡ false
   pub unfixed : v.lock.irrevocable ≡ false

@@ -64,11 +64,11 @@ core_fences_lem good c x some fits small keeps = (
             (
               (omega arith, record { holds = refl; quiet = seen }),
               (
-                (omega arith, record { phase = refl; calm = refl; named = refl; holds = refl; ungiven = refl; time = refl; limit = omega arith; wrote = λ e. cc; keeps = λ m was kept words. keeps m was (kept 0 refl) }),
+                (omega arith, record { phase = refl; quiescent = refl; named = refl; holds = refl; ungiven = refl; time = refl; limit = omega arith; wrote = λ e. cc; keeps = λ m was kept words. keeps m was (kept 0 refl) }),
                 (
-                  (omega arith, record { closing = λ e. refl; calm = refl; time = refl }),
+                  (omega arith, record { closing = λ e. refl; quiescent = refl; time = refl }),
                   (
-                    (omega arith, record { closing = λ e. refl; calm = refl; time = refl }),
+                    (omega arith, record { closing = λ e. refl; quiescent = refl; time = refl }),
                     (
                       (omega arith, record { phase = refl; quiet = seen; named = refl; holds = refl; unstored = refl; plain = λ e. absurd cc; marked = λ e. (refl, refl, refl) }),
                       tt,

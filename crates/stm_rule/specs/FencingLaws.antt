@@ -8,15 +8,15 @@ use Rattle.rule_base.specs.declared.views.Phase.TheVariants.{Idle, In, Closing}
 use Rattle.rule_base.specs.declared.views.View.{View}
 use Rattle.rule_base.specs.EncodingLemmas.{alg_of-gate, fence_of-gate}
 use Rattle.rule_base.specs.Encodings.{alg_of, fence_of, fence_number, fenced, gate_word}
-use Rattle.rule_base.specs.Fence.{veiled, veil, fence_scene, FenceHolder}
-use Rattle.rule_base.specs.FenceLaws.{veiled-none, veiled-rest, fence-held, fence-comes}
+use Rattle.rule_base.specs.Fence.{heap_without_fence, without_fence, fence_projection, FenceHolder}
+use Rattle.rule_base.specs.FenceLaws.{heap_without_fence-none, heap_without_fence-rest, fence-held, fence-comes}
 use Rattle.rule_base.specs.FenceSteps.{fence, CanFence, fence_load, CanFenceLoad, FenceLoads, fence_store, CanFenceStore}
-use Rattle.rule_base.specs.GateLaws.{gate_scene-kept, fence-gate, holder-closed, closed-fits}
-use Rattle.rule_base.specs.GateRule.{gate_scene, GateRule}
+use Rattle.rule_base.specs.GateLaws.{gate_projection-kept, fence-gate, holder-closed, closed-fits}
+use Rattle.rule_base.specs.GateRule.{gate_projection, GateRule}
 use Rattle.rule_base.specs.History.{over, touches, word_now}
 use Rattle.rule_base.specs.HistoryLemmas.{over-miss, small-more}
 use Rattle.rule_base.specs.HistoryRuleLemmas.{advances-same, history-kept}
-use Rattle.rule_base.specs.InstallLaws.{install_scene-kept, install-stood}
+use Rattle.rule_base.specs.InstallLaws.{install_projection-kept, install-stood}
 use Rattle.rule_base.specs.InstallRule.{InstallRule}
 use Rattle.rule_base.specs.PutLemmas.{put-all, put-else}
 use Rattle.rule_base.specs.RecordLemmas.{records-stay}
@@ -24,40 +24,40 @@ use Rattle.rule_base.specs.Regime.{mode_of, regime}
 use Rattle.rule_base.specs.Regime.Mode.{Plain}
 use Rattle.rule_base.specs.RegimeLemmas.{plain-mode, regime-kept}
 use Rattle.rule_base.specs.Rest.{IsQuiet}
-use Rattle.rule_base.specs.RunScene.{run_scene}
+use Rattle.rule_base.specs.RunProjection.{run_projection}
 use Rattle.rule_base.specs.StepKinds.{view_after, world_after, Nothing, StepLaw}
 use Rattle.rule_base.specs.StepsLemmas.{steps-kept}
 use Rattle.rule_base.specs.World.{World, put}
 use Rattle.rule_seq.specs.AttemptLemmas.{attempts-stay}
-use Rattle.rule_seq.specs.LockLemmas.{lock_scene-kept}
+use Rattle.rule_seq.specs.LockLemmas.{lock_projection-kept}
 use Rattle.rule_seq.specs.LockRule.{LockRule}
 use Rattle.stm_rule.specs.Alone.{alone-kept}
 use Rattle.stm_rule.specs.ClosingLaws.{regime-handed}
 use Rattle.stm_rule.specs.FenceFindings.{FindsPast}
 use Rattle.stm_rule.specs.Frames.{is-caller, same-horizon, ungranted-out}
-use Rattle.stm_rule.specs.Product.{Whole}
+use Rattle.stm_rule.specs.Product.{Invariant}
 use Rattle.stm_rule.specs.Raised.{raised-put}
 use Rattle.stm_rule.specs.RestLaws.{quiet-ease, nobody-else}
-use Rattle.stm_rule.specs.Running.{runs-stays, run_scene-kept}
+use Rattle.stm_rule.specs.Running.{runs-stays, run_projection-kept}
 
 module _ (good : (ℕ → ℕ) → Type 0) (c : Config) (n : ℕ) where
   -- the fence that stands is its holder's
-  number-is : (w : World) → Whole good c w → (w.views n).fence.holds ≡ true → (a : ℕ) → fenced (w.views n).fence.number a ≡ true → fenced (fence_of w.gate) a ≡ true
+  number-is : (w : World) → Invariant good c w → (w.views n).fence.holds ≡ true → (a : ℕ) → fenced (w.views n).fence.number a ≡ true → fenced (fence_of w.gate) a ≡ true
   number-is w g has a inside = ap (λ k. fenced k a) (g.fence.mine n has).1 ∙ inside
 
   -- A LOAD of a word of the range
-  pub fence_loads : (a : ℕ) → StepLaw (Whole good c) (fence_load a) (FenceLoads a) n (CanFenceLoad a)
+  pub fence_loads : (a : ℕ) → StepLaw (Invariant good c) (fence_load a) (FenceLoads a) n (CanFenceLoad a)
   fence_loads a w g may = record {
     rule = record {
       core = record {
         history = history-kept good c w x n v refl refl refl refl g.core.history;
         steps = steps-kept c (fence_load a) n w refl refl refl g.core.steps;
-        gate = subst (GateRule c.callers) (sym (gate_scene-kept w x n v refl refl refl refl)) g.core.gate;
-        install = subst (InstallRule c) (sym (install_scene-kept w x n v refl refl refl refl refl)) g.core.install;
+        gate = subst (GateRule c.callers) (sym (gate_projection-kept w x n v refl refl refl refl)) g.core.gate;
+        install = subst (InstallRule c) (sym (install_projection-kept w x n v refl refl refl refl refl)) g.core.install;
         records = records-stay w x n v refl (le_refl w.clock) refl refl refl g.core.records;
-        lock = subst LockRule (sym (lock_scene-kept w x n v refl refl refl refl)) g.core.lock;
+        lock = subst LockRule (sym (lock_projection-kept w x n v refl refl refl refl)) g.core.lock;
         attempts = attempts-stay w x n v refl refl refl refl g.core.attempts;
-        running = runs-stays c (regime w) (regime x) (run_scene (veil w)) (run_scene (veil x)) (regime-kept w x n v refl refl refl) (run_scene-kept (veil w) (veil x) n v refl refl refl refl refl refl refl refl refl refl) g.core.running;
+        running = runs-stays c (regime w) (regime x) (run_projection (without_fence w)) (run_projection (without_fence x)) (regime-kept w x n v refl refl refl) (run_projection-kept (without_fence w) (without_fence x) n v refl refl refl refl refl refl refl refl refl refl) g.core.running;
         alone = alone-kept c (fence_load a) n w refl (λ sole. inr refl) g.core.alone;
         raised = raised-put w x n v refl (λ e. e) (λ e k. g.core.raised e n k) g.core.raised;
       };
@@ -80,7 +80,7 @@ module _ (good : (ℕ → ℕ) → Type 0) (c : Config) (n : ℕ) where
       v : View
       v = view_after (fence_load a) w (w.views n) (w.heap a)
 
-      h : FenceHolder (fence_scene w) (w.views n).fence
+      h : FenceHolder (fence_projection w) (w.views n).fence
       h = g.fence.holder n may.holds
 
       here : fenced (fence_of w.gate) a ≡ true
@@ -95,18 +95,18 @@ module _ (good : (ℕ → ℕ) → Type 0) (c : Config) (n : ℕ) where
       listed false b e = grind (arith, e, here, h.reads_inside b)
 
   -- A STORE of a word of the range
-  pub fence_stores : (a k : ℕ) → StepLaw (Whole good c) (fence_store a k) Nothing n (CanFenceStore a k)
+  pub fence_stores : (a k : ℕ) → StepLaw (Invariant good c) (fence_store a k) Nothing n (CanFenceStore a k)
   fence_stores a k w g may = record {
     rule = record {
       core = record {
         history = history-kept good c w x n v refl refl refl refl g.core.history;
         steps = steps-kept c (fence_store a k) n w refl refl refl g.core.steps;
-        gate = subst (GateRule c.callers) (sym (gate_scene-kept w x n v refl refl refl refl)) g.core.gate;
-        install = subst (InstallRule c) (sym (install_scene-kept w x n v refl refl refl refl refl)) g.core.install;
+        gate = subst (GateRule c.callers) (sym (gate_projection-kept w x n v refl refl refl refl)) g.core.gate;
+        install = subst (InstallRule c) (sym (install_projection-kept w x n v refl refl refl refl refl)) g.core.install;
         records = records-stay w x n v refl (le_refl w.clock) refl refl refl g.core.records;
-        lock = subst LockRule (sym (lock_scene-kept w x n v refl refl refl refl)) g.core.lock;
+        lock = subst LockRule (sym (lock_projection-kept w x n v refl refl refl refl)) g.core.lock;
         attempts = attempts-stay w x n v refl refl refl refl g.core.attempts;
-        running = runs-stays c (regime w) (regime x) (run_scene (veil w)) (run_scene (veil x)) (regime-kept w x n v refl refl refl) (run_scene-kept (veil w) (veil x) n v refl refl refl refl refl refl refl hidden refl refl) g.core.running;
+        running = runs-stays c (regime w) (regime x) (run_projection (without_fence w)) (run_projection (without_fence x)) (regime-kept w x n v refl refl refl) (run_projection-kept (without_fence w) (without_fence x) n v refl refl refl refl refl refl refl hidden refl refl) g.core.running;
         alone = alone-kept c (fence_store a k) n w refl (λ sole. inr refl) g.core.alone;
         raised = raised-put w x n v refl (λ e. e) (λ e j. g.core.raised e n j) g.core.raised;
       };
@@ -129,14 +129,14 @@ module _ (good : (ℕ → ℕ) → Type 0) (c : Config) (n : ℕ) where
       v : View
       v = view_after (fence_store a k) w (w.views n) k
 
-      h : FenceHolder (fence_scene w) (w.views n).fence
+      h : FenceHolder (fence_projection w) (w.views n).fence
       h = g.fence.holder n may.holds
 
       here : fenced (fence_of w.gate) a ≡ true
       here = number-is w g may.holds a may.inside
 
-      -- it is behind the veil
-      hidden : veiled (fence_of w.gate) (put w.heap a k) w.history ≡ veiled (fence_of w.gate) w.heap w.history
+      -- it is without the fence
+      hidden : heap_without_fence (fence_of w.gate) (put w.heap a k) w.history ≡ heap_without_fence (fence_of w.gate) w.heap w.history
       hidden = fun_ext (λ b. go b (fenced (fence_of w.gate) b) refl)
         where
           go : (b : ℕ) (t : Bool) → fenced (fence_of w.gate) b ≡ t → (if t then word_now w.history b else put w.heap a k b) ≡ (if t then word_now w.history b else w.heap b)
@@ -144,7 +144,7 @@ module _ (good : (ℕ → ℕ) → Type 0) (c : Config) (n : ℕ) where
           go b false e = put-else w.heap a b k (λ same. let f : true ≡ false = sym here ∙ (ap (fenced (fence_of w.gate)) (sym same) ∙ e) in cc)
 
   -- THE FENCE COMES
-  pub fences : (from count : ℕ) (alg : Alg) → StepLaw (Whole good c) (fence n (fence_number n from count) alg) (FindsPast good c) n (CanFence c n from count alg)
+  pub fences : (from count : ℕ) (alg : Alg) → StepLaw (Invariant good c) (fence n (fence_number n from count) alg) (FindsPast good c) n (CanFence c n from count alg)
   fences from count alg w g may = record {
     rule = record {
       core = record {
@@ -153,13 +153,13 @@ module _ (good : (ℕ → ℕ) → Type 0) (c : Config) (n : ℕ) where
         gate = fence-gate c.callers (fence_number n from count) (w.views n).gate.giving alg w x n v refl refl refl refl may.named may.phase may.quiet g.core.gate;
         install = install-stood c w x n (fence_number n from count) v refl refl refl refl refl g.core.install;
         records = records-stay w x n v refl (le_refl w.clock) refl refl refl g.core.records;
-        lock = subst LockRule (sym (lock_scene-kept w x n v refl refl refl refl)) g.core.lock;
+        lock = subst LockRule (sym (lock_projection-kept w x n v refl refl refl refl)) g.core.lock;
         attempts = attempts-stay w x n v refl refl refl refl g.core.attempts;
-        running = runs-stays c (regime w) (regime x) (run_scene (veil w)) (run_scene (veil x)) handed (run_scene-kept (veil w) (veil x) n v refl refl refl refl refl refl refl bare refl refl) g.core.running;
+        running = runs-stays c (regime w) (regime x) (run_projection (without_fence w)) (run_projection (without_fence x)) handed (run_projection-kept (without_fence w) (without_fence x) n v refl refl refl refl refl refl refl bare refl refl) g.core.running;
         alone = alone-kept c (fence n (fence_number n from count) alg) n w refl (λ sole. inr refl) g.core.alone;
         raised = raised-put w x n v refl (λ e. same ∙ (sym named ∙ e)) (λ e j. g.core.raised (same ∙ (sym named ∙ e)) n j) g.core.raised;
       };
-      fence = fence-comes c w x n from count v refl refl refl refl may.on caller none (fence_of-gate (fence_number n from count) (1 + n) alg (closed-fits c.callers (gate_scene w) g.core.gate n caller))
+      fence = fence-comes c w x n from count v refl refl refl refl may.on caller none (fence_of-gate (fence_number n from count) (1 + n) alg (closed-fits c.callers (gate_projection w) g.core.gate n caller))
           (let i = may.inside in let s = may.some in let f = may.fits in omega arith) (let i = may.inside in let f = may.fits in omega arith) may.inside g.core.history.below refl lies out g.fence;
     };
     advances = record { clock = le_refl w.clock; horizon = same-horizon w x (named ∙ sym same) (le_refl w.clock) (le_refl w.done); seen = λ f l. refl };
@@ -185,30 +185,30 @@ module _ (good : (ℕ → ℕ) → Type 0) (c : Config) (n : ℕ) where
       none = g.core.gate.guarded n holds ∙ may.free
 
       caller : n < c.callers
-      caller = is-caller good c (veil w) g.core n (λ idle. let q : Closing ≡ Idle = sym may.phase ∙ idle in cc)
+      caller = is-caller good c (without_fence w) g.core n (λ idle. let q : Closing ≡ Idle = sym may.phase ∙ idle in cc)
 
       plain : (w.views n).gate.granted ≡ false
-      plain = ungranted-out good c (veil w) n g.core (λ e. let q : Closing ≡ In = sym may.phase ∙ e in cc)
+      plain = ungranted-out good c (without_fence w) n g.core (λ e. let q : Closing ≡ In = sym may.phase ∙ e in cc)
 
-      quiet : IsQuiet c n (veil w)
+      quiet : IsQuiet c n (without_fence w)
       quiet = record { closing = may.phase; checked = may.quiet }
 
       -- the memory lies in the heap
-      unveiled : veiled (fence_of w.gate) w.heap w.history ≡ w.heap
-      unveiled = ap (λ k. veiled k w.heap w.history) none ∙ veiled-none-here
+      unveiled : heap_without_fence (fence_of w.gate) w.heap w.history ≡ w.heap
+      unveiled = ap (λ k. heap_without_fence k w.heap w.history) none ∙ heap_without_fence-none-here
         where
-          veiled-none-here : veiled 0 w.heap w.history ≡ w.heap
-          veiled-none-here = veiled-none w.heap w.history
+          heap_without_fence-none-here : heap_without_fence 0 w.heap w.history ≡ w.heap
+          heap_without_fence-none-here = heap_without_fence-none w.heap w.history
 
       lies : (a : ℕ) → w.heap a ≡ word_now w.history a
-      lies a = sym (ap (λ (f : ℕ → ℕ). f a) unveiled) ∙ (quiet-ease good c n (veil w) g.core quiet).heap a
+      lies a = sym (ap (λ (f : ℕ → ℕ). f a) unveiled) ∙ (quiet-ease good c n (without_fence w) g.core quiet).heap a
 
-      bare : veiled (fence_of (gate_word (fence_number n from count) (1 + n) alg)) w.heap w.history ≡ veiled (fence_of w.gate) w.heap w.history
-      bare = veiled-rest (fence_of (gate_word (fence_number n from count) (1 + n) alg)) w.heap w.history (λ a e. lies a) ∙ sym unveiled
+      bare : heap_without_fence (fence_of (gate_word (fence_number n from count) (1 + n) alg)) w.heap w.history ≡ heap_without_fence (fence_of w.gate) w.heap w.history
+      bare = heap_without_fence-rest (fence_of (gate_word (fence_number n from count) (1 + n) alg)) w.heap w.history (λ a e. lies a) ∙ sym unveiled
 
       handed : regime x ≡ regime w
       handed = regime-handed good c n w x v refl (named ∙ sym same) (λ m h. subst (λ (k : ℕ). mode_of (w.views k).gate ≡ Plain) (let o = g.core.gate.mine n holds in let q : n ≡ m = omega arith in q) (plain-mode (w.views n).gate plain may.ungiven))
-          (λ m h. let k = holder-closed c.callers (gate_scene w) g.core.gate n caller (fence_number n from count) alg in omega arith) (plain-mode v.gate plain may.ungiven)
+          (λ m h. let k = holder-closed c.callers (gate_projection w) g.core.gate n caller (fence_number n from count) alg in omega arith) (plain-mode v.gate plain may.ungiven)
 
-      out : (m : ℕ) → put (fence_scene w).phases n v.gate.phase m ≡ In → ⊥
-      out = put-all (fence_scene w).phases n v.gate.phase (λ m p. p ≡ In → ⊥) (λ e. let q : Closing ≡ In = sym may.phase ∙ e in cc) (λ m d e. nobody-else good c n (veil w) g.core may.quiet m d e)
+      out : (m : ℕ) → put (fence_projection w).phases n v.gate.phase m ≡ In → ⊥
+      out = put-all (fence_projection w).phases n v.gate.phase (λ m p. p ≡ In → ⊥) (λ e. let q : Closing ≡ In = sym may.phase ∙ e in cc) (λ m d e. nobody-else good c n (without_fence w) g.core may.quiet m d e)

@@ -10,21 +10,21 @@ use Rattle.rule_base.specs.declared.views.Phase.TheVariants.{Idle, In, Closing}
 use Rattle.rule_base.specs.declared.views.View.{View}
 use Rattle.rule_base.specs.Encodings.{alg_of}
 use Rattle.stm_model.specs.Algorithms.{has_ring, has_records, takes_lock}
-use Rattle.rule_base.specs.GateRule.{gate_scene, GateRule, may_hold}
-use Rattle.rule_base.specs.GateLaws.{gate_scene-kept, gate-marked}
+use Rattle.rule_base.specs.GateRule.{gate_projection, GateRule, may_hold}
+use Rattle.rule_base.specs.GateLaws.{gate_projection-kept, gate-marked}
 use Rattle.rule_base.specs.History.{upto, touches}
 use Rattle.rule_base.specs.HistoryRuleLemmas.{choice-grows, history-kept}
-use Rattle.rule_base.specs.InstallLaws.{not-calm, install-raised, install-done, install_scene-kept, nobody-calm, ticked-install}
+use Rattle.rule_base.specs.InstallLaws.{not-quiescent, install-raised, install-done, install_projection-kept, nobody-quiescent, ticked-install}
 use Rattle.rule_base.specs.Ranks.{rec_of, home_of}
 use Rattle.rule_base.specs.Ranks.Rec.{Taken}
-use Rattle.rule_base.specs.InstallRule.{install_scene, InstallRule}
+use Rattle.rule_base.specs.InstallRule.{install_projection, InstallRule}
 use Rattle.rule_base.specs.RecordLemmas.{records-after}
 use Rattle.rule_base.specs.Regime.{Regime, mode_of, regime, named_in}
 use Rattle.rule_base.specs.Regime.Regime.{Running, Promoted}
 use Rattle.rule_base.specs.RegimeLemmas.{named-regime, regime-kept, regime-inside, regime-granted}
-use Rattle.rule_base.specs.RunScene.{RunView, run_view, RunScene, run_scene}
+use Rattle.rule_base.specs.RunProjection.{RunView, run_view, RunProjection, run_projection}
 use Rattle.rule_base.specs.StepsLemmas.{steps-kept}
-use Rattle.rule_base.specs.StepKinds.{StepKind, Advances, answer, view_after, world_after, Outcome, StepLaw}
+use Rattle.rule_base.specs.StepKinds.{StepKind, Advances, answer, view_after, world_after, StepOutcome, StepLaw}
 use Rattle.rule_base.specs.World.{World, horizon}
 use Rattle.rule_seq.specs.AttemptLemmas.{busy-owned, busy-tml, busy-writer, busy-ring, busy-turn, attempts-after}
 use Rattle.rule_seq.specs.AttemptRule.{is_busy}
@@ -38,7 +38,7 @@ use Rattle.rule_orec.specs.OrecLaws.{taken-rec}
 use Rattle.stm_rule.specs.Alone.{left_at, alone-kept}
 use Rattle.stm_rule.specs.Raised.{Raised, raised-put}
 use Rattle.stm_rule.specs.Product.{Runs, Core}
-use Rattle.stm_rule.specs.Running.{runs-fresh, runs-stays, run_scene-kept}
+use Rattle.stm_rule.specs.Running.{runs-fresh, runs-stays, run_projection-kept}
 
 -- the number from which starts are loaded, where the algorithm stays
 pub same-horizon : (w x : World) → alg_of x.gate ≡ alg_of w.gate → w.clock ≤ x.clock → w.done ≤ x.done → horizon w ≤ horizon x
@@ -72,7 +72,7 @@ pub front-within : (good : (ℕ → ℕ) → Type 0) (c : Config) (w : World) (n
 front-within good c w n g early apart = go (has_ring (alg_of w.gate)) refl
   where
     go : (b : Bool) → has_ring (alg_of w.gate) ≡ b → (w.views n).history.front ≤ (if b then w.done else w.clock)
-    go true e = runs-fresh c (regime w) (run_scene w) n g.running (named-regime w ∙ ring-named (alg_of w.gate) e) early apart
+    go true e = runs-fresh c (regime w) (run_projection w) n g.running (named-regime w ∙ ring-named (alg_of w.gate) e) early apart
     go false e = (g.history.known n).front
 
 -- who has no attempt has no lock
@@ -140,7 +140,7 @@ unheld good c w n g out = go (w.views n).gate.holds refl
 
 -- who holds no gate isn't promoted
 pub ungranted : (good : (ℕ → ℕ) → Type 0) (c : Config) (w : World) (n : ℕ) → Core good c w → (w.views n).gate.holds ≡ false → (w.views n).gate.granted ≡ false
-ungranted good c w n g free = (not-calm c (install_scene w) n g.install free).3
+ungranted good c w n g free = (not-quiescent c (install_projection w) n g.install free).3
 
 -- nor is who is in no attempt
 pub ungranted-out : (good : (ℕ → ℕ) → Type 0) (c : Config) (w : World) (n : ℕ) → Core good c w → ((w.views n).gate.phase ≡ In → ⊥) → (w.views n).gate.granted ≡ false
@@ -152,7 +152,7 @@ ungranted-out good c w n g out = go (w.views n).gate.granted refl
 
 -- who holds no gate gives nothing back
 pub ungiven : (good : (ℕ → ℕ) → Type 0) (c : Config) (w : World) (n : ℕ) → Core good c w → (w.views n).gate.holds ≡ false → (w.views n).gate.giving ≡ false
-ungiven good c w n g free = (not-calm c (install_scene w) n g.install free).4
+ungiven good c w n g free = (not-quiescent c (install_projection w) n g.install free).4
 
 -- nor does who isn't closing
 pub ungiven-out : (good : (ℕ → ℕ) → Type 0) (c : Config) (w : World) (n : ℕ) → Core good c w → ((w.views n).gate.phase ≡ Closing → ⊥) → (w.views n).gate.giving ≡ false
@@ -172,9 +172,9 @@ is-caller good c w g k busy = go (ltb k c.callers) refl
 
 -- the rule of the records while an attempt of theirs isn't promoted
 pub orec-world : (good : (ℕ → ℕ) → Type 0) (c : Config) (w : World) (n : ℕ) → Core good c w → RunsOrec (w.views n) → OrecWorld good c w
-orec-world good c w n g may = record { history = g.history; steps = g.steps; records = g.records; lock = g.lock; attempts = g.attempts; runs = by (w.views n).gate.algorithm may.algorithm (subst (λ (r : Regime). Runs c r (run_scene w)) (regime-inside c w n g.gate g.install may.phase may.plain) g.running) }
+orec-world good c w n g may = record { history = g.history; steps = g.steps; records = g.records; lock = g.lock; attempts = g.attempts; runs = by (w.views n).gate.algorithm may.algorithm (subst (λ (r : Regime). Runs c r (run_projection w)) (regime-inside c w n g.gate g.install may.phase may.plain) g.running) }
   where
-    by : (a : Alg) → has_records a ≡ true → Runs c (Running a) (run_scene w) → OrecRuns c (run_scene w)
+    by : (a : Alg) → has_records a ≡ true → Runs c (Running a) (run_projection w) → OrecRuns c (run_projection w)
     by Cgl e k = absurd cc
     by Tml e k = absurd cc
     by OrecLazy e k = k
@@ -188,7 +188,7 @@ pub record LeavesGate (kind : StepKind) (n : ℕ) : Type 0 where
   pub status : (w : World) → (world_after kind n w).status ≡ w.status
   pub view : (w : World) → (kind.after w (w.views n) (answer kind w)).gate ≡ (w.views n).gate
   pub marks : (w : World) → ((world_after kind n w).base ≡ w.base) × ((world_after kind n w).done ≡ w.done)
-  pub trail : (w : World) → (kind.after w (w.views n) (answer kind w)).steps.trail ≡ (w.views n).steps.trail
+  pub step_trace : (w : World) → (kind.after w (w.views n) (answer kind w)).steps.step_trace ≡ (w.views n).steps.step_trace
 
 -- the step raises the clock, and what the caller knows as the gate's holder is of its new time; it leaves the other words alone
 pub record RaisesClock (kind : StepKind) (n : ℕ) : Type 0 where
@@ -197,18 +197,18 @@ pub record RaisesClock (kind : StepKind) (n : ℕ) : Type 0 where
   pub records : (w : World) → (world_after kind n w).records ≡ w.records
   pub view : (w : World) → (kind.after w (w.views n) (answer kind w)).gate ≡ record (w.views n).gate { time = (world_after kind n w).clock; rebased = false; completed = false }
   pub marks : (w : World) → ((world_after kind n w).base ≡ w.base) × ((world_after kind n w).done ≡ w.done)
-  pub trail : (w : World) → (kind.after w (w.views n) (answer kind w)).steps.trail ≡ (w.views n).steps.trail
+  pub step_trace : (w : World) → (kind.after w (w.views n) (answer kind w)).steps.step_trace ≡ (w.views n).steps.step_trace
 
--- a rise that is taken or not leaves the trail
-pub risen-trail : (b : Bool) (v : View) (n : ℕ) → (if b then record v.steps { rises = n } else v.steps).trail ≡ v.steps.trail
-risen-trail true v n = refl
-risen-trail false v n = refl
+-- a rise that is taken or not leaves the step trace
+pub risen-step_trace : (b : Bool) (v : View) (n : ℕ) → (if b then record v.steps { rises = n } else v.steps).step_trace ≡ v.steps.step_trace
+risen-step_trace true v n = refl
+risen-step_trace false v n = refl
 
 -- the step leaves the clock, the lock, the records and the history alone, and of what the caller knows the history, the rises and what it holds
 pub record LeavesCommon (kind : StepKind) (n : ℕ) : Type 0 where
   pub words : (w : World) → ((world_after kind n w).clock ≡ w.clock) × ((world_after kind n w).lock ≡ w.lock) × ((world_after kind n w).records ≡ w.records)
   pub history : (w : World) → ((world_after kind n w).history ≡ w.history) × ((kind.after w (w.views n) (answer kind w)).history ≡ (w.views n).history)
-  pub steps : (w : World) → ((kind.after w (w.views n) (answer kind w)).steps.trail ≡ (w.views n).steps.trail) × ((kind.after w (w.views n) (answer kind w)).steps.rises ≡ (w.views n).steps.rises)
+  pub steps : (w : World) → ((kind.after w (w.views n) (answer kind w)).steps.step_trace ≡ (w.views n).steps.step_trace) × ((kind.after w (w.views n) (answer kind w)).steps.rises ≡ (w.views n).steps.rises)
   pub held : (w : World) → ((kind.after w (w.views n) (answer kind w)).lock.taken ≡ (w.views n).lock.taken) × ((kind.after w (w.views n) (answer kind w)).owned.held ≡ (w.views n).owned.held)
   pub busy : (w : World) → is_busy (kind.after w (w.views n) (answer kind w)) ≡ is_busy (w.views n)
 
@@ -222,7 +222,7 @@ pub record LeavesRuns (kind : StepKind) (n : ℕ) : Type 0 where
 module _ (good : (ℕ → ℕ) → Type 0) (c : Config) (kind : StepKind) (n : ℕ) (w : World) where
   -- a step at the gate, after which these clauses stand of what runs
   pub by-running : LeavesCommon kind n → Core good c w → ((w.views n).gate.phase ≡ In → (kind.after w (w.views n) (answer kind w)).gate.phase ≡ In) → ((kind.after w (w.views n) (answer kind w)).attempt.entered ≡ true → may_hold (kind.after w (w.views n) (answer kind w)).gate.phase ≡ true) → Raised (world_after kind n w) → horizon w ≤ horizon (world_after kind n w)
-      → GateRule c.callers (gate_scene (world_after kind n w)) → InstallRule c (install_scene (world_after kind n w)) → Runs c (regime (world_after kind n w)) (run_scene (world_after kind n w))
+      → GateRule c.callers (gate_projection (world_after kind n w)) → InstallRule c (install_projection (world_after kind n w)) → Runs c (regime (world_after kind n w)) (run_projection (world_after kind n w))
       → Core good c (world_after kind n w) × Advances w (world_after kind n w)
   by-running leaves g phase entered raised level gate install running = (
     record {
@@ -250,15 +250,15 @@ module _ (good : (ℕ → ℕ) → Type 0) (c : Config) (kind : StepKind) (n : �
       up = subst (λ (k : ℕ). w.clock ≤ k) (sym (leaves.words w).0) (le_refl w.clock)
 
   -- a step at the gate that leaves what runs alone
-  pub by-gate : LeavesRuns kind n → Core good c w → ((w.views n).gate.phase ≡ In → (kind.after w (w.views n) (answer kind w)).gate.phase ≡ In) → ((w.views n).attempt.entered ≡ true → may_hold (kind.after w (w.views n) (answer kind w)).gate.phase ≡ true) → ((w.views n).gate.calm ≡ true → (w.views n).attempt.entered ≡ true → (kind.after w (w.views n) (answer kind w)).gate.calm ≡ true)
-      → GateRule c.callers (gate_scene (world_after kind n w)) → InstallRule c (install_scene (world_after kind n w)) → regime (world_after kind n w) ≡ regime w
+  pub by-gate : LeavesRuns kind n → Core good c w → ((w.views n).gate.phase ≡ In → (kind.after w (w.views n) (answer kind w)).gate.phase ≡ In) → ((w.views n).attempt.entered ≡ true → may_hold (kind.after w (w.views n) (answer kind w)).gate.phase ≡ true) → ((w.views n).gate.quiescent ≡ true → (w.views n).attempt.entered ≡ true → (kind.after w (w.views n) (answer kind w)).gate.quiescent ≡ true)
+      → GateRule c.callers (gate_projection (world_after kind n w)) → InstallRule c (install_projection (world_after kind n w)) → regime (world_after kind n w) ≡ regime w
       → Core good c (world_after kind n w) × Advances w (world_after kind n w)
-  by-gate leaves g phase entered calm gate install same = by-running leaves.common g phase (λ e. entered (sym (ap (λ (u : RunView). u.attempt.entered) (leaves.view w)) ∙ e))
-      (raised-put w x n v refl (λ e. sym (named-regime w) ∙ (sym (ap named_in same) ∙ (named-regime x ∙ e))) (λ e k. let t = sym (ap (λ (u : RunView). u.attempt.entered) (leaves.view w)) ∙ k in calm (g.raised (sym (named-regime w) ∙ (sym (ap named_in same) ∙ (named-regime x ∙ e))) n t) t) g.raised)
+  by-gate leaves g phase entered quiescent gate install same = by-running leaves.common g phase (λ e. entered (sym (ap (λ (u : RunView). u.attempt.entered) (leaves.view w)) ∙ e))
+      (raised-put w x n v refl (λ e. sym (named-regime w) ∙ (sym (ap named_in same) ∙ (named-regime x ∙ e))) (λ e k. let t = sym (ap (λ (u : RunView). u.attempt.entered) (leaves.view w)) ∙ k in quiescent (g.raised (sym (named-regime w) ∙ (sym (ap named_in same) ∙ (named-regime x ∙ e))) n t) t) g.raised)
       (same-horizon w x (sym (named-regime x) ∙ (ap named_in same ∙ named-regime w)) (subst (λ (k : ℕ). w.clock ≤ k) (sym (leaves.common.words w).0) (le_refl w.clock)) (subst (λ (k : ℕ). w.done ≤ k) (sym (leaves.marks w).1) (le_refl w.done)))
       gate install
-      (runs-stays c (regime w) (regime x) (run_scene w) (run_scene x) same
-      (run_scene-kept w x n v refl (leaves.common.words w).0 (leaves.common.words w).1 (leaves.marks w).0 (leaves.marks w).1 (leaves.common.words w).2 (leaves.memory w).1 (leaves.memory w).0 (leaves.common.history w).0 (leaves.view w)) g.running)
+      (runs-stays c (regime w) (regime x) (run_projection w) (run_projection x) same
+      (run_projection-kept w x n v refl (leaves.common.words w).0 (leaves.common.words w).1 (leaves.marks w).0 (leaves.marks w).1 (leaves.common.words w).2 (leaves.memory w).1 (leaves.memory w).0 (leaves.common.history w).0 (leaves.view w)) g.running)
     where
       x : World
       x = world_after kind n w
@@ -271,8 +271,8 @@ pub only-caller : (good : (ℕ → ℕ) → Type 0) (c : Config) (w : World) (n 
 only-caller good c w n g inside sole = let low : n < c.callers = is-caller good c w g n (λ idle. let e : In ≡ Idle = sym inside ∙ idle in cc) in omega arith
 
 -- and finds each record as its last step there left it
-pub as-left : (good : (ℕ → ℕ) → Type 0) (c : Config) (w : World) (n r x : ℕ) → Core good c w → (w.views n).gate.phase ≡ In → c.callers ≡ 1 → left_at r (w.views n).steps.trail ≡ Some x → w.records r ≡ x
-as-left good c w n r x g inside sole e = g.alone sole r x (subst (λ (m : ℕ). left_at r (w.views m).steps.trail ≡ Some x) (only-caller good c w n g inside sole) e)
+pub as-left : (good : (ℕ → ℕ) → Type 0) (c : Config) (w : World) (n r x : ℕ) → Core good c w → (w.views n).gate.phase ≡ In → c.callers ≡ 1 → left_at r (w.views n).steps.step_trace ≡ Some x → w.records r ≡ x
+as-left good c w n r x g inside sole e = g.alone sole r x (subst (λ (m : ℕ). left_at r (w.views m).steps.step_trace ≡ Some x) (only-caller good c w n g inside sole) e)
 
 -- which clauses of what runs a step of an attempt keeps
 pub record Opens (good : (ℕ → ℕ) → Type 0) (c : Config) (kind : StepKind) (shows : World → View → ℕ → Type 0) (n : ℕ) (May : View → Type 0) (w : World) : Type 0 where
@@ -280,29 +280,29 @@ pub record Opens (good : (ℕ → ℕ) → Type 0) (c : Config) (kind : StepKind
   pub is : regime w ≡ runs
   pub inside : (w.views n).gate.phase ≡ In
   pub law : StepLaw (RunWorld (Runs c runs) good c) kind shows n May
-  pub raised : alg_of w.gate ≡ RingSw → (kind.after w (w.views n) (answer kind w)).attempt.entered ≡ true → (w.views n).gate.calm ≡ true
+  pub raised : alg_of w.gate ≡ RingSw → (kind.after w (w.views n) (answer kind w)).attempt.entered ≡ true → (w.views n).gate.quiescent ≡ true
   -- what the gate's holders know outlasts the step
-  pub stands : ((m : ℕ) → (w.views m).gate.calm ≡ true → ⊥) ⊎ ((world_after kind n w).clock ≡ w.clock)
+  pub stands : ((m : ℕ) → (w.views m).gate.quiescent ≡ true → ⊥) ⊎ ((world_after kind n w).clock ≡ w.clock)
 
 -- a step of an attempt, of whichever algorithm, promoted or not
 pub by-attempt : (good : (ℕ → ℕ) → Type 0) (c : Config) (kind : StepKind) (shows : World → View → ℕ → Type 0) (n : ℕ) (May : View → Type 0) → LeavesGate kind n → ((w : World) → Core good c w → May (w.views n) → Opens good c kind shows n May w) → StepLaw (Core good c) kind shows n May
 by-attempt good c kind shows n May leaves opens w g may =
     let p = opens w g may in
-    let o = p.law w (record { history = g.history; steps = g.steps; records = g.records; lock = g.lock; attempts = g.attempts; runs = subst (λ (r : Regime). Runs c r (run_scene w)) p.is g.running }) may in record {
+    let o = p.law w (record { history = g.history; steps = g.steps; records = g.records; lock = g.lock; attempts = g.attempts; runs = subst (λ (r : Regime). Runs c r (run_projection w)) p.is g.running }) may in record {
       rule = record {
         history = o.rule.history;
         steps = o.rule.steps;
-        gate = subst (GateRule c.callers) (sym (gate_scene-kept w x n v refl (leaves.status w) (leaves.gate w) (leaves.view w))) g.gate;
+        gate = subst (GateRule c.callers) (sym (gate_projection-kept w x n v refl (leaves.status w) (leaves.gate w) (leaves.view w))) g.gate;
         install = ⊎_elim
             (λ nobody. install-raised c w x n v refl o.advances.clock (leaves.marks w).0 (leaves.marks w).1 (leaves.view w) nobody g.install)
-            (λ same. subst (InstallRule c) (sym (install_scene-kept w x n v refl same (leaves.marks w).0 (leaves.marks w).1 (leaves.view w))) g.install)
+            (λ same. subst (InstallRule c) (sym (install_projection-kept w x n v refl same (leaves.marks w).0 (leaves.marks w).1 (leaves.view w))) g.install)
             p.stands;
         records = o.rule.records;
         lock = o.rule.lock;
         attempts = o.rule.attempts;
-        running = subst (λ (r : Regime). Runs c r (run_scene x)) (sym (regime-kept w x n v refl (leaves.gate w) (ap mode_of (leaves.view w)) ∙ p.is)) o.rule.runs;
-        alone = alone-kept c kind n w (leaves.trail w) (λ sole. inl (only-caller good c w n g p.inside sole)) g.alone;
-        raised = raised-put w x n v refl (λ e. sym (ap alg_of (leaves.gate w)) ∙ e) (λ e k. ap (λ (q : GateView). q.calm) (leaves.view w) ∙ p.raised (sym (ap alg_of (leaves.gate w)) ∙ e) k) g.raised;
+        running = subst (λ (r : Regime). Runs c r (run_projection x)) (sym (regime-kept w x n v refl (leaves.gate w) (ap mode_of (leaves.view w)) ∙ p.is)) o.rule.runs;
+        alone = alone-kept c kind n w (leaves.step_trace w) (λ sole. inl (only-caller good c w n g p.inside sole)) g.alone;
+        raised = raised-put w x n v refl (λ e. sym (ap alg_of (leaves.gate w)) ∙ e) (λ e k. ap (λ (q : GateView). q.quiescent) (leaves.view w) ∙ p.raised (sym (ap alg_of (leaves.gate w)) ∙ e) k) g.raised;
       };
       advances = o.advances;
       shown = o.shown;
@@ -316,21 +316,21 @@ by-attempt good c kind shows n May leaves opens w g may =
 
 module _ (good : (ℕ → ℕ) → Type 0) (c : Config) (kind : StepKind) (shows : World → View → ℕ → Type 0) (n : ℕ) (May : View → Type 0) where
   -- nobody knows the clock as the gate's holder while an attempt runs that doesn't know it so
-  plain : (w : World) → Core good c w → (w.views n).gate.phase ≡ In → (w.views n).gate.calm ≡ false → (m : ℕ) → (w.views m).gate.calm ≡ true → ⊥
-  plain w g inside free = nobody-calm c w n inside free g.gate g.install (is-caller good c w g n (λ idle. let e : In ≡ Idle = sym inside ∙ idle in cc))
+  plain : (w : World) → Core good c w → (w.views n).gate.phase ≡ In → (w.views n).gate.quiescent ≡ false → (m : ℕ) → (w.views m).gate.quiescent ≡ true → ⊥
+  plain w g inside free = nobody-quiescent c w n inside free g.gate g.install (is-caller good c w g n (λ idle. let e : In ≡ Idle = sym inside ∙ idle in cc))
 
   -- the step leaves the clock alone, or its caller doesn't hold the gate, or doesn't know the clock as its holder
   abbrev pub Calms : Type 0
-  Calms = (w : World) → Core good c w → May (w.views n) → (((w.views n).gate.holds ≡ false) ⊎ ((w.views n).gate.calm ≡ false)) ⊎ ((world_after kind n w).clock ≡ w.clock)
+  Calms = (w : World) → Core good c w → May (w.views n) → (((w.views n).gate.holds ≡ false) ⊎ ((w.views n).gate.quiescent ≡ false)) ⊎ ((world_after kind n w).clock ≡ w.clock)
 
-  calms : (w : World) → Core good c w → (w.views n).gate.phase ≡ In → (((w.views n).gate.holds ≡ false) ⊎ ((w.views n).gate.calm ≡ false)) ⊎ ((world_after kind n w).clock ≡ w.clock) → ((m : ℕ) → (w.views m).gate.calm ≡ true → ⊥) ⊎ ((world_after kind n w).clock ≡ w.clock)
-  calms w g inside e = ⊎_elim (λ k. inl (⊎_elim (λ free. plain w g inside (not-calm c (install_scene w) n g.install free).0) (λ free. plain w g inside free) k)) (λ same. inr same) e
+  calms : (w : World) → Core good c w → (w.views n).gate.phase ≡ In → (((w.views n).gate.holds ≡ false) ⊎ ((w.views n).gate.quiescent ≡ false)) ⊎ ((world_after kind n w).clock ≡ w.clock) → ((m : ℕ) → (w.views m).gate.quiescent ≡ true → ⊥) ⊎ ((world_after kind n w).clock ≡ w.clock)
+  calms w g inside e = ⊎_elim (λ k. inl (⊎_elim (λ free. plain w g inside (not-quiescent c (install_projection w) n g.install free).0) (λ free. plain w g inside free) k)) (λ same. inr same) e
 
   -- under CGL and Serial nothing is promoted
   never : (w : World) → Core good c w → takes_lock (w.views n).gate.algorithm ≡ true → (w.views n).gate.granted ≡ false
   never w g single = go (w.views n).gate.granted refl
     where
-      by : (a : Alg) → takes_lock a ≡ true → Suits (home_of c) a (suit_part n (run_scene w)) → ⊥
+      by : (a : Alg) → takes_lock a ≡ true → Suits (home_of c) a (suit_part n (run_projection w)) → ⊥
       by Cgl e k = k
       by Tml e k = cc
       by OrecLazy e k = cc
@@ -339,7 +339,7 @@ module _ (good : (ℕ → ℕ) → Type 0) (c : Config) (kind : StepKind) (shows
       by Serial e k = k
 
       go : (b : Bool) → (w.views n).gate.granted ≡ b → b ≡ false
-      go true e = absurd (let k : DirectRuns c (w.views n).gate.algorithm n (run_scene w) = subst (λ (r : Regime). Runs c r (run_scene w)) (regime-granted c w n g.gate g.install e) g.running in by (w.views n).gate.algorithm single k.suits)
+      go true e = absurd (let k : DirectRuns c (w.views n).gate.algorithm n (run_projection w) = subst (λ (r : Regime). Runs c r (run_projection w)) (regime-granted c w n g.gate g.install e) g.running in by (w.views n).gate.algorithm single k.suits)
       go false e = refl
 
   -- a step of CGL or Serial
@@ -352,10 +352,10 @@ module _ (good : (ℕ → ℕ) → Type 0) (c : Config) (kind : StepKind) (shows
           let free = never w g i.1 in
           by (w.views n).gate.algorithm i.1 (regime-inside c w n g.gate g.install i.0 free) (calms w g i.0 (clock w g may))
         where
-          other : alg_of w.gate ≡ RingSw → (kind.after w (w.views n) (answer kind w)).attempt.entered ≡ true → (w.views n).gate.calm ≡ true
+          other : alg_of w.gate ≡ RingSw → (kind.after w (w.views n) (answer kind w)).attempt.entered ≡ true → (w.views n).gate.quiescent ≡ true
           other e t = absurd (let i = inside (w.views n) may in let f : true ≡ false = sym i.1 ∙ ap takes_lock (sym (g.gate.named n i.0) ∙ e) in cc)
 
-          by : (a : Alg) → takes_lock a ≡ true → regime w ≡ Running a → ((m : ℕ) → (w.views m).gate.calm ≡ true → ⊥) ⊎ ((world_after kind n w).clock ≡ w.clock) → Opens good c kind shows n May w
+          by : (a : Alg) → takes_lock a ≡ true → regime w ≡ Running a → ((m : ℕ) → (w.views m).gate.quiescent ≡ true → ⊥) ⊎ ((world_after kind n w).clock ≡ w.clock) → Opens good c kind shows n May w
           by Cgl e is stands = record { runs = Running Cgl; is = is; inside = (inside (w.views n) may).0; raised = other; law = law; stands = stands }
           by Tml e is stands = absurd cc
           by OrecLazy e is stands = absurd cc
@@ -372,10 +372,10 @@ module _ (good : (ℕ → ℕ) → Type 0) (c : Config) (kind : StepKind) (shows
           let i = inside (w.views n) may in
           by (w.views n).gate.algorithm i.algorithm (regime-inside c w n g.gate g.install i.phase i.plain) (calms w g i.phase (clock w g may))
         where
-          other : alg_of w.gate ≡ RingSw → (kind.after w (w.views n) (answer kind w)).attempt.entered ≡ true → (w.views n).gate.calm ≡ true
+          other : alg_of w.gate ≡ RingSw → (kind.after w (w.views n) (answer kind w)).attempt.entered ≡ true → (w.views n).gate.quiescent ≡ true
           other e t = absurd (let i = inside (w.views n) may in let f : true ≡ false = sym i.algorithm ∙ ap has_records (sym (g.gate.named n i.phase) ∙ e) in cc)
 
-          by : (a : Alg) → has_records a ≡ true → regime w ≡ Running a → ((m : ℕ) → (w.views m).gate.calm ≡ true → ⊥) ⊎ ((world_after kind n w).clock ≡ w.clock) → Opens good c kind shows n May w
+          by : (a : Alg) → has_records a ≡ true → regime w ≡ Running a → ((m : ℕ) → (w.views m).gate.quiescent ≡ true → ⊥) ⊎ ((world_after kind n w).clock ≡ w.clock) → Opens good c kind shows n May w
           by Cgl e is stands = absurd cc
           by Tml e is stands = absurd cc
           by OrecLazy e is stands = record { runs = Running OrecLazy; is = is; inside = (inside (w.views n) may).phase; raised = other; law = law; stands = stands }
@@ -401,13 +401,13 @@ by-raise good c kind shows n May alg raises inside law w g may = record {
     history = o.rule.history;
     steps = o.rule.steps;
     gate = gate-marked c.callers w x n v refl (raises.status w) (raises.gate w) (known (λ q. q.phase)) (known (λ q. q.present)) (known (λ q. q.algorithm)) (known (λ q. q.fence)) (known (λ q. q.aim)) (known (λ q. q.holds)) (known (λ q. q.checked)) g.gate;
-    install = ticked-install c w x n x.clock v refl refl (raises.marks w).0 (raises.marks w).1 (raises.view w) o.advances.clock calm g.gate g.install;
+    install = ticked-install c w x n x.clock v refl refl (raises.marks w).0 (raises.marks w).1 (raises.view w) o.advances.clock quiescent g.gate g.install;
     records = o.rule.records;
     lock = o.rule.lock;
     attempts = o.rule.attempts;
-    running = subst (λ (r : Regime). Runs c r (run_scene x)) (sym (regime-kept w x n v refl (raises.gate w) (known mode_of) ∙ is)) o.rule.runs;
-    alone = alone-kept c kind n w (raises.trail w) (λ sole. inr (raises.records w)) g.alone;
-    raised = raised-put w x n v refl (λ e. sym (ap alg_of (raises.gate w)) ∙ e) (λ e k. known (λ q. q.calm) ∙ calm) g.raised;
+    running = subst (λ (r : Regime). Runs c r (run_projection x)) (sym (regime-kept w x n v refl (raises.gate w) (known mode_of) ∙ is)) o.rule.runs;
+    alone = alone-kept c kind n w (raises.step_trace w) (λ sole. inr (raises.records w)) g.alone;
+    raised = raised-put w x n v refl (λ e. sym (ap alg_of (raises.gate w)) ∙ e) (λ e k. known (λ q. q.quiescent) ∙ quiescent) g.raised;
   };
   advances = o.advances;
   shown = o.shown;
@@ -423,34 +423,34 @@ by-raise good c kind shows n May alg raises inside law w g may = record {
     known : {A : Type 0} (part : GateView → A) → part v.gate ≡ part (record (w.views n).gate { time = x.clock; rebased = false; completed = false })
     known part = ap part (raises.view w)
 
-    calm : (w.views n).gate.calm ≡ true
-    calm = (g.install.promoted n (inside (w.views n) may).0).0
+    quiescent : (w.views n).gate.quiescent ≡ true
+    quiescent = (g.install.promoted n (inside (w.views n) may).0).0
 
     is : regime w ≡ Promoted alg n
     is = regime-granted c w n g.gate g.install (inside (w.views n) may).0 ∙ ap (λ (a : Alg). Promoted a n) (inside (w.views n) may).1
 
-    o : Outcome (RunWorld (Runs c (Promoted alg n)) good c) kind shows n w
-    o = law w (record { history = g.history; steps = g.steps; records = g.records; lock = g.lock; attempts = g.attempts; runs = subst (λ (r : Regime). Runs c r (run_scene w)) is g.running }) may
+    o : StepOutcome (RunWorld (Runs c (Promoted alg n)) good c) kind shows n w
+    o = law w (record { history = g.history; steps = g.steps; records = g.records; lock = g.lock; attempts = g.attempts; runs = subst (λ (r : Regime). Runs c r (run_projection w)) is g.running }) may
 
 -- a step by which an attempt that isn't promoted raises DONE, while nobody knows the clock as the gate's holder
-pub by-done : (good : (ℕ → ℕ) → Type 0) (c : Config) (kind : StepKind) (shows : World → View → ℕ → Type 0) (n : ℕ) (May : View → Type 0) (a : Alg) → ((w : World) → ((world_after kind n w).gate ≡ w.gate) × ((world_after kind n w).status ≡ w.status) × ((kind.after w (w.views n) (answer kind w)).gate ≡ (w.views n).gate) × ((world_after kind n w).base ≡ w.base) × ((kind.after w (w.views n) (answer kind w)).steps.trail ≡ (w.views n).steps.trail) × ((kind.after w (w.views n) (answer kind w)).attempt.entered ≡ (w.views n).attempt.entered)) → has_ring a ≡ true
-    → ((v : View) → May v → (v.gate.phase ≡ In) × (v.gate.algorithm ≡ a) × (v.gate.granted ≡ false) × (v.gate.calm ≡ false)) → ((s : RunScene) → Runs c (Running a) s → s.done ≤ s.clock) → StepLaw (RunWorld (Runs c (Running a)) good c) kind shows n May → StepLaw (Core good c) kind shows n May
+pub by-done : (good : (ℕ → ℕ) → Type 0) (c : Config) (kind : StepKind) (shows : World → View → ℕ → Type 0) (n : ℕ) (May : View → Type 0) (a : Alg) → ((w : World) → ((world_after kind n w).gate ≡ w.gate) × ((world_after kind n w).status ≡ w.status) × ((kind.after w (w.views n) (answer kind w)).gate ≡ (w.views n).gate) × ((world_after kind n w).base ≡ w.base) × ((kind.after w (w.views n) (answer kind w)).steps.step_trace ≡ (w.views n).steps.step_trace) × ((kind.after w (w.views n) (answer kind w)).attempt.entered ≡ (w.views n).attempt.entered)) → has_ring a ≡ true
+    → ((v : View) → May v → (v.gate.phase ≡ In) × (v.gate.algorithm ≡ a) × (v.gate.granted ≡ false) × (v.gate.quiescent ≡ false)) → ((s : RunProjection) → Runs c (Running a) s → s.done ≤ s.clock) → StepLaw (RunWorld (Runs c (Running a)) good c) kind shows n May → StepLaw (Core good c) kind shows n May
 by-done good c kind shows n May a leaves ring inside low law w g may =
     let i = inside (w.views n) may in
     let is : regime w ≡ Running a = regime-inside c w n g.gate g.install i.0 i.2 ∙ ap Running i.1 in
-    let o = law w (record { history = g.history; steps = g.steps; records = g.records; lock = g.lock; attempts = g.attempts; runs = subst (λ (r : Regime). Runs c r (run_scene w)) is g.running }) may in record {
+    let o = law w (record { history = g.history; steps = g.steps; records = g.records; lock = g.lock; attempts = g.attempts; runs = subst (λ (r : Regime). Runs c r (run_projection w)) is g.running }) may in record {
       rule = record {
         history = o.rule.history;
         steps = o.rule.steps;
-        gate = subst (GateRule c.callers) (sym (gate_scene-kept w x n v refl (leaves w).1 (leaves w).0 (leaves w).2)) g.gate;
-        install = install-done c w x n v refl o.advances.clock (leaves w).3 (low (run_scene x) o.rule.runs) (up o.advances.horizon) (leaves w).2
-            (nobody-calm c w n i.0 i.3 g.gate g.install (is-caller good c w g n (λ idle. let e : In ≡ Idle = sym i.0 ∙ idle in cc))) g.install;
+        gate = subst (GateRule c.callers) (sym (gate_projection-kept w x n v refl (leaves w).1 (leaves w).0 (leaves w).2)) g.gate;
+        install = install-done c w x n v refl o.advances.clock (leaves w).3 (low (run_projection x) o.rule.runs) (up o.advances.horizon) (leaves w).2
+            (nobody-quiescent c w n i.0 i.3 g.gate g.install (is-caller good c w g n (λ idle. let e : In ≡ Idle = sym i.0 ∙ idle in cc))) g.install;
         records = o.rule.records;
         lock = o.rule.lock;
         attempts = o.rule.attempts;
-        running = subst (λ (r : Regime). Runs c r (run_scene x)) (sym (regime-kept w x n v refl (leaves w).0 (ap mode_of (leaves w).2) ∙ is)) o.rule.runs;
+        running = subst (λ (r : Regime). Runs c r (run_projection x)) (sym (regime-kept w x n v refl (leaves w).0 (ap mode_of (leaves w).2) ∙ is)) o.rule.runs;
         alone = alone-kept c kind n w (leaves w).4 (λ sole. inl (only-caller good c w n g i.0 sole)) g.alone;
-        raised = raised-put w x n v refl (λ e. sym (ap alg_of (leaves w).0) ∙ e) (λ e k. ap (λ (q : GateView). q.calm) (leaves w).2 ∙ g.raised (sym (ap alg_of (leaves w).0) ∙ e) n (sym (leaves w).5 ∙ k)) g.raised;
+        raised = raised-put w x n v refl (λ e. sym (ap alg_of (leaves w).0) ∙ e) (λ e k. ap (λ (q : GateView). q.quiescent) (leaves w).2 ∙ g.raised (sym (ap alg_of (leaves w).0) ∙ e) n (sym (leaves w).5 ∙ k)) g.raised;
       };
       advances = o.advances;
       shown = o.shown;

@@ -11,11 +11,11 @@ use Rattle.rule_base.specs.declared.views.Phase.TheVariants.{In, Closing}
 use Rattle.rule_base.specs.declared.views.View.{View}
 use Rattle.rule_base.specs.EncodingLemmas.{alg_of-gate, fence_of-gate}
 use Rattle.rule_base.specs.Encodings.{alg_of, holder_of, fence_of, fenced, gate_word}
-use Rattle.rule_base.specs.Fence.{veiled, veil, fence_scene, FenceHolder}
-use Rattle.rule_base.specs.FenceLaws.{veiled-none, veiled-out, veiled-rest, fence-held, fence-goes}
+use Rattle.rule_base.specs.Fence.{heap_without_fence, without_fence, fence_projection, FenceHolder}
+use Rattle.rule_base.specs.FenceLaws.{heap_without_fence-none, heap_without_fence-out, heap_without_fence-rest, fence-held, fence-goes}
 use Rattle.rule_base.specs.FenceSteps.{fence_entry, fence_commit, CanFenceCommit, FenceCommits, unfence, CanUnfence}
 use Rattle.rule_base.specs.GateLaws.{gate-marked, fence-gate, holder-closed, closed-fits}
-use Rattle.rule_base.specs.GateRule.{gate_scene, may_hold}
+use Rattle.rule_base.specs.GateRule.{gate_projection, may_hold}
 use Rattle.rule_base.specs.History.{over, touches, word_now, Below, Follows}
 use Rattle.rule_base.specs.HistoryLemmas.{over-miss, below-more, upto-all, legal-good, legal-small}
 use Rattle.rule_base.specs.HistoryRuleLemmas.{advances-entry, history-kept, history-entry}
@@ -28,22 +28,22 @@ use Rattle.rule_base.specs.Regime.Mode.{Plain}
 use Rattle.rule_base.specs.Regime.Regime.{Running, Giving}
 use Rattle.rule_base.specs.RegimeLemmas.{named-regime, plain-mode, regime-running, regime-giving}
 use Rattle.rule_base.specs.Rest.{IsQuiet}
-use Rattle.rule_base.specs.RunScene.{run_view, run_scene}
+use Rattle.rule_base.specs.RunProjection.{run_view, run_projection}
 use Rattle.rule_base.specs.StepKinds.{view_after, world_after, Nothing, Advances, StepLaw}
 use Rattle.rule_base.specs.StepsLemmas.{steps-kept, steps-raised}
 use Rattle.rule_base.specs.World.{World}
 use Rattle.rule_seq.specs.AttemptLemmas.{attempts-after}
-use Rattle.rule_seq.specs.LockLemmas.{lock_scene-kept}
+use Rattle.rule_seq.specs.LockLemmas.{lock_projection-kept}
 use Rattle.rule_seq.specs.LockRule.{LockRule}
 use Rattle.stm_rule.specs.Alone.{alone-kept}
 use Rattle.stm_rule.specs.ClosingLaws.{regime-handed}
 use Rattle.stm_rule.specs.FenceFindings.{FindsEven, CanSettleBack}
 use Rattle.stm_rule.specs.Frames.{same-horizon, ungranted-out, uncommitted}
 use Rattle.stm_rule.specs.Lifted.{settles_within}
-use Rattle.stm_rule.specs.Product.{Gives, Runs, Whole}
+use Rattle.stm_rule.specs.Product.{Gives, Runs, Invariant}
 use Rattle.stm_rule.specs.Raised.{raised-put}
 use Rattle.stm_rule.specs.RestLaws.{quiet-ease, heap-rests, nobody-else}
-use Rattle.stm_rule.specs.Running.{Ready, from-rest, ease-own, runs-fresh, runs-stays, run_scene-kept}
+use Rattle.stm_rule.specs.Running.{Ready, from-rest, ease-own, runs-fresh, runs-stays, run_projection-kept}
 
 entry_rise-some : (alg : Alg) → 0 < entry_rise alg
 entry_rise-some Cgl = omega arith
@@ -55,34 +55,34 @@ entry_rise-some Serial = omega arith
 
 module _ (good : (ℕ → ℕ) → Type 0) (c : Config) (n : ℕ) where
   -- the holder is in no attempt, and the memory lies in the heap outside the range
-  outside-lies : (w : World) → Whole good c w → IsQuiet c n (veil w) → (a : ℕ) → fenced (fence_of w.gate) a ≡ false → w.heap a ≡ word_now w.history a
-  outside-lies w g quiet a out = sym (veiled-out (fence_of w.gate) w.heap w.history a out) ∙ (quiet-ease good c n (veil w) g.core quiet).heap a
+  outside-lies : (w : World) → Invariant good c w → IsQuiet c n (without_fence w) → (a : ℕ) → fenced (fence_of w.gate) a ≡ false → w.heap a ≡ word_now w.history a
+  outside-lies w g quiet a out = sym (heap_without_fence-out (fence_of w.gate) w.heap w.history a out) ∙ (quiet-ease good c n (without_fence w) g.core quiet).heap a
 
   -- THE CLOCK before a give-back
-  pub settles_back : (alg : Alg) → StepLaw (Whole good c) settle (FindsEven alg) n (CanSettleBack c.callers n alg)
+  pub settles_back : (alg : Alg) → StepLaw (Invariant good c) settle (FindsEven alg) n (CanSettleBack c.callers n alg)
   settles_back alg w g may =
       let o = settles_within good c n w g may.settle in
-      let quiet : IsQuiet c n (veil w) = record { closing = may.closing; checked = may.settle.quiet } in record {
+      let quiet : IsQuiet c n (without_fence w) = record { closing = may.closing; checked = may.settle.quiet } in record {
         rule = o.rule;
         advances = o.advances;
-        shown = (o.shown, λ tml. (heap-rests good c n (veil w) g.core quiet).1 (g.core.gate.held n may.settle.holds ∙ (may.named ∙ tml)));
+        shown = (o.shown, λ tml. (heap-rests good c n (without_fence w) g.core quiet).1 (g.core.gate.held n may.settle.holds ∙ (may.named ∙ tml)));
       }
 
   -- THE ENTRY of a give-back
-  pub fence_commits : (alg : Alg) (t : ℕ) → StepLaw (Whole good c) (fence_commit n alg t) (FenceCommits good c n t) n (CanFenceCommit good alg t)
+  pub fence_commits : (alg : Alg) (t : ℕ) → StepLaw (Invariant good c) (fence_commit n alg t) (FenceCommits good c n t) n (CanFenceCommit good alg t)
   fence_commits alg t w g may = record {
     rule = record {
       core = record {
         history = history-entry good c w x n e v refl refl refl refl refl later may.limit follows g.core.history;
         steps = steps-raised c (fence_commit n alg t) n w (entry_rise alg) low next refl refl g.core.steps;
         gate = gate-marked c.callers w x n v refl refl refl refl refl refl refl refl refl refl g.core.gate;
-        install = given-install c w x n t v refl refl refl refl refl up may.calm may.phase g.core.gate g.core.install;
+        install = given-install c w x n t v refl refl refl refl refl up may.quiescent may.phase g.core.gate g.core.install;
         records = records-stay w x n v refl up refl refl refl g.core.records;
-        lock = subst LockRule (sym (lock_scene-kept w x n v refl refl refl refl)) g.core.lock;
+        lock = subst LockRule (sym (lock_projection-kept w x n v refl refl refl refl)) g.core.lock;
         attempts = attempts-after w x n v refl (λ f. g.core.attempts.busy n f) (λ f. ap may_hold may.phase) g.core.attempts;
-        running = subst (λ (r : Regime). Runs c r (run_scene (veil x))) (sym giving) gives;
+        running = subst (λ (r : Regime). Runs c r (run_projection (without_fence x))) (sym giving) gives;
         alone = alone-kept c (fence_commit n alg t) n w refl (λ sole. inr refl) g.core.alone;
-        raised = raised-put w x n v refl (λ f. f) (λ f k. may.calm) g.core.raised;
+        raised = raised-put w x n v refl (λ f. f) (λ f k. may.quiescent) g.core.raised;
       };
       fence = fence-held c w x n v refl refl up advances.seen may.holds may.holds refl (record {
         stored = h.stored;
@@ -113,7 +113,7 @@ module _ (good : (ℕ → ℕ) → Type 0) (c : Config) (n : ℕ) where
       e : Entry
       e = fence_entry n t (w.views n)
 
-      h : FenceHolder (fence_scene w) (w.views n).fence
+      h : FenceHolder (fence_projection w) (w.views n).fence
       h = g.fence.holder n may.holds
 
       low : n < c.callers
@@ -125,11 +125,11 @@ module _ (good : (ℕ → ℕ) → Type 0) (c : Config) (n : ℕ) where
       named : alg_of w.gate ≡ alg
       named = g.core.gate.held n holds ∙ may.named
 
-      quiet : IsQuiet c n (veil w)
-      quiet = record { closing = may.phase; checked = λ k few other. g.core.install.alone n k may.calm few other }
+      quiet : IsQuiet c n (without_fence w)
+      quiet = record { closing = may.phase; checked = λ k few other. g.core.install.alone n k may.quiescent few other }
 
       next : t ≡ w.clock + entry_rise alg
-      next = may.time ∙ ap (λ k. k + entry_rise alg) (sym (g.core.install.time n may.calm))
+      next = may.time ∙ ap (λ k. k + entry_rise alg) (sym (g.core.install.time n may.quiescent))
 
       later : w.clock < t
       later = let k = next in let s = entry_rise-some alg in omega arith
@@ -160,7 +160,7 @@ module _ (good : (ℕ → ℕ) → Type 0) (c : Config) (n : ℕ) where
       }
 
       plain : (w.views n).gate.granted ≡ false
-      plain = ungranted-out good c (veil w) n g.core (λ f. let q : Closing ≡ In = sym may.phase ∙ f in cc)
+      plain = ungranted-out good c (without_fence w) n g.core (λ f. let q : Closing ≡ In = sym may.phase ∙ f in cc)
 
       giving : regime x ≡ Giving (alg_of w.gate)
       giving = regime-giving x n (g.core.gate.mine n holds) (ap (λ (u : View). u.gate.granted) (put-here w.views n v) ∙ plain) (ap (λ (u : View). u.gate.giving) (put-here w.views n v))
@@ -177,13 +177,13 @@ module _ (good : (ℕ → ℕ) → Type 0) (c : Config) (n : ℕ) where
       entered : (x.views n).attempt.entered ≡ true
       entered = ap (λ (u : View). u.attempt.entered) (put-here w.views n v)
 
-      gives : Gives (alg_of w.gate) (run_scene (veil x))
+      gives : Gives (alg_of w.gate) (run_projection (without_fence x))
       gives = record {
         heap = λ a. lies a (fenced (fence_of w.gate) a) refl;
-        even = λ q. even_after (heap-rests good c n (veil w) g.core quiet).1 q;
+        even = λ q. even_after (heap-rests good c n (without_fence w) g.core quiet).1 q;
         fresh = λ q. put-all w.views n v (λ m u. u.attempt.entered ≡ false → u.history.front ≤ w.done)
             (λ f. absurd cc)
-            (λ m d f. runs-fresh c (regime (veil w)) (run_scene (veil w)) m g.core.running (named-regime (veil w) ∙ q) (uncommitted good c (veil w) m g.core (nobody-else good c n (veil w) g.core quiet.checked m d)) f);
+            (λ m d f. runs-fresh c (regime (without_fence w)) (run_projection (without_fence w)) m g.core.running (named-regime (without_fence w) ∙ q) (uncommitted good c (without_fence w) m g.core (nobody-else good c n (without_fence w) g.core quiet.checked m d)) f);
         level = λ q settled. absurd (let f : true ≡ false = sym entered ∙ settled n in cc);
       }
         where
@@ -194,7 +194,7 @@ module _ (good : (ℕ → ℕ) → Type 0) (c : Config) (n : ℕ) where
               let k : t ≡ w.clock + entry_rise alg = next in omega arith
 
   -- THE GATE WITHOUT THE FENCE
-  pub unfences : (alg : Alg) → StepLaw (Whole good c) (unfence n alg) Nothing n (CanUnfence c.callers n alg)
+  pub unfences : (alg : Alg) → StepLaw (Invariant good c) (unfence n alg) Nothing n (CanUnfence c.callers n alg)
   unfences alg w g may = record {
     rule = record {
       core = record {
@@ -203,7 +203,7 @@ module _ (good : (ℕ → ℕ) → Type 0) (c : Config) (n : ℕ) where
         gate = fence-gate c.callers 0 false alg w x n v refl refl refl refl may.named may.phase may.quiet g.core.gate;
         install = install-given c w x n 0 v refl refl refl refl refl g.core.install;
         records = records-stay w x n v refl (le_refl w.clock) refl refl refl g.core.records;
-        lock = subst LockRule (sym (lock_scene-kept w x n v refl refl refl refl)) g.core.lock;
+        lock = subst LockRule (sym (lock_projection-kept w x n v refl refl refl refl)) g.core.lock;
         attempts = attempts-after w x n v refl (λ f. g.core.attempts.busy n f) (λ f. absurd cc) g.core.attempts;
         running = runs (w.views n).gate.giving refl;
         alone = alone-kept c (unfence n alg) n w refl (λ sole. inr refl) g.core.alone;
@@ -221,7 +221,7 @@ module _ (good : (ℕ → ℕ) → Type 0) (c : Config) (n : ℕ) where
       v : View
       v = view_after (unfence n alg) w (w.views n) (gate_word 0 (1 + n) alg)
 
-      h : FenceHolder (fence_scene w) (w.views n).fence
+      h : FenceHolder (fence_projection w) (w.views n).fence
       h = g.fence.holder n may.holds
 
       low : n < c.callers
@@ -237,24 +237,24 @@ module _ (good : (ℕ → ℕ) → Type 0) (c : Config) (n : ℕ) where
       named = alg_of-gate 0 (1 + n) alg
 
       unfenced : fence_of (gate_word 0 (1 + n) alg) ≡ 0
-      unfenced = fence_of-gate 0 (1 + n) alg (closed-fits c.callers (gate_scene w) g.core.gate n low)
+      unfenced = fence_of-gate 0 (1 + n) alg (closed-fits c.callers (gate_projection w) g.core.gate n low)
 
-      quiet : IsQuiet c n (veil w)
+      quiet : IsQuiet c n (without_fence w)
       quiet = record { closing = may.phase; checked = may.quiet }
 
       plain : (w.views n).gate.granted ≡ false
-      plain = ungranted-out good c (veil w) n g.core (λ f. let q : Closing ≡ In = sym may.phase ∙ f in cc)
+      plain = ungranted-out good c (without_fence w) n g.core (λ f. let q : Closing ≡ In = sym may.phase ∙ f in cc)
 
-      -- the veil hides nothing, before and after
-      bare : veiled (fence_of (gate_word 0 (1 + n) alg)) w.heap w.history ≡ veiled (fence_of w.gate) w.heap w.history
-      bare = ap (λ k. veiled k w.heap w.history) unfenced ∙ (veiled-none w.heap w.history ∙ sym (veiled-rest (fence_of w.gate) w.heap w.history (λ a f. h.stored a f ∙ ap (λ (l : List Cell). over l a (word_now w.history a)) may.unstored)))
+      -- leaving the fence out hides nothing, before and after
+      bare : heap_without_fence (fence_of (gate_word 0 (1 + n) alg)) w.heap w.history ≡ heap_without_fence (fence_of w.gate) w.heap w.history
+      bare = ap (λ k. heap_without_fence k w.heap w.history) unfenced ∙ (heap_without_fence-none w.heap w.history ∙ sym (heap_without_fence-rest (fence_of w.gate) w.heap w.history (λ a f. h.stored a f ∙ ap (λ (l : List Cell). over l a (word_now w.history a)) may.unstored)))
 
       alone : (m : ℕ) → holder_of (gate_word 0 (1 + n) alg) ≡ 1 + m → m ≡ n
-      alone m f = let k = holder-closed c.callers (gate_scene w) g.core.gate n low 0 alg in omega arith
+      alone m f = let k = holder-closed c.callers (gate_projection w) g.core.gate n low 0 alg in omega arith
 
-      runs : (b : Bool) → (w.views n).gate.giving ≡ b → Runs c (regime (veil x)) (run_scene (veil x))
-      runs true f = subst (λ (r : Regime). Runs c r (run_scene (veil x))) (sym is)
-          (from-rest c alg (run_scene (veil x)) (ease-own (veil w) (veil x) n v refl (le_refl w.clock) refl bare refl refl refl refl refl refl (quiet-ease good c n (veil w) g.core quiet)) ready)
+      runs : (b : Bool) → (w.views n).gate.giving ≡ b → Runs c (regime (without_fence x)) (run_projection (without_fence x))
+      runs true f = subst (λ (r : Regime). Runs c r (run_projection (without_fence x))) (sym is)
+          (from-rest c alg (run_projection (without_fence x)) (ease-own (without_fence w) (without_fence x) n v refl (le_refl w.clock) refl bare refl refl refl refl refl refl (quiet-ease good c n (without_fence w) g.core quiet)) ready)
         where
           own : (m : ℕ) → m ≡ n → mode_of (x.views m).gate ≡ Plain
           own m k = ap (λ (j : ℕ). mode_of (x.views j).gate) k ∙ (ap (λ (u : View). mode_of u.gate) (put-here w.views n v) ∙ plain-mode v.gate plain refl)
@@ -262,16 +262,16 @@ module _ (good : (ℕ → ℕ) → Type 0) (c : Config) (n : ℕ) where
           is : regime x ≡ Running alg
           is = regime-running x (λ m k. own m (alone m k)) ∙ ap Running named
 
-          marked : ((w.views n).gate.calm ≡ true) × ((w.views n).gate.rebased ≡ true) × ((w.views n).gate.completed ≡ true)
+          marked : ((w.views n).gate.quiescent ≡ true) × ((w.views n).gate.rebased ≡ true) × ((w.views n).gate.completed ≡ true)
           marked = may.marked f
 
-          ready : Ready alg (run_scene (veil x))
+          ready : Ready alg (run_projection (without_fence x))
           ready = record {
-            even = λ q. (heap-rests good c n (veil w) g.core quiet).1 (same ∙ q);
+            even = λ q. (heap-rests good c n (without_fence w) g.core quiet).1 (same ∙ q);
             based = (g.core.install.rebased n marked.1).1 ∙ sym (g.core.install.time n marked.0);
             done = (g.core.install.completed n marked.2).1 ∙ sym (g.core.install.time n marked.0);
             fronts = put-all w.views n v (λ m u. u.history.front ≤ w.clock) (g.core.history.known n).front (λ m d. (g.core.history.known m).front);
           }
-      runs false f = runs-stays c (regime (veil w)) (regime (veil x)) (run_scene (veil w)) (run_scene (veil x))
-          (regime-handed good c n (veil w) (veil x) v refl (named ∙ sym same) (λ m k. subst (λ (j : ℕ). mode_of (w.views j).gate ≡ Plain) (let o = g.core.gate.mine n holds in let q : n ≡ m = omega arith in q) (plain-mode (w.views n).gate plain f)) alone (plain-mode v.gate plain refl))
-          (run_scene-kept (veil w) (veil x) n v refl refl refl refl refl refl refl bare refl (λ i. record (run_view (w.views n)) { attempt = record (w.views n).attempt { entered = sym (may.plain f) i } })) g.core.running
+      runs false f = runs-stays c (regime (without_fence w)) (regime (without_fence x)) (run_projection (without_fence w)) (run_projection (without_fence x))
+          (regime-handed good c n (without_fence w) (without_fence x) v refl (named ∙ sym same) (λ m k. subst (λ (j : ℕ). mode_of (w.views j).gate ≡ Plain) (let o = g.core.gate.mine n holds in let q : n ≡ m = omega arith in q) (plain-mode (w.views n).gate plain f)) alone (plain-mode v.gate plain refl))
+          (run_projection-kept (without_fence w) (without_fence x) n v refl refl refl refl refl refl refl bare refl (λ i. record (run_view (w.views n)) { attempt = record (w.views n).attempt { entered = sym (may.plain f) i } })) g.core.running

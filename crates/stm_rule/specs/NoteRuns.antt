@@ -8,7 +8,7 @@ use Rattle.rule_base.specs.Seating.{IsSeen}
 use Rattle.rule_base.specs.StepKinds.{world_after}
 use Rattle.rule_base.specs.World.{World, put}
 use Rattle.stm_rule.specs.CoreRuns.{CoreStep, core_kind, CoreMay}
-use Rattle.stm_rule.specs.Product.{Whole}
+use Rattle.stm_rule.specs.Product.{Invariant}
 
 -- a world, and the notes that were told and not yet learnt, the latest first
 pub record Shared : Type 0 where
@@ -35,7 +35,7 @@ notes_without (k ∷ ks) (suc i) = k ∷ notes_without ks i
 abbrev pub after_load : ℕ → World → World
 after_load n w = record w { views = put w.views n (after_seat_load (w.views n)) }
 
--- a split and a join leave the words alone, and the load that each makes is in the caller's trail; learning spends the note
+-- a split and a join leave the words alone, and the load that each makes is in the caller's step trace; learning spends the note
 abbrev pub after_deed : ℕ → Deed → Shared → Shared
 after_deed n (steps step) x = record x { world = world_after (core_kind n step) n x.world }
 after_deed n tells x = record { world = after_load n x.world; notes = noted_history (x.world.views n).history ∷ x.notes }
@@ -52,7 +52,7 @@ AllSeen w (k ∷ ks) = IsSeen w k × AllSeen w ks
 module _ (good : (ℕ → ℕ) → Type 0) (c : Config) where
   -- the world meets the rule, and each note tells a prefix of its history
   pub record SharedRule (x : Shared) : Type 0 where
-    pub rule : Whole good c x.world
+    pub rule : Invariant good c x.world
     pub seen : AllSeen x.world x.notes
 
   -- who tells or learns is idle; a seat may be joined to another at any time

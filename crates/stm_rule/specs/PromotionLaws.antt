@@ -10,59 +10,59 @@ use Rattle.rule_base.specs.declared.views.Phase.TheVariants.{Idle, In, Closing}
 use Rattle.rule_base.specs.declared.views.View.{View}
 use Rattle.rule_base.specs.EncodingLemmas.{alg_of-gate, holder_of-open}
 use Rattle.rule_base.specs.Encodings.{alg_of, holder_of, fence_of, gate_word, version_of}
-use Rattle.rule_base.specs.GateLaws.{gate_scene-kept, gate-marked, seize-gate, return_gate-gate, holder-closed, is-caller-at}
-use Rattle.rule_base.specs.GateRule.{gate_scene, GateRule, may_hold}
+use Rattle.rule_base.specs.GateLaws.{gate_projection-kept, gate-marked, seize-gate, return_gate-gate, holder-closed, is-caller-at}
+use Rattle.rule_base.specs.GateRule.{gate_projection, GateRule, may_hold}
 use Rattle.stm_model.specs.Algorithms.{has_records}
 use Rattle.rule_base.specs.GateSteps.{look_gate, CanLookGate, seized, seize, CanSeize, granted_at, returned, return_gate, CanReturn}
 use Rattle.rule_base.specs.History.{over, touches, word_at, word_now}
-use Rattle.rule_base.specs.HistoryRule.{HistoryRule, history_scene}
+use Rattle.rule_base.specs.HistoryRule.{HistoryRule, history_projection}
 use Rattle.rule_base.specs.Ranks.{rec_of, home_of}
-use Rattle.rule_base.specs.RecordRule.{record_scene, RecordRule}
+use Rattle.rule_base.specs.RecordRule.{record_projection, RecordRule}
 use Rattle.rule_base.specs.declared.views.GateView.{GateView}
 use Rattle.stm_model.specs.declared.config.TheConstants.{CLOCK_LIMIT}
 use Rattle.rule_base.specs.HistoryRuleLemmas.{history-kept, history-seen, advances-same}
-use Rattle.rule_base.specs.InstallLaws.{install_scene-kept, install-view, grant-install}
+use Rattle.rule_base.specs.InstallLaws.{install_projection-kept, install-view, grant-install}
 use Rattle.rule_base.specs.InstallSteps.{HasChecked}
-use Rattle.rule_base.specs.InstallRule.{install_scene, InstallRule}
+use Rattle.rule_base.specs.InstallRule.{install_projection, InstallRule}
 use Rattle.rule_base.specs.PutLemmas.{put-all, put-here}
 use Rattle.rule_base.specs.RecordLemmas.{records-stay}
 use Rattle.rule_base.specs.Regime.{Regime, mode_of, regime}
 use Rattle.rule_base.specs.Regime.Mode.{Plain}
 use Rattle.rule_base.specs.Regime.Regime.{Running, Promoted}
 use Rattle.rule_base.specs.RegimeLemmas.{plain-mode, regime-running, regime-promoted, regime-kept, regime-inside, regime-granted, granted-regime}
-use Rattle.rule_base.specs.RunScene.{run_view, run_scene}
+use Rattle.rule_base.specs.RunProjection.{run_view, run_projection}
 use Rattle.rule_base.specs.StepKinds.{view_after, world_after, Nothing, StepLaw}
 use Rattle.rule_base.specs.StepsLemmas.{steps-kept}
 use Rattle.rule_base.specs.World.{World, put, parts}
 use Rattle.rule_seq.specs.AttemptLemmas.{busy-owned, busy-tml, busy-writer, busy-ring, busy-turn, attempts-in}
 use Rattle.rule_seq.specs.CglSteps.{Loads, Commits}
-use Rattle.rule_seq.specs.LockLemmas.{lock_scene-kept}
-use Rattle.rule_seq.specs.LockRule.{LockRule, lock_scene}
+use Rattle.rule_seq.specs.LockLemmas.{lock_projection-kept}
+use Rattle.rule_seq.specs.LockRule.{LockRule, lock_projection}
 use Rattle.rule_seq.specs.RunWorld.{RunWorld}
 use Rattle.rule_promoted.specs.PromotedLaws.{tml-granted}
 use Rattle.rule_promoted.specs.PromotedLaws as direct
 use Rattle.rule_promoted.specs.PromotedRule.{DirectRuns}
 use Rattle.rule_promoted.specs.PromotedSteps.{tml_grants, tml_grant, CanTmlGrant, direct_load, CanDirectLoad, direct_store, CanDirectStore, direct_commit, CanDirectCommit, direct_release, CanDirectRelease}
-use Rattle.rule_promoted.specs.RaisingSteps.{direct_lift, CanDirectLift, direct_up, CanDirectUp}
+use Rattle.rule_promoted.specs.RaisingSteps.{direct_raise_clock, CanDirectRaiseClock, direct_up, CanDirectUp}
 use Rattle.rule_promoted.specs.RaisingLaws as raising
 use Rattle.stm_rule.specs.ClosingLaws.{regime-handed}
 use Rattle.stm_rule.specs.Findings.{NamesOther, FindsHolder, FindsTaken, OrecFails}
 use Rattle.stm_rule.specs.Alone.{alone-kept}
 use Rattle.stm_rule.specs.Raised.{raised-put}
-use Rattle.stm_rule.specs.Frames.{by-gate, by-running, by-direct, by-raise, risen-trail, ungranted, ungiven-out, same-horizon, owner-holds, none-apart, orec-world}
+use Rattle.stm_rule.specs.Frames.{by-gate, by-running, by-direct, by-raise, risen-step_trace, ungranted, ungiven-out, same-horizon, owner-holds, none-apart, orec-world}
 use Rattle.stm_rule.specs.Laws.{closer}
 use Rattle.stm_rule.specs.RecordLaws.{fails}
 use Rattle.stm_rule.specs.Product.{Runs, Core}
 use Rattle.stm_rule.specs.RestLaws.{nobody-else, nobody-by}
-use Rattle.rule_seq.specs.AttemptRule.{attempt_scene, AttemptRule}
+use Rattle.rule_seq.specs.AttemptRule.{attempt_projection, AttemptRule}
 use Rattle.rule_promoted.specs.PromotedLaws as direct
-use Rattle.rule_orec.specs.OrecRule.{orec_view, orec_scene, OrecRule, OrecWorld}
+use Rattle.rule_orec.specs.OrecRule.{orec_view, orec_projection, OrecRule, OrecWorld}
 use Rattle.rule_orec.specs.OrecRely.{rule_of, with_view}
 use Rattle.rule_orec.specs.OrecReading.{no_sample, no_check, forget-kept, validated, validated-all}
 use Rattle.rule_orec.specs.OrecSteps.{RunsOrec, HasOpen, passes, direct_attempt, direct_owned, HasStores, orec_grant, CanOrecGrant, orec_grant_all, CanOrecGrantAll}
-use Rattle.rule_orec.specs.OrecLaws.{rec-free, passed-at, orec_scene-put, full-world}
+use Rattle.rule_orec.specs.OrecLaws.{rec-free, passed-at, orec_projection-put, full-world}
 use Rattle.rule_promoted.specs.OrecGranted.{orec-granted}
-use Rattle.stm_rule.specs.Running.{back, runs-stays, runs-leave, run_scene-kept, run_scene-put}
+use Rattle.stm_rule.specs.Running.{back, runs-stays, runs-leave, run_projection-kept, run_projection-put}
 
 -- only a clock that is the start grants
 grants-at : (clock : ℕ) (v : View) → tml_grants clock v ≡ true → clock ≡ v.attempt.start
@@ -70,8 +70,8 @@ grants-at clock v e = grind (arith, e)
 
 module _ (good : (ℕ → ℕ) → Type 0) (c : Config) (n : ℕ) where
   pub looks_gate : StepLaw (Core good c) look_gate (FindsHolder c n) n CanLookGate
-  looks_gate w g may = let o = by-gate good c look_gate n w (record { common = record { words = λ w. (refl, refl, refl); history = λ w. (refl, refl); steps = λ w. (refl, refl); held = λ w. (refl, refl); busy = λ w. refl }; marks = λ w. (refl, refl); memory = λ w. (refl, refl); view = λ w. refl }) g (λ e. e) (λ e. g.attempts.entered n e) (λ k e. k) (subst (GateRule c.callers) (sym (gate_scene-kept w x n v refl refl refl refl)) g.gate)
-      (subst (InstallRule c) (sym (install_scene-kept w x n v refl refl refl refl refl)) g.install) (regime-kept w x n v refl refl refl) in
+  looks_gate w g may = let o = by-gate good c look_gate n w (record { common = record { words = λ w. (refl, refl, refl); history = λ w. (refl, refl); steps = λ w. (refl, refl); held = λ w. (refl, refl); busy = λ w. refl }; marks = λ w. (refl, refl); memory = λ w. (refl, refl); view = λ w. refl }) g (λ e. e) (λ e. g.attempts.entered n e) (λ k e. k) (subst (GateRule c.callers) (sym (gate_projection-kept w x n v refl refl refl refl)) g.gate)
+      (subst (InstallRule c) (sym (install_projection-kept w x n v refl refl refl refl refl)) g.install) (regime-kept w x n v refl refl refl) in
       record { rule = o.0; advances = o.1; shown = λ free other. closer good c n w g w.gate refl other free }
     where
       x : World
@@ -107,15 +107,15 @@ module _ (good : (ℕ → ℕ) → Type 0) (c : Config) (n : ℕ) where
       held true e = e
       held false e = e
 
-      settled : (b : Bool) → InstallRule c (install_scene (at b))
+      settled : (b : Bool) → InstallRule c (install_projection (at b))
       settled true = install-view c w (at true) n (seized (w.views n).gate) (next true) refl refl refl refl refl refl refl refl plain refl g.install
-      settled false = subst (InstallRule c) (sym (install_scene-kept w (at false) n (next false) refl refl refl refl refl)) g.install
+      settled false = subst (InstallRule c) (sym (install_projection-kept w (at false) n (next false) refl refl refl refl refl)) g.install
 
       runs : (b : Bool) → (b ≡ true → w.gate ≡ gate_word fence 0 alg) → regime (at b) ≡ regime w
       runs true e =
           let none : holder_of w.gate ≡ 0 = ap holder_of (e refl) ∙ holder_of-open fence alg in
           let same : alg_of w.gate ≡ alg = ap alg_of (e refl) ∙ alg_of-gate fence 0 alg in
-          regime-handed good c n w (at true) (next true) refl (alg_of-gate fence (1 + n) alg ∙ sym same) (λ m h. absurd (omega arith)) (λ m h. let k = holder-closed c.callers (gate_scene w) g.gate n (is-caller-at c.callers (gate_scene w) g.gate n (λ idle. let q : In ≡ Idle = sym may.phase ∙ idle in cc)) fence alg in omega arith) (plain-mode (next true).gate plain refl)
+          regime-handed good c n w (at true) (next true) refl (alg_of-gate fence (1 + n) alg ∙ sym same) (λ m h. absurd (omega arith)) (λ m h. let k = holder-closed c.callers (gate_projection w) g.gate n (is-caller-at c.callers (gate_projection w) g.gate n (λ idle. let q : In ≡ Idle = sym may.phase ∙ idle in cc)) fence alg in omega arith) (plain-mode (next true).gate plain refl)
       runs false e = regime-kept w (at false) n (next false) refl refl refl
 
   -- THE GRANT: what ran is the promoted attempt's
@@ -144,36 +144,36 @@ module _ (good : (ℕ → ℕ) → Type 0) (c : Config) (n : ℕ) where
       was : regime w ≡ Running Tml
       was = regime-inside c w n g.gate g.install may.has.runs.phase may.has.runs.plain ∙ ap Running may.has.runs.algorithm
 
-      go : (b : Bool) → (b ≡ true → w.clock ≡ (w.views n).attempt.start) → GateRule c.callers (gate_scene (at b)) × InstallRule c (install_scene (at b)) × Runs c (regime (at b)) (run_scene (at b))
+      go : (b : Bool) → (b ≡ true → w.clock ≡ (w.views n).attempt.start) → GateRule c.callers (gate_projection (at b)) × InstallRule c (install_projection (at b)) × Runs c (regime (at b)) (run_projection (at b))
       go true e = (
         gate-marked c.callers w (at true) n (next true) refl refl refl refl refl refl refl refl refl refl g.gate,
         grant-install c w (at true) n (next true) refl refl refl refl refl may.has.runs.phase may.holds may.quiet g.install,
-        runs-stays c (Promoted Tml n) (regime (at true)) (run_scene w) (run_scene (at true))
+        runs-stays c (Promoted Tml n) (regime (at true)) (run_projection w) (run_projection (at true))
             (regime-promoted (at true) n (g.gate.mine n may.holds) (ap (λ (u : View). u.gate.granted) (put-here w.views n (next true))) ∙ ap (λ (a : Alg). Promoted a n) named)
-            (run_scene-kept w (at true) n (next true) refl refl refl refl refl refl refl refl refl refl)
-            (tml-granted c n w (subst (λ (r : Regime). Runs c r (run_scene w)) was g.running) g.history.below may.has.inside may.reads may.unlocked
+            (run_projection-kept w (at true) n (next true) refl refl refl refl refl refl refl refl refl refl)
+            (tml-granted c n w (subst (λ (r : Regime). Runs c r (run_projection w)) was g.running) g.history.below may.has.inside may.reads may.unlocked
             (λ m d t. nobody-else good c n w g may.quiet m d (g.attempts.busy m (busy-writer (w.views m) t))) (e refl)),
       )
       go false e = (
-        subst (GateRule c.callers) (sym (gate_scene-kept w (at false) n (next false) refl refl refl refl)) g.gate,
-        subst (InstallRule c) (sym (install_scene-kept w (at false) n (next false) refl refl refl refl refl)) g.install,
-        runs-stays c (regime w) (regime (at false)) (run_scene w) (run_scene (at false)) (regime-kept w (at false) n (next false) refl refl refl) (run_scene-kept w (at false) n (next false) refl refl refl refl refl refl refl refl refl refl) g.running,
+        subst (GateRule c.callers) (sym (gate_projection-kept w (at false) n (next false) refl refl refl refl)) g.gate,
+        subst (InstallRule c) (sym (install_projection-kept w (at false) n (next false) refl refl refl refl refl)) g.install,
+        runs-stays c (regime w) (regime (at false)) (run_projection w) (run_projection (at false)) (regime-kept w (at false) n (next false) refl refl refl) (run_projection-kept w (at false) n (next false) refl refl refl refl refl refl refl refl refl refl) g.running,
       )
 
   pub direct_loads : (a : ℕ) → StepLaw (Core good c) (direct_load a) (Loads good c a) n (CanDirectLoad c.words a)
-  direct_loads a = by-direct good c (direct_load a) (Loads good c a) n (CanDirectLoad c.words a) (record { gate = λ w. refl; status = λ w. refl; view = λ w. refl; marks = λ w. (refl, refl); trail = λ w. refl }) (λ w. refl) (λ v m. m.granted) (λ v m. direct.direct_loads good c v.gate.algorithm n a)
+  direct_loads a = by-direct good c (direct_load a) (Loads good c a) n (CanDirectLoad c.words a) (record { gate = λ w. refl; status = λ w. refl; view = λ w. refl; marks = λ w. (refl, refl); step_trace = λ w. refl }) (λ w. refl) (λ v m. m.granted) (λ v m. direct.direct_loads good c v.gate.algorithm n a)
 
   pub direct_stores : (a x : ℕ) → StepLaw (Core good c) (direct_store a x) Nothing n (CanDirectStore c.words a x)
-  direct_stores a x = by-direct good c (direct_store a x) Nothing n (CanDirectStore c.words a x) (record { gate = λ w. refl; status = λ w. refl; view = λ w. refl; marks = λ w. (refl, refl); trail = λ w. refl }) (λ w. refl) (λ v m. m.granted) (λ v m. direct.direct_stores good c v.gate.algorithm n a x)
+  direct_stores a x = by-direct good c (direct_store a x) Nothing n (CanDirectStore c.words a x) (record { gate = λ w. refl; status = λ w. refl; view = λ w. refl; marks = λ w. (refl, refl); step_trace = λ w. refl }) (λ w. refl) (λ v m. m.granted) (λ v m. direct.direct_stores good c v.gate.algorithm n a x)
 
   pub direct_commits : (alg : Alg) (t : ℕ) → n < c.callers → StepLaw (Core good c) (direct_commit n alg t) (Commits good c n t) n (CanDirectCommit good alg t)
-  direct_commits alg t low = by-raise good c (direct_commit n alg t) (Commits good c n t) n (CanDirectCommit good alg t) alg (record { gate = λ w. refl; status = λ w. refl; records = λ w. refl; view = λ w. refl; marks = λ w. (refl, refl); trail = λ w. refl }) (λ v m. (m.granted, m.named)) (direct.direct_commits good c alg n t low)
+  direct_commits alg t low = by-raise good c (direct_commit n alg t) (Commits good c n t) n (CanDirectCommit good alg t) alg (record { gate = λ w. refl; status = λ w. refl; records = λ w. refl; view = λ w. refl; marks = λ w. (refl, refl); step_trace = λ w. refl }) (λ v m. (m.granted, m.named)) (direct.direct_commits good c alg n t low)
 
-  pub direct_lifts : (least : ℕ) → n < c.callers → StepLaw (Core good c) (direct_lift least) Nothing n (CanDirectLift least)
-  direct_lifts least low = by-raise good c (direct_lift least) Nothing n (CanDirectLift least) OrecEager (record { gate = λ w. refl; status = λ w. refl; records = λ w. refl; view = λ w. refl; marks = λ w. (refl, refl); trail = λ w. risen-trail (ltb w.clock least) (w.views n) ((w.views n).steps.rises + 1) }) (λ v m. (m.granted, m.named)) (raising.direct_lifts good c n least low)
+  pub direct_raises_clock : (least : ℕ) → n < c.callers → StepLaw (Core good c) (direct_raise_clock least) Nothing n (CanDirectRaiseClock least)
+  direct_raises_clock least low = by-raise good c (direct_raise_clock least) Nothing n (CanDirectRaiseClock least) OrecEager (record { gate = λ w. refl; status = λ w. refl; records = λ w. refl; view = λ w. refl; marks = λ w. (refl, refl); step_trace = λ w. risen-step_trace (ltb w.clock least) (w.views n) ((w.views n).steps.rises + 1) }) (λ v m. (m.granted, m.named)) (raising.direct_raises_clock good c n least low)
 
   pub direct_ups : (r version : ℕ) → StepLaw (Core good c) (direct_up r version) Nothing n (CanDirectUp r version)
-  direct_ups r version = by-direct good c (direct_up r version) Nothing n (CanDirectUp r version) (record { gate = λ w. refl; status = λ w. refl; view = λ w. refl; marks = λ w. (refl, refl); trail = λ w. refl }) (λ w. refl) (λ v m. m.granted)
+  direct_ups r version = by-direct good c (direct_up r version) Nothing n (CanDirectUp r version) (record { gate = λ w. refl; status = λ w. refl; view = λ w. refl; marks = λ w. (refl, refl); step_trace = λ w. refl }) (λ w. refl) (λ v m. m.granted)
       (λ v m. subst (λ (a : Alg). StepLaw (RunWorld (Runs c (Promoted a n)) good c) (direct_up r version) Nothing n (CanDirectUp r version)) (sym m.named) (raising.direct_ups good c n r version))
 
   -- nobody else is inside the records
@@ -184,28 +184,28 @@ module _ (good : (ℕ → ℕ) → Type 0) (c : Config) (n : ℕ) where
   orec_promoted : (w x : World) (v : View) (t : ℕ) → Core good c w → HasOpen (w.views n) → HasChecked c.callers n (w.views n) → (w.views n).gate.holds ≡ true → HasStores c.words (w.views n) → t ≡ w.clock
       → x ≡ record w { views = put w.views n v } → v.attempt ≡ direct_attempt t (w.views n) → v.owned ≡ direct_owned (w.views n).owned → v.history.front ≡ t → v.lock.taken ≡ false → v.gate ≡ granted_at t (w.views n).gate
       → ((a : ℕ) → over (w.views n).attempt.reads a (word_at w.history t a) ≡ word_at w.history t a)
-      → Runs c (regime x) (run_scene x)
+      → Runs c (regime x) (run_projection x)
   orec_promoted w x v t g may quiet holds stores now is attempt owned front unlocked gate sees =
-      subst (λ (r : Regime). Runs c r (run_scene x)) (sym (regime-promoted x n (ap (λ (y : World). holder_of y.gate) is ∙ g.gate.mine n holds) (ap (λ (f : ℕ → View). (f n).gate.granted) (ap (λ (y : World). y.views) is) ∙ (ap (λ (u : View). u.gate.granted) (put-here w.views n v) ∙ ap (λ (q : GateView). q.granted) gate)) ∙ ap (λ (a : Alg). Promoted a n) (ap (λ (y : World). alg_of y.gate) is ∙ g.gate.named n may.has.runs.phase)))
+      subst (λ (r : Regime). Runs c r (run_projection x)) (sym (regime-promoted x n (ap (λ (y : World). holder_of y.gate) is ∙ g.gate.mine n holds) (ap (λ (f : ℕ → View). (f n).gate.granted) (ap (λ (y : World). y.views) is) ∙ (ap (λ (u : View). u.gate.granted) (put-here w.views n v) ∙ ap (λ (q : GateView). q.granted) gate)) ∙ ap (λ (a : Alg). Promoted a n) (ap (λ (y : World). alg_of y.gate) is ∙ g.gate.named n may.has.runs.phase)))
       (orec-granted c (w.views n).gate.algorithm n t w x v may.has.runs.algorithm (ap (λ (y : World). y.views) is) (ap (λ (y : World). y.clock) is) (ap (λ (y : World). y.heap) is) (ap (λ (y : World). y.history) is) (ap (λ (y : World). y.base) is) (ap (λ (y : World). y.records) is)
       attempt owned front unlocked now may.has.inside may.open_yet stores (none_inside w g quiet) sees (full-world good c w (orec-world good c w n g may.has.runs)))
 
   -- a check that failed: the sample and the validation are forgotten
-  forgotten : (w x : World) (v : View) → Core good c w → RunsOrec (w.views n) → x ≡ record w { views = put w.views n v } → orec_view v ≡ record (orec_view (w.views n)) { sample = no_sample; check = no_check } → mode_of v.gate ≡ mode_of (w.views n).gate → Runs c (regime x) (run_scene x)
+  forgotten : (w x : World) (v : View) → Core good c w → RunsOrec (w.views n) → x ≡ record w { views = put w.views n v } → orec_view v ≡ record (orec_view (w.views n)) { sample = no_sample; check = no_check } → mode_of v.gate ≡ mode_of (w.views n).gate → Runs c (regime x) (run_projection x)
   forgotten w x v g may is own plain = by (w.views n).gate.algorithm may.algorithm (regime-inside c w n g.gate g.install may.phase may.plain)
     where
-      f : OrecRule (home_of c) c.words (orec_scene x)
-      f = subst (OrecRule (home_of c) c.words) (sym (orec_scene-put w x n v (ap (λ (y : World). y.views) is) ∙ (λ i. record { clock = (is i).clock; base = (is i).base; records = parts rec_of (is i).records; heap = (is i).heap; history = (is i).history; views = put (orec_scene w).views n (own i) })))
-          (rule_of (home_of c) c.words (with_view (home_of c) c.words (orec_scene w) n (record (orec_view (w.views n)) { sample = no_sample; check = no_check })) (forget-kept (home_of c) c.words (orec_scene w) n (full-world good c w (orec-world good c w n g may))).0)
+      f : OrecRule (home_of c) c.words (orec_projection x)
+      f = subst (OrecRule (home_of c) c.words) (sym (orec_projection-put w x n v (ap (λ (y : World). y.views) is) ∙ (λ i. record { clock = (is i).clock; base = (is i).base; records = parts rec_of (is i).records; heap = (is i).heap; history = (is i).history; views = put (orec_projection w).views n (own i) })))
+          (rule_of (home_of c) c.words (with_view (home_of c) c.words (orec_projection w) n (record (orec_view (w.views n)) { sample = no_sample; check = no_check })) (forget-kept (home_of c) c.words (orec_projection w) n (full-world good c w (orec-world good c w n g may))).0)
 
       stays : regime x ≡ regime w
       stays = regime-kept w x n v (ap (λ (y : World). y.views) is) (ap (λ (y : World). y.gate) is) plain
 
-      by : (a : Alg) → has_records a ≡ true → regime w ≡ Running a → Runs c (regime x) (run_scene x)
+      by : (a : Alg) → has_records a ≡ true → regime w ≡ Running a → Runs c (regime x) (run_projection x)
       by Cgl e at = absurd cc
       by Tml e at = absurd cc
-      by OrecLazy e at = subst (λ (r : Regime). Runs c r (run_scene x)) (sym (stays ∙ at)) f
-      by OrecEager e at = subst (λ (r : Regime). Runs c r (run_scene x)) (sym (stays ∙ at)) f
+      by OrecLazy e at = subst (λ (r : Regime). Runs c r (run_projection x)) (sym (stays ∙ at)) f
+      by OrecEager e at = subst (λ (r : Regime). Runs c r (run_projection x)) (sym (stays ∙ at)) f
       by RingSw e at = absurd cc
       by Serial e at = absurd cc
 
@@ -243,35 +243,35 @@ module _ (good : (ℕ → ℕ) → Type 0) (c : Config) (n : ℕ) where
       at t = record w { views = put w.views n (next t) }
 
       now : w.clock ≡ (w.views n).gate.time
-      now = g.install.time n may.calm
+      now = g.install.time n may.quiescent
 
       holds : (w.views n).gate.holds ≡ true
-      holds = g.install.holding n may.calm
+      holds = g.install.holding n may.quiescent
 
       quiet : HasChecked c.callers n (w.views n)
-      quiet k low other = g.install.alone n k may.calm low other
+      quiet k low other = g.install.alone n k may.quiescent low other
 
       o : OrecWorld good c w
       o = orec-world good c w n g may.last.opens.has.runs
 
-      go : (t : Bool) → passes (w.records q) (w.views n) ≡ t → HistoryRule good c (history_scene (at t)) × GateRule c.callers (gate_scene (at t)) × InstallRule c (install_scene (at t)) × RecordRule (record_scene (at t)) × LockRule (lock_scene (at t)) × AttemptRule (attempt_scene (at t)) × Runs c (regime (at t)) (run_scene (at t))
+      go : (t : Bool) → passes (w.records q) (w.views n) ≡ t → HistoryRule good c (history_projection (at t)) × GateRule c.callers (gate_projection (at t)) × InstallRule c (install_projection (at t)) × RecordRule (record_projection (at t)) × LockRule (lock_projection (at t)) × AttemptRule (attempt_projection (at t)) × Runs c (regime (at t)) (run_projection (at t))
       go true e = let p = passed-at (w.records q) (w.views n) e in (
         history-seen good c w (at true) n (next true) refl refl refl (ap (λ k. record (w.views n).history { seen = w.history; front = k }) (sym now)) g.history,
         gate-marked c.callers w (at true) n (next true) refl refl refl refl refl refl refl refl refl refl g.gate,
         grant-install c w (at true) n (next true) refl refl refl refl (ap (λ k. granted_at k (w.views n).gate) (sym now)) may.last.opens.has.runs.phase holds quiet g.install,
         records-stay w (at true) n (next true) refl (le_refl w.clock) refl refl refl g.records,
-        subst LockRule (sym (lock_scene-kept w (at true) n (next true) refl refl refl refl)) g.lock,
+        subst LockRule (sym (lock_projection-kept w (at true) n (next true) refl refl refl refl)) g.lock,
         attempts-in w (at true) n (next true) refl may.last.opens.has.runs.phase g.attempts,
         orec_promoted w (at true) (next true) (w.views n).gate.time g may.last.opens quiet holds may.stores (sym now) refl refl refl refl may.stores.unlocked refl
             (subst (λ (k : ℕ). (a : ℕ) → over (w.views n).attempt.reads a (word_at w.history k a) ≡ word_at w.history k a) may.upto
-            (validated (home_of c) c.words (orec_scene w) n b (version_of (w.records q)) may.last.opens.has.inside (ap (λ (k : ℕ). rec_of (w.records k)) may.last.its ∙ rec-free (w.records q) p.0) p.1 may.last.checking may.last.rest (full-world good c w o))),
+            (validated (home_of c) c.words (orec_projection w) n b (version_of (w.records q)) may.last.opens.has.inside (ap (λ (k : ℕ). rec_of (w.records k)) may.last.its ∙ rec-free (w.records q) p.0) p.1 may.last.checking may.last.rest (full-world good c w o))),
       )
       go false e = (
         history-kept good c w (at false) n (next false) refl refl refl refl g.history,
-        subst (GateRule c.callers) (sym (gate_scene-kept w (at false) n (next false) refl refl refl refl)) g.gate,
-        subst (InstallRule c) (sym (install_scene-kept w (at false) n (next false) refl refl refl refl refl)) g.install,
+        subst (GateRule c.callers) (sym (gate_projection-kept w (at false) n (next false) refl refl refl refl)) g.gate,
+        subst (InstallRule c) (sym (install_projection-kept w (at false) n (next false) refl refl refl refl refl)) g.install,
         records-stay w (at false) n (next false) refl (le_refl w.clock) refl refl refl g.records,
-        subst LockRule (sym (lock_scene-kept w (at false) n (next false) refl refl refl refl)) g.lock,
+        subst LockRule (sym (lock_projection-kept w (at false) n (next false) refl refl refl refl)) g.lock,
         attempts-in w (at false) n (next false) refl may.last.opens.has.runs.phase g.attempts,
         forgotten w (at false) (next false) g may.last.opens.has.runs refl refl refl,
       )
@@ -308,29 +308,29 @@ module _ (good : (ℕ → ℕ) → Type 0) (c : Config) (n : ℕ) where
       o : OrecWorld good c w
       o = orec-world good c w n g may.all.opens.has.runs
 
-      go : (t : Bool) → HistoryRule good c (history_scene (at t)) × GateRule c.callers (gate_scene (at t)) × InstallRule c (install_scene (at t)) × RecordRule (record_scene (at t)) × LockRule (lock_scene (at t)) × AttemptRule (attempt_scene (at t)) × Runs c (regime (at t)) (run_scene (at t))
+      go : (t : Bool) → HistoryRule good c (history_projection (at t)) × GateRule c.callers (gate_projection (at t)) × InstallRule c (install_projection (at t)) × RecordRule (record_projection (at t)) × LockRule (lock_projection (at t)) × AttemptRule (attempt_projection (at t)) × Runs c (regime (at t)) (run_projection (at t))
       go true = (
         history-seen good c w (at true) n (next true) refl refl refl refl g.history,
         gate-marked c.callers w (at true) n (next true) refl refl refl refl refl refl refl refl refl refl g.gate,
         grant-install c w (at true) n (next true) refl refl refl refl refl may.all.opens.has.runs.phase may.holds may.quiet g.install,
         records-stay w (at true) n (next true) refl (le_refl w.clock) refl refl refl g.records,
-        subst LockRule (sym (lock_scene-kept w (at true) n (next true) refl refl refl refl)) g.lock,
+        subst LockRule (sym (lock_projection-kept w (at true) n (next true) refl refl refl refl)) g.lock,
         attempts-in w (at true) n (next true) refl may.all.opens.has.runs.phase g.attempts,
         orec_promoted w (at true) (next true) w.clock g may.all.opens may.quiet may.holds may.stores refl refl refl refl refl may.stores.unlocked refl
-            (validated-all (home_of c) c.words (orec_scene w) n may.all.opens.has.inside may.all.opens.open_yet (λ a t. may.all.mine a t refl) (λ a t. may.all.old a t refl) (full-world good c w o)),
+            (validated-all (home_of c) c.words (orec_projection w) n may.all.opens.has.inside may.all.opens.open_yet (λ a t. may.all.mine a t refl) (λ a t. may.all.old a t refl) (full-world good c w o)),
       )
       go false = (
         history-kept good c w (at false) n (next false) refl refl refl refl g.history,
-        subst (GateRule c.callers) (sym (gate_scene-kept w (at false) n (next false) refl refl refl refl)) g.gate,
-        subst (InstallRule c) (sym (install_scene-kept w (at false) n (next false) refl refl refl refl refl)) g.install,
+        subst (GateRule c.callers) (sym (gate_projection-kept w (at false) n (next false) refl refl refl refl)) g.gate,
+        subst (InstallRule c) (sym (install_projection-kept w (at false) n (next false) refl refl refl refl refl)) g.install,
         records-stay w (at false) n (next false) refl (le_refl w.clock) refl refl refl g.records,
-        subst LockRule (sym (lock_scene-kept w (at false) n (next false) refl refl refl refl)) g.lock,
+        subst LockRule (sym (lock_projection-kept w (at false) n (next false) refl refl refl refl)) g.lock,
         attempts-in w (at false) n (next false) refl may.all.opens.has.runs.phase g.attempts,
         forgotten w (at false) (next false) g may.all.opens.has.runs refl refl refl,
       )
 
   pub direct_releases : (q t : ℕ) → StepLaw (Core good c) (direct_release q t) Nothing n (CanDirectRelease q t)
-  direct_releases q t = by-direct good c (direct_release q t) Nothing n (CanDirectRelease q t) (record { gate = λ w. refl; status = λ w. refl; view = λ w. refl; marks = λ w. (refl, refl); trail = λ w. refl }) (λ w. refl) (λ v m. m.granted) (λ v m. direct.direct_releases good c v.gate.algorithm n q t)
+  direct_releases q t = by-direct good c (direct_release q t) Nothing n (CanDirectRelease q t) (record { gate = λ w. refl; status = λ w. refl; view = λ w. refl; marks = λ w. (refl, refl); step_trace = λ w. refl }) (λ w. refl) (λ v m. m.granted) (λ v m. direct.direct_releases good c v.gate.algorithm n q t)
 
   -- THE RETURN: after a promoted attempt its algorithm starts from rest; an attempt that wasn't promoted leaves what runs
   pub returns : (fence : ℕ) (alg : Alg) → StepLaw (Core good c) (return_gate fence alg) Nothing n (CanReturn fence alg)
@@ -341,7 +341,7 @@ module _ (good : (ℕ → ℕ) → Type 0) (c : Config) (n : ℕ) where
       gate = return_gate-gate c.callers fence alg w n may g.gate;
       install = install-view c w x n (returned (w.views n).gate) v refl refl refl refl refl refl refl refl refl refl g.install;
       records = records-stay w x n v refl (le_refl w.clock) refl refl refl g.records;
-      lock = subst LockRule (sym (lock_scene-kept w x n v refl refl refl refl)) g.lock;
+      lock = subst LockRule (sym (lock_projection-kept w x n v refl refl refl refl)) g.lock;
       attempts = attempts-in w x n v refl may.phase g.attempts;
       running = runs (w.views n).gate.granted refl;
       alone = alone-kept c (return_gate fence alg) n w refl (λ sole. inr refl) g.alone;
@@ -366,11 +366,11 @@ module _ (good : (ℕ → ℕ) → Type 0) (c : Config) (n : ℕ) where
       bare_now : (r : ℕ) → touches (w.views n).owned.held r ≡ false
       bare_now r = ap (λ q. touches q r) may.disowned
 
-      runs : (b : Bool) → (w.views n).gate.granted ≡ b → Runs c (regime x) (run_scene x)
+      runs : (b : Bool) → (w.views n).gate.granted ≡ b → Runs c (regime x) (run_projection x)
       runs true e =
-          let d : DirectRuns c alg n (run_scene w) = subst (λ (r : Regime). Runs c r (run_scene w)) (regime-granted c w n g.gate g.install e ∙ ap (λ (a : Alg). Promoted a n) may.named) g.running in
+          let d : DirectRuns c alg n (run_projection w) = subst (λ (r : Regime). Runs c r (run_projection w)) (regime-granted c w n g.gate g.install e ∙ ap (λ (a : Alg). Promoted a n) may.named) g.running in
           let is : regime x ≡ Running alg = regime-running x (λ m h. absurd (let k = holder_of-open fence alg in omega arith)) ∙ ap Running named in
-          subst (λ (r : Regime). Runs c r (run_scene x)) (sym is) (back c alg n (run_scene w) (run_scene x) d (record {
+          subst (λ (r : Regime). Runs c r (run_projection x)) (sym is) (back c alg n (run_projection w) (run_projection x) d (record {
             heap = λ a. d.direct.stored a ∙ ap (λ (l : List Cell). over l a (word_now w.history a)) may.unstored;
             unlocked = put-all w.views n v (λ m u. u.lock.taken ≡ true → ⊥) (λ t. let f : true ≡ false = sym t ∙ may.unlocked in cc) (λ m o t. others e m o (g.lock.inside m t));
             outside = put-all w.views n v (λ m u. u.tml.inside ≡ true → ⊥) (λ t. cc) (λ m o t. others e m o (g.attempts.busy m (busy-tml (w.views m) t)));
@@ -390,8 +390,8 @@ module _ (good : (ℕ → ℕ) → Type 0) (c : Config) (n : ℕ) where
 
           others : (w.views n).gate.granted ≡ true → (m : ℕ) → m ≢ n → (w.views m).gate.phase ≡ In → ⊥
           others e = nobody-else good c n w g (checked e)
-      runs false e = runs-stays c (regime w) (regime x) (record (run_scene w) { views = put (run_scene w).views n (run_view v) }) (run_scene x)
+      runs false e = runs-stays c (regime w) (regime x) (record (run_projection w) { views = put (run_projection w).views n (run_view v) }) (run_projection x)
           (regime-handed good c n w x v refl (named ∙ sym same) (λ m h. subst (λ (k : ℕ). mode_of (w.views k).gate ≡ Plain) (let o = g.gate.mine n may.holds in let q : n ≡ m = omega arith in q) (plain-mode (w.views n).gate e (ungiven-out good c w n g (λ k. let f : In ≡ Closing = sym may.phase ∙ k in cc)))) (λ m h. absurd (let k = holder_of-open fence alg in omega arith)) refl)
-          (run_scene-put w x n v refl refl refl refl refl refl refl refl refl)
-          (runs-leave c (regime w) (run_scene w) n (run_view v) (record { was = record { unlocked = may.unlocked; unwritten = may.unwritten; uncommitted = may.uncommitted }; out = record { unlocked = may.unlocked; unwritten = may.unwritten; uncommitted = may.uncommitted }; tml = refl; owned = refl; bare = bare_now; apart = none-apart good c w n g bare_now; unread = refl; entered = sym (may.plain e) }) (inl refl)
+          (run_projection-put w x n v refl refl refl refl refl refl refl refl refl)
+          (runs-leave c (regime w) (run_projection w) n (run_view v) (record { was = record { unlocked = may.unlocked; unwritten = may.unwritten; uncommitted = may.uncommitted }; out = record { unlocked = may.unlocked; unwritten = may.unwritten; uncommitted = may.uncommitted }; tml = refl; owned = refl; bare = bare_now; apart = none-apart good c w n g bare_now; unread = refl; entered = sym (may.plain e) }) (inl refl)
           (λ a q. let t : true ≡ false = sym (granted-regime c w n g.gate g.install a q) ∙ e in cc) g.running)

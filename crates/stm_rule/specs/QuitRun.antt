@@ -11,11 +11,11 @@ use Rattle.rule_base.specs.Runs.{run, Allowed}
 use Rattle.rule_base.specs.World.{World}
 use Rattle.rule_orec.specs.OrecRuns.OrecStep.{orec_begins, orec_looks, orec_locks, orec_saves, orec_places, orec_restores}
 use Rattle.stm_rule.specs.CoreRuns.{CoreStep, core_kind, CoreMay, small_config}
-use Rattle.stm_rule.specs.CoreRuns.CoreStep.{announces, loads_gate, departs, aims, takes_gate, reopens, settles, stores_base, stores_done, installs, of_orec, looks_gate, seizes, orec_grants_all, direct_lifts, direct_ups, returns}
+use Rattle.stm_rule.specs.CoreRuns.CoreStep.{announces, loads_gate, departs, aims, takes_gate, reopens, settles, stores_base, stores_done, installs, of_orec, looks_gate, seizes, orec_grants_all, direct_raises_clock, direct_ups, returns}
 
 -- caller 0 installs OrecEager, takes record 0, stores x in word 0 and takes it back, is promoted and quits
 abbrev pub quitting : ℕ → List (ℕ × CoreStep)
-quitting x = (0, announces) ∷ (0, aims) ∷ (0, takes_gate 0) ∷ (0, departs) ∷ (0, settles) ∷ (0, stores_base 0) ∷ (0, stores_done 0) ∷ (0, installs 0 OrecEager) ∷ (0, reopens 0 OrecEager) ∷ (0, announces) ∷ (0, loads_gate) ∷ (0, of_orec orec_begins) ∷ (0, of_orec (orec_looks 0)) ∷ (0, of_orec (orec_locks 0 0)) ∷ (0, of_orec (orec_saves 0)) ∷ (0, of_orec (orec_places 0 x)) ∷ (0, of_orec (orec_restores 0 0)) ∷ (0, looks_gate) ∷ (0, seizes 0 OrecEager) ∷ (0, settles) ∷ (0, orec_grants_all) ∷ (0, direct_lifts 1) ∷ (0, direct_ups 0 1) ∷ (0, returns 0 OrecEager) ∷ (0, departs) ∷ []
+quitting x = (0, announces) ∷ (0, aims) ∷ (0, takes_gate 0) ∷ (0, departs) ∷ (0, settles) ∷ (0, stores_base 0) ∷ (0, stores_done 0) ∷ (0, installs 0 OrecEager) ∷ (0, reopens 0 OrecEager) ∷ (0, announces) ∷ (0, loads_gate) ∷ (0, of_orec orec_begins) ∷ (0, of_orec (orec_looks 0)) ∷ (0, of_orec (orec_locks 0 0)) ∷ (0, of_orec (orec_saves 0)) ∷ (0, of_orec (orec_places 0 x)) ∷ (0, of_orec (orec_restores 0 0)) ∷ (0, looks_gate) ∷ (0, seizes 0 OrecEager) ∷ (0, settles) ∷ (0, orec_grants_all) ∷ (0, direct_raises_clock 1) ∷ (0, direct_ups 0 1) ∷ (0, returns 0 OrecEager) ∷ (0, departs) ∷ []
 
 abbrev pub quit_end : ((ℕ → ℕ) → Type 0) → Config → ℕ → World
 quit_end good c x = run core_kind (CoreMay good (small_config c)) (quitting x) (opening_world (small_config c))
@@ -48,11 +48,11 @@ core_quits_lem good c x = (
           (
             (omega arith, record { holds = refl; quiet = λ k l o. absurd (o (omega arith)) }),
             (
-              (omega arith, record { closing = λ e. refl; calm = refl; time = refl }),
+              (omega arith, record { closing = λ e. refl; quiescent = refl; time = refl }),
               (
-                (omega arith, record { closing = λ e. refl; calm = refl; time = refl }),
+                (omega arith, record { closing = λ e. refl; quiescent = refl; time = refl }),
                 (
-                  (omega arith, record { phase = refl; guarded = refl; ungiven = refl; calm = refl; rebased = refl; completed = refl; even = λ e. absurd cc }),
+                  (omega arith, record { phase = refl; guarded = refl; ungiven = refl; quiescent = refl; rebased = refl; completed = refl; even = λ e. absurd cc }),
                   (
                     (omega arith, record { phase = refl; absent = refl; named = refl; guarded = refl; ungiven = refl; unentered = refl }),
                     (

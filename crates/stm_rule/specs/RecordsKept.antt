@@ -49,7 +49,7 @@ pub record IsOptimistic (v : View) : Type 0 where
   pub unwritten : v.tml.writer ≡ false
   pub uncommitted : v.ring_commit.committed ≡ false
   pub ungranted : v.gate.granted ≡ false
-  pub uncalm : v.gate.calm ≡ false
+  pub not_quiescent : v.gate.quiescent ≡ false
   pub unstored : v.attempt.stores ≡ []
   pub rises : v.steps.rises ≡ v.steps.rises_at_begin
 

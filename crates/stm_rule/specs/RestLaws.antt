@@ -22,10 +22,10 @@ use Rattle.rule_base.specs.RegimeLemmas.{regime-running, regime-granted, plain-m
 use Rattle.rule_base.specs.Rest.{own_stores, in_place, in_place_at, BareRest, BareAtRest, IsQuiet, HasInstalled}
 use Rattle.rule_base.specs.Ranks.{rec_of, home_of}
 use Rattle.rule_base.specs.Ranks.Rec.{Taken}
-use Rattle.rule_base.specs.RunScene.{run_scene}
+use Rattle.rule_base.specs.RunProjection.{run_projection}
 use Rattle.rule_base.specs.World.{World}
 use Rattle.rule_seq.specs.AttemptLemmas.{busy-owned, busy-tml, busy-writer, busy-ring, busy-turn}
-use Rattle.rule_promoted.specs.PromotedRule.{TmlSuits, Suits, DirectRuns, suit_scene}
+use Rattle.rule_promoted.specs.PromotedRule.{TmlSuits, Suits, DirectRuns, suit_projection}
 use Rattle.stm_rule.specs.Frames.{ungranted-out, owner-holds}
 use Rattle.stm_rule.specs.Product.{Gives, Runs, Core}
 use Rattle.stm_rule.specs.Quiescence.{IsInstalled}
@@ -69,7 +69,7 @@ module _ (good : (ℕ → ℕ) → Type 0) (c : Config) (n : ℕ) (w : World) (g
 
       -- while its attempt isn't promoted the heap is the memory
       pub running-rests : (w.views n).gate.holds ≡ true → (w.views n).gate.granted ≡ false → (w.views n).gate.giving ≡ false → (has_records (alg_of w.gate) ≡ true → (r m : ℕ) → rec_of (w.records r) ≡ Taken m → ⊥) → ((a : ℕ) → w.heap a ≡ word_now w.history a) × (alg_of w.gate ≡ Tml → w.clock % 2 ≡ 0) × (alg_of w.gate ≡ RingSw → ((m : ℕ) → (w.views m).attempt.entered ≡ false) → w.done ≡ w.clock)
-      running-rests holds plain kept freed = at-rest c (alg_of w.gate) (run_scene w) (subst (λ (r : Regime). Runs c r (run_scene w)) (regime-held holds plain kept) g.running) (lock-rests unlocked) nobody-writes nobody-commits freed
+      running-rests holds plain kept freed = at-rest c (alg_of w.gate) (run_projection w) (subst (λ (r : Regime). Runs c r (run_projection w)) (regime-held holds plain kept) g.running) (lock-rests unlocked) nobody-writes nobody-commits freed
 
   record_free : (checked : HasChecked c.callers n (w.views n)) (r : ℕ) → touches (w.views n).owned.held r ≡ false → (b : Bool) → is_owned (w.records r) ≡ b → b ≡ false
   record_free checked r bare true e = absurd (nobody-by checked (λ m. touches (w.views m).owned.held r ≡ true) (λ t. let f : true ≡ false = sym t ∙ bare in cc) (λ m t. g.records.inside m r t) (owner_of (w.records r)) (g.records.owned r e))
@@ -114,7 +114,7 @@ module _ (good : (ℕ → ℕ) → Type 0) (c : Config) (n : ℕ) (w : World) (g
   pub granted-rests : (w.views n).gate.granted ≡ true → BareRest n w
   granted-rests granted = rest_of checked holds (lock-rests checked d.direct.unlocked) (λ a. d.direct.stored a ∙ ap (λ (l : List Cell). over l a (word_now w.history a)) (sym own)) (λ q. even (sym named ∙ q)) (λ q. (d.ring (sym named ∙ q)).level)
     where
-      promoted : ((w.views n).gate.calm ≡ true) × ((w.views n).gate.phase ≡ In)
+      promoted : ((w.views n).gate.quiescent ≡ true) × ((w.views n).gate.phase ≡ In)
       promoted = g.install.promoted n granted
 
       holds : (w.views n).gate.holds ≡ true
@@ -123,14 +123,14 @@ module _ (good : (ℕ → ℕ) → Type 0) (c : Config) (n : ℕ) (w : World) (g
       checked : HasChecked c.callers n (w.views n)
       checked k low other = g.install.alone n k promoted.0 low other
 
-      d : DirectRuns c (w.views n).gate.algorithm n (run_scene w)
-      d = subst (λ (r : Regime). Runs c r (run_scene w)) (regime-granted c w n g.gate g.install granted) g.running
+      d : DirectRuns c (w.views n).gate.algorithm n (run_projection w)
+      d = subst (λ (r : Regime). Runs c r (run_projection w)) (regime-granted c w n g.gate g.install granted) g.running
 
       named : alg_of w.gate ≡ (w.views n).gate.algorithm
       named = g.gate.held n holds
 
       even : (w.views n).gate.algorithm ≡ Tml → w.clock % 2 ≡ 0
-      even q = let s : TmlSuits (suit_scene n w) = subst (λ (a : Alg). Suits (home_of c) a (suit_scene n w)) q d.suits in s.even
+      even q = let s : TmlSuits (suit_projection n w) = subst (λ (a : Alg). Suits (home_of c) a (suit_projection n w)) q d.suits in s.even
 
       direct : (b : Bool) → (if b then (if (w.views n).gate.granted then (w.views n).attempt.stores else (w.views n).owned.in_place) else (w.views n).attempt.stores) ≡ (w.views n).attempt.stores
       direct true = ap (λ (t : Bool). if t then (w.views n).attempt.stores else (w.views n).owned.in_place) granted
@@ -178,12 +178,12 @@ module _ (good : (ℕ → ℕ) → Type 0) (c : Config) (n : ℕ) (w : World) (g
         by : (b : Bool) → (w.views n).gate.giving ≡ b → ((a : ℕ) → w.heap a ≡ word_now w.history a) × (alg_of w.gate ≡ Tml → w.clock % 2 ≡ 0) × (alg_of w.gate ≡ RingSw → ((m : ℕ) → (w.views m).attempt.entered ≡ false) → w.done ≡ w.clock)
         by true e =
             let named = g.gate.held n (g.gate.closing n quiet.closing) in
-            let k : Gives (w.views n).gate.algorithm (run_scene w) = subst (λ (r : Regime). Runs c r (run_scene w)) (regime-given c w n g.gate g.install e) g.running in
+            let k : Gives (w.views n).gate.algorithm (run_projection w) = subst (λ (r : Regime). Runs c r (run_projection w)) (regime-given c w n g.gate g.install e) g.running in
             (k.heap, λ q. k.even (sym named ∙ q), λ q. k.level (sym named ∙ q))
         by false e = running-rests quiet.checked (free (w.views n).lock.taken refl) (reads (w.views n).tml.writer refl) (early (w.views n).ring_commit.committed refl) (g.gate.closing n quiet.closing) plain e (λ has. quiet-freed)
 
     -- nobody is in an attempt
-    pub quiet-ease : Ease (run_scene w)
+    pub quiet-ease : Ease (run_projection w)
     quiet-ease = record { heap = heap-rests.0; unlocked = λ m t. nobody_in m (g.lock.inside m t); outside = λ m t. nobody_in m (g.attempts.busy m (busy-tml (w.views m) t)); unwritten = λ m t. nobody_in m (g.attempts.busy m (busy-writer (w.views m) t)); unread = λ m t. nobody_in m (g.attempts.busy m (busy-ring (w.views m) t)); uncommitted = λ m t. nobody_in m (g.attempts.busy m (busy-turn (w.views m) t)); inside = λ m t. nobody_in m (g.attempts.busy m (busy-owned (w.views m) t)); unheld = λ m r t. nobody_in m (g.records.inside m r t); freed = quiet-freed; below = g.history.below }
 
     -- THE LAW OF QUIESCENCE
@@ -199,8 +199,8 @@ module _ (good : (ℕ → ℕ) → Type 0) (c : Config) (n : ℕ) (w : World) (g
     installed-rests i = (
       quiet-rests,
       record {
-        base = (let t = g.install.time n i.calm in let b = (g.install.rebased n i.rebased).1 in omega arith);
-        done = (let t = g.install.time n i.calm in let d = (g.install.completed n i.completed).1 in omega arith);
+        base = (let t = g.install.time n i.quiescent in let b = (g.install.rebased n i.rebased).1 in omega arith);
+        done = (let t = g.install.time n i.quiescent in let d = (g.install.completed n i.completed).1 in omega arith);
         named = g.gate.held n (g.gate.closing n quiet.closing);
       },
     )

@@ -8,7 +8,7 @@ use Rattle.stm_model.specs.declared.alg.Alg.TheVariants.{RingSw}
 use Rattle.rule_base.specs.declared.entries.Cell.{Cell}
 use Rattle.stm_model.specs.declared.config.Config.{Config}
 use Rattle.rule_base.specs.declared.views.Phase.TheVariants.{In}
-use Rattle.rule_base.specs.declared.views.TrailItem.{TrailItem}
+use Rattle.rule_base.specs.declared.views.TracedStep.{TracedStep}
 use Rattle.rule_base.specs.declared.views.View.{View}
 use Rattle.rule_base.specs.GateLaws.{gate-marked}
 use Rattle.rule_base.specs.GateSteps.{granted_at}
@@ -22,9 +22,9 @@ use Rattle.rule_base.specs.RecordLemmas.{records-stay}
 use Rattle.rule_base.specs.Regime.{Regime, regime}
 use Rattle.rule_base.specs.Regime.Regime.{Running, Promoted}
 use Rattle.rule_base.specs.RegimeLemmas.{regime-promoted, regime-inside}
-use Rattle.rule_base.specs.RunScene.{run_view, run_scene}
+use Rattle.rule_base.specs.RunProjection.{run_view, run_projection}
 use Rattle.rule_base.specs.StepKinds.{view_after, StepLaw}
-use Rattle.rule_base.specs.StepsRule.{steps_scene, StepsRule}
+use Rattle.rule_base.specs.StepsRule.{steps_projection, StepsRule}
 use Rattle.rule_base.specs.World.{World, put, parts, horizon}
 use Rattle.rule_promoted.specs.PromotedRule.{DirectRuns}
 use Rattle.rule_promoted.specs.PromotedSteps.{ring_look_grant, CanRingGrant, ring_move_grant, CanRingMoveGrant}
@@ -34,14 +34,14 @@ use Rattle.rule_ring.specs.RingSteps.{read_in, passed, ring_look, RingLooks, mov
 use Rattle.rule_ring.specs.SlotFilter.{slot_filter}
 use Rattle.rule_seq.specs.AttemptLemmas.{attempts-stay}
 use Rattle.rule_seq.specs.AttemptRule.{is_busy}
-use Rattle.rule_seq.specs.LockLemmas.{lock_scene-kept}
+use Rattle.rule_seq.specs.LockLemmas.{lock_projection-kept}
 use Rattle.rule_seq.specs.LockRule.{LockRule}
 use Rattle.stm_rule.specs.Alone.{left_at}
 use Rattle.stm_rule.specs.Raised.{raised-put}
 use Rattle.stm_rule.specs.Product.{Runs, Core}
 use Rattle.stm_rule.specs.RestLaws.{lock-rests, nobody-commits, nobody-enters}
 use Rattle.stm_rule.specs.RingLaws as rings
-use Rattle.stm_rule.specs.Running.{runs-stays, run_scene-kept}
+use Rattle.stm_rule.specs.Running.{runs-stays, run_projection-kept}
 
 module _ (good : (ℕ → ℕ) → Type 0) (c : Config) (n : ℕ) where
   -- what the view of a promoter whose check has ended says
@@ -50,14 +50,14 @@ module _ (good : (ℕ → ℕ) → Type 0) (c : Config) (n : ℕ) where
     algorithm : u.gate.algorithm ≡ RingSw
     plain : u.gate.granted ≡ false
     inside : u.ring_read.inside ≡ true
-    calm : u.gate.calm ≡ true
+    quiescent : u.gate.quiescent ≡ true
     unlocked : u.lock.taken ≡ false
     uncommitted : u.ring_commit.committed ≡ false
     unwritten : u.tml.writer ≡ false
     start : u.attempt.start ≡ clock
 
   -- THE GRANT UNDER RINGSW: who is alone, with its start at the clock, meets the clauses of a promoted attempt
-  ring-granted : (y : World) → Core good c y → Ended y.clock (y.views n) → DirectRuns c RingSw n (run_scene y)
+  ring-granted : (y : World) → Core good c y → Ended y.clock (y.views n) → DirectRuns c RingSw n (run_projection y)
   ring-granted y g o = record {
     direct = record {
       stored = λ a. r.free lock a ∙ ap (λ (k : List Cell). over k a (word_now y.history a)) (sym h.unstored);
@@ -79,24 +79,24 @@ module _ (good : (ℕ → ℕ) → Type 0) (c : Config) (n : ℕ) where
     };
   }
     where
-      r : RingRule slot_filter c.ring c.words (ring_part (run_scene y))
-      r = subst (λ (q : Regime). Runs c q (run_scene y)) (regime-inside c y n g.gate g.install o.phase o.plain ∙ ap Running o.algorithm) g.running
+      r : RingRule slot_filter c.ring c.words (ring_part (run_projection y))
+      r = subst (λ (q : Regime). Runs c q (run_projection y)) (regime-inside c y n g.gate g.install o.phase o.plain ∙ ap Running o.algorithm) g.running
 
-      h : RingReader slot_filter c.ring c.words y.clock y.done y.base y.history ((ring_part (run_scene y)).views n)
+      h : RingReader slot_filter c.ring c.words y.clock y.done y.base y.history ((ring_part (run_projection y)).views n)
       h = r.reader n o.inside
 
       checked : HasChecked c.callers n (y.views n)
-      checked k low other = g.install.alone n k o.calm low other
+      checked k low other = g.install.alone n k o.quiescent low other
 
       lock : y.lock ≡ 0
       lock = lock-rests good c n y g checked o.unlocked
 
-      punctual : (m : ℕ) → late ((ring_part (run_scene y)).views m) ≡ false
+      punctual : (m : ℕ) → late ((ring_part (run_projection y)).views m) ≡ false
       punctual m = go (y.views m).ring_commit.committed refl
         where
-          go : (b : Bool) → (y.views m).ring_commit.committed ≡ b → late ((ring_part (run_scene y)).views m) ≡ false
+          go : (b : Bool) → (y.views m).ring_commit.committed ≡ b → late ((ring_part (run_projection y)).views m) ≡ false
           go true q = absurd (nobody-commits good c n y g checked o.unlocked o.unwritten o.uncommitted m q)
-          go false q = not_late ((ring_part (run_scene y)).views m) q
+          go false q = not_late ((ring_part (run_projection y)).views m) q
 
   -- the grant as a change of the view u that a load left
   grants_after : (w : World) (u : View) (t : ℕ) → Core good c (record w { views = put w.views n u }) → Ended w.clock u → t ≡ w.clock → Core good c (record w { views = put w.views n (record u { gate = granted_at t u.gate }) })
@@ -104,15 +104,15 @@ module _ (good : (ℕ → ℕ) → Type 0) (c : Config) (n : ℕ) where
     history = history-kept good c y z n v twice refl refl (ap (λ (q : View). q.history) (sym own)) g.history;
     steps = subst (StepsRule c) (sym steps) g.steps;
     gate = gate-marked c.callers y z n v twice refl refl (ap (λ (q : View). q.gate.phase) (sym own)) (ap (λ (q : View). q.gate.present) (sym own)) (ap (λ (q : View). q.gate.algorithm) (sym own)) (ap (λ (q : View). q.gate.fence) (sym own)) (ap (λ (q : View). q.gate.aim) (sym own)) (ap (λ (q : View). q.gate.holds) (sym own)) (ap (λ (q : View). q.gate.checked) (sym own)) g.gate;
-    install = grant-install c y z n v twice refl refl refl ((λ i. granted_at (clock i) u.gate) ∙ ap (λ (q : View). granted_at w.clock q.gate) (sym own)) e.phase (g.install.holding n e.calm) (λ k low other. g.install.alone n k e.calm low other) g.install;
+    install = grant-install c y z n v twice refl refl refl ((λ i. granted_at (clock i) u.gate) ∙ ap (λ (q : View). granted_at w.clock q.gate) (sym own)) e.phase (g.install.holding n e.quiescent) (λ k low other. g.install.alone n k e.quiescent low other) g.install;
     records = records-stay y z n v twice (le_refl w.clock) refl (ap (λ (q : View). q.owned.held) (sym own)) (ap (λ (q : View). q.gate.phase) (sym own)) g.records;
-    lock = subst LockRule (sym (lock_scene-kept y z n v twice refl (ap (λ (q : View). q.lock.taken) (sym own)) (ap (λ (q : View). q.gate.phase) (sym own)))) g.lock;
+    lock = subst LockRule (sym (lock_projection-kept y z n v twice refl (ap (λ (q : View). q.lock.taken) (sym own)) (ap (λ (q : View). q.gate.phase) (sym own)))) g.lock;
     attempts = attempts-stay y z n v twice (ap (λ (q : View). is_busy q) (sym own)) (ap (λ (q : View). q.attempt.entered) (sym own)) (ap (λ (q : View). q.gate.phase) (sym own)) g.attempts;
-    running = runs-stays c (Promoted RingSw n) (regime z) (run_scene y) (run_scene z)
-        (regime-promoted z n (g.gate.mine n (g.install.holding n e.calm)) (ap (λ (q : View). q.gate.granted) (put-here w.views n v)) ∙ ap (λ (a : Alg). Promoted a n) (g.gate.named n e.phase ∙ e.algorithm))
-        (run_scene-kept y z n v twice refl refl refl refl refl refl refl refl (ap run_view (sym own)))
+    running = runs-stays c (Promoted RingSw n) (regime z) (run_projection y) (run_projection z)
+        (regime-promoted z n (g.gate.mine n (g.install.holding n e.quiescent)) (ap (λ (q : View). q.gate.granted) (put-here w.views n v)) ∙ ap (λ (a : Alg). Promoted a n) (g.gate.named n e.phase ∙ e.algorithm))
+        (run_projection-kept y z n v twice refl refl refl refl refl refl refl refl (ap run_view (sym own)))
         (ring-granted y g e);
-    alone = λ sole r x l. g.alone sole r x (ap (λ (t : List TrailItem). left_at r t) (sym (same_trails 0)) ∙ l);
+    alone = λ sole r x l. g.alone sole r x (ap (λ (t : List TracedStep). left_at r t) (sym (same_step_traces 0)) ∙ l);
     raised = raised-put y z n v twice (λ e. e) (λ q k. refl) g.raised;
   }
     where
@@ -131,13 +131,13 @@ module _ (good : (ℕ → ℕ) → Type 0) (c : Config) (n : ℕ) where
       e : Ended y.clock (y.views n)
       e = subst (Ended w.clock) (sym own) o
 
-      same_trails : (m : ℕ) → (z.views m).steps.trail ≡ (y.views m).steps.trail
-      same_trails = put-all w.views n v (λ m q. q.steps.trail ≡ (y.views m).steps.trail) (ap (λ (q : View). q.steps.trail) (sym own)) (λ m d. ap (λ (q : View). q.steps.trail) (sym (put-else w.views n m u d)))
+      same_step_traces : (m : ℕ) → (z.views m).steps.step_trace ≡ (y.views m).steps.step_trace
+      same_step_traces = put-all w.views n v (λ m q. q.steps.step_trace ≡ (y.views m).steps.step_trace) (ap (λ (q : View). q.steps.step_trace) (sym own)) (λ m d. ap (λ (q : View). q.steps.step_trace) (sym (put-else w.views n m u d)))
 
       twice : z.views ≡ put y.views n v
       twice = fun_ext (put-all w.views n v (λ m q. q ≡ put y.views n v m) (sym (put-here y.views n v)) (λ m d. sym (put-else y.views n m v d ∙ put-else w.views n m u d)))
 
-      steps : steps_scene z ≡ steps_scene y
+      steps : steps_projection z ≡ steps_projection y
       steps = λ i. record { clock = w.clock; views = (ap (parts (λ (q : View). q.steps)) twice ∙ parts-kept (λ (q : View). q.steps) y.views n v (ap (λ (q : View). q.steps) (sym own))) i }
 
   pub look_grants : StepLaw (Core good c) ring_look_grant (RingLooks good c) n CanRingGrant
@@ -167,7 +167,7 @@ module _ (good : (ℕ → ℕ) → Type 0) (c : Config) (n : ℕ) where
         algorithm = may.has.runs.algorithm;
         plain = may.has.runs.plain;
         inside = inside (w.clock == (w.views n).attempt.start) ∙ may.has.inside;
-        calm = may.calm;
+        quiescent = may.quiescent;
         unlocked = may.unlocked;
         uncommitted = may.uncommitted;
         unwritten = may.unwritten;
@@ -190,7 +190,7 @@ module _ (good : (ℕ → ℕ) → Type 0) (c : Config) (n : ℕ) where
 
       -- the clock stands at the number settled
       clock : w.clock ≡ (w.views n).gate.time
-      clock = g.install.time n may.grant.calm
+      clock = g.install.time n may.grant.quiescent
 
       go : (b : Bool) → (b ≡ true → moved (w.views n) w.done ≡ (w.views n).gate.time) → Core good c (at b)
       go true e = grants_after w u (w.views n).gate.time (rings.ring_moves good c n w g may.move).rule (record {
@@ -198,7 +198,7 @@ module _ (good : (ℕ → ℕ) → Type 0) (c : Config) (n : ℕ) where
         algorithm = may.grant.has.runs.algorithm;
         plain = may.grant.has.runs.plain;
         inside = may.grant.has.inside;
-        calm = may.grant.calm;
+        quiescent = may.grant.quiescent;
         unlocked = may.grant.unlocked;
         uncommitted = may.grant.uncommitted;
         unwritten = may.grant.unwritten;

@@ -21,7 +21,7 @@ use Rattle.rule_base.specs.Ranks.{Rec, rec_of, rank_one, home_of}
 use Rattle.rule_base.specs.Ranks.Rec.{Free, Taken}
 use Rattle.rule_base.specs.Regime.{Regime, named_in}
 use Rattle.rule_base.specs.Regime.Regime.{Running, Promoted, Giving}
-use Rattle.rule_base.specs.RunScene.{RunView, run_view, RunScene, run_scene}
+use Rattle.rule_base.specs.RunProjection.{RunView, run_view, RunProjection, run_projection}
 use Rattle.rule_base.specs.World.{World, put, parts}
 use Rattle.rule_seq.specs.CglRule.{CglView, CglHolder, CglRule, cgl_part, CglRuns}
 use Rattle.rule_seq.specs.TmlRule.{TmlPart, TmlRule, tml_part, TmlRuns}
@@ -37,9 +37,9 @@ use Rattle.rule_ring.specs.Slots.{slot_place, writes_of, has_entry, entry-before
 use Rattle.rule_promoted.specs.PromotedRule.{direct_part, DirectRule, suit_part, OrecSuits, Suits, DirectRuns}
 use Rattle.stm_rule.specs.Product.{Gives, Runs}
 
--- the scene after a step that leaves it alone
-pub run_scene-kept : (w x : World) (n : ℕ) (v : View) → x.views ≡ put w.views n v → x.clock ≡ w.clock → x.lock ≡ w.lock → x.base ≡ w.base → x.done ≡ w.done → x.records ≡ w.records → x.slots ≡ w.slots → x.heap ≡ w.heap → x.history ≡ w.history → run_view v ≡ run_view (w.views n) → run_scene x ≡ run_scene w
-run_scene-kept w x n v is clock lock base done records slots heap history own = λ i. record {
+-- the projection after a step that leaves it alone
+pub run_projection-kept : (w x : World) (n : ℕ) (v : View) → x.views ≡ put w.views n v → x.clock ≡ w.clock → x.lock ≡ w.lock → x.base ≡ w.base → x.done ≡ w.done → x.records ≡ w.records → x.slots ≡ w.slots → x.heap ≡ w.heap → x.history ≡ w.history → run_view v ≡ run_view (w.views n) → run_projection x ≡ run_projection w
+run_projection-kept w x n v is clock lock base done records slots heap history own = λ i. record {
   clock = clock i;
   lock = lock i;
   base = base i;
@@ -51,8 +51,8 @@ run_scene-kept w x n v is clock lock base done records slots heap history own = 
   views = (ap (parts run_view) is ∙ parts-kept run_view w.views n v own) i;
 }
 
-pub run_scene-put : (w x : World) (n : ℕ) (v : View) → x.views ≡ put w.views n v → x.clock ≡ w.clock → x.lock ≡ w.lock → x.base ≡ w.base → x.done ≡ w.done → x.records ≡ w.records → x.slots ≡ w.slots → x.heap ≡ w.heap → x.history ≡ w.history → run_scene x ≡ record (run_scene w) { views = put (run_scene w).views n (run_view v) }
-run_scene-put w x n v is clock lock base done records slots heap history = λ i. record {
+pub run_projection-put : (w x : World) (n : ℕ) (v : View) → x.views ≡ put w.views n v → x.clock ≡ w.clock → x.lock ≡ w.lock → x.base ≡ w.base → x.done ≡ w.done → x.records ≡ w.records → x.slots ≡ w.slots → x.heap ≡ w.heap → x.history ≡ w.history → run_projection x ≡ record (run_projection w) { views = put (run_projection w).views n (run_view v) }
+run_projection-put w x n v is clock lock base done records slots heap history = λ i. record {
   clock = clock i;
   lock = lock i;
   base = base i;
@@ -64,12 +64,12 @@ run_scene-put w x n v is clock lock base done records slots heap history = λ i.
   views = (ap (parts run_view) is ∙ parts-put run_view w.views n v) i;
 }
 
--- a step that leaves the scene and the regime alone
-pub runs-stays : (c : Config) (r q : Regime) (s t : RunScene) → q ≡ r → t ≡ s → Runs c r s → Runs c q t
-runs-stays c r q s t regime scene k = subst (λ (p : Regime). Runs c p t) (sym regime) (subst (Runs c r) (sym scene) k)
+-- a step that leaves the projection and the regime alone
+pub runs-stays : (c : Config) (r q : Regime) (s t : RunProjection) → q ≡ r → t ≡ s → Runs c r s → Runs c q t
+runs-stays c r q s t regime projection k = subst (λ (p : Regime). Runs c p t) (sym regime) (subst (Runs c r) (sym projection) k)
 
 -- Nobody is in an attempt, and the memory lies in the heap.
-pub record Ease (s : RunScene) : Type 0 where
+pub record Ease (s : RunProjection) : Type 0 where
   pub heap : (a : ℕ) → s.heap a ≡ word_now s.history a
   pub unlocked : (n : ℕ) → (s.views n).lock.taken ≡ true → ⊥
   pub outside : (n : ℕ) → (s.views n).tml.inside ≡ true → ⊥
@@ -82,7 +82,7 @@ pub record Ease (s : RunScene) : Type 0 where
   pub uncommitted : (n : ℕ) → (s.views n).ring_commit.committed ≡ true → ⊥
 
 -- what an install has made sure of for the algorithm
-pub record Ready (a : Alg) (s : RunScene) : Type 0 where
+pub record Ready (a : Alg) (s : RunProjection) : Type 0 where
   pub even : a ≡ Tml → s.clock % 2 ≡ 0
   -- no entry is later than BASE, which the records would have to vouch for, and DONE lags behind none
   pub based : s.base ≡ s.clock
@@ -91,7 +91,7 @@ pub record Ready (a : Alg) (s : RunScene) : Type 0 where
   pub fronts : (n : ℕ) → (s.views n).front ≤ s.clock
 
 -- FROM REST: each algorithm may run
-pub from-rest : (c : Config) (a : Alg) (s : RunScene) → Ease s → Ready a s → Runs c (Running a) s
+pub from-rest : (c : Config) (a : Alg) (s : RunProjection) → Ease s → Ready a s → Runs c (Running a) s
 from-rest c Cgl s e r = record { free = λ z. e.heap; holder = λ n t. absurd (e.unlocked n t) }
 from-rest c Tml s e r = tml-from-rest c.words (tml_part s) e.outside e.unwritten (r.even refl) e.heap
 from-rest c OrecLazy s e r = orec-from-rest (home_of c) c.words (orec_part s) e.inside e.unheld e.freed e.below e.heap r.based
@@ -103,7 +103,7 @@ from-rest c RingSw s e r = ring-from-rest slot_filter c.ring c.words (ring_part 
 from-rest c Serial s e r = record { free = λ z. e.heap; holder = λ n t. absurd (e.unlocked n t) }
 
 -- the clock, BASE or DONE rose, and of all else that what runs sees only callers' parts changed
-pub record Moved (s t : RunScene) : Type 0 where
+pub record Moved (s t : RunProjection) : Type 0 where
   pub clock : s.clock ≤ t.clock
   pub base : s.base ≤ t.base
   pub based : t.base ≤ t.clock
@@ -116,7 +116,7 @@ pub record Moved (s t : RunScene) : Type 0 where
   pub history : t.history ≡ s.history
   pub fronts : (n : ℕ) → (t.views n).front ≡ (s.views n).front
 
-pub ease-moved : (s t : RunScene) → s.clock ≤ t.clock → t.records ≡ s.records → t.heap ≡ s.heap → t.history ≡ s.history → t.views ≡ s.views → Ease s → Ease t
+pub ease-moved : (s t : RunProjection) → s.clock ≤ t.clock → t.records ≡ s.records → t.heap ≡ s.heap → t.history ≡ s.history → t.views ≡ s.views → Ease s → Ease t
 ease-moved s t clock records heap history views e = record {
   heap = λ a. ap (λ (f : ℕ → ℕ). f a) heap ∙ (e.heap a ∙ ap (λ (h : List Entry). word_now h a) (sym history));
   unlocked = subst (λ (f : ℕ → RunView). (n : ℕ) → (f n).lock.taken ≡ true → ⊥) (sym views) e.unlocked;
@@ -131,8 +131,8 @@ ease-moved s t clock records heap history views e = record {
 }
 
 -- who is at ease changes its part, but for what it has of an attempt
-pub ease-own : (w x : World) (n : ℕ) (v : View) → x.views ≡ put w.views n v → w.clock ≤ x.clock → x.records ≡ w.records → x.heap ≡ w.heap → x.history ≡ w.history → v.lock ≡ (w.views n).lock → v.tml ≡ (w.views n).tml → v.owned ≡ (w.views n).owned → v.ring_read ≡ (w.views n).ring_read → v.ring_commit ≡ (w.views n).ring_commit → Ease (run_scene w) → Ease (run_scene x)
-ease-own w x n v is clock records heap history lock tml owned read turn e = subst (λ (s : RunScene). Ease s) (sym path) (record {
+pub ease-own : (w x : World) (n : ℕ) (v : View) → x.views ≡ put w.views n v → w.clock ≤ x.clock → x.records ≡ w.records → x.heap ≡ w.heap → x.history ≡ w.history → v.lock ≡ (w.views n).lock → v.tml ≡ (w.views n).tml → v.owned ≡ (w.views n).owned → v.ring_read ≡ (w.views n).ring_read → v.ring_commit ≡ (w.views n).ring_commit → Ease (run_projection w) → Ease (run_projection x)
+ease-own w x n v is clock records heap history lock tml owned read turn e = subst (λ (s : RunProjection). Ease s) (sym path) (record {
   heap = λ a. ap (λ (f : ℕ → ℕ). f a) heap ∙ (e.heap a ∙ ap (λ (h : List Entry). word_now h a) (sym history));
   unlocked = put-all w.views n v (λ m u. u.lock.taken ≡ true → ⊥) (subst (λ (q : LockView). q.taken ≡ true → ⊥) (sym lock) (e.unlocked n)) (λ m d. e.unlocked m);
   outside = put-all w.views n v (λ m u. u.tml.inside ≡ true → ⊥) (subst (λ (q : TmlView). q.inside ≡ true → ⊥) (sym tml) (e.outside n)) (λ m d. e.outside m);
@@ -145,11 +145,11 @@ ease-own w x n v is clock records heap history lock tml owned read turn e = subs
   uncommitted = put-all w.views n v (λ m u. u.ring_commit.committed ≡ true → ⊥) (subst (λ (q : RingCommit). q.committed ≡ true → ⊥) (sym turn) (e.uncommitted n)) (λ m d. e.uncommitted m);
 })
   where
-    path : run_scene x ≡ record (run_scene x) { views = parts run_view (put w.views n v) }
-    path = λ i. record (run_scene x) { views = parts run_view (is i) }
+    path : run_projection x ≡ record (run_projection x) { views = parts run_view (put w.views n v) }
+    path = λ i. record (run_projection x) { views = parts run_view (is i) }
 
 -- nobody has an entry to write back
-nobody-late : (s : RunScene) → Ease s → (n : ℕ) → late ((ring_part s).views n) ≡ false
+nobody-late : (s : RunProjection) → Ease s → (n : ℕ) → late ((ring_part s).views n) ≡ false
 nobody-late s e n = go (s.views n).ring_commit.committed refl
   where
     go : (b : Bool) → (s.views n).ring_commit.committed ≡ b → late ((ring_part s).views n) ≡ false
@@ -157,7 +157,7 @@ nobody-late s e n = go (s.views n).ring_commit.committed refl
     go false q = not_late ((ring_part s).views n) q
 
 -- where each record is free, what a version vouched for in s it vouches for in t
-vouched-moved : (c : Config) (s t : RunScene) → Moved s t → OrecRuns c s → (q : ℕ) → t.base < last_write t.history q → (v : ℕ) → rec_of (t.records (home_of c q)) ≡ Free v → 2 * last_write t.history q ≤ 2 * v + 1
+vouched-moved : (c : Config) (s t : RunProjection) → Moved s t → OrecRuns c s → (q : ℕ) → t.base < last_write t.history q → (v : ℕ) → rec_of (t.records (home_of c q)) ≡ Free v → 2 * last_write t.history q ≤ 2 * v + 1
 vouched-moved c s t m k q late v is =
     let same : last_write t.history q ≡ last_write s.history q = ap (λ (h : List Entry). last_write h q) m.history in
     let word : rec_of (s.records (home_of c q)) ≡ Free v = sym (ap (λ (f : ℕ → ℕ). rec_of (f (home_of c q))) m.records) ∙ is in
@@ -165,7 +165,7 @@ vouched-moved c s t m k q late v is =
     omega arith
 
 -- STILL AT REST: who installs moves the clock, BASE or DONE while the old algorithm is still named
-pub runs-moved : (c : Config) (a : Alg) (s t : RunScene) → Runs c (Running a) s → Ease s → Ease t → Moved s t → (a ≡ Tml → t.clock % 2 ≡ 0) → (a ≡ RingSw → ((n : ℕ) → (t.views n).attempt.entered ≡ false) → t.done ≡ t.clock) → Runs c (Running a) t
+pub runs-moved : (c : Config) (a : Alg) (s t : RunProjection) → Runs c (Running a) s → Ease s → Ease t → Moved s t → (a ≡ Tml → t.clock % 2 ≡ 0) → (a ≡ RingSw → ((n : ℕ) → (t.views n).attempt.entered ≡ false) → t.done ≡ t.clock) → Runs c (Running a) t
 runs-moved c Cgl s t k e f m even level = record { free = λ z. f.heap; holder = λ n t. absurd (f.unlocked n t) }
 runs-moved c Tml s t k e f m even level = tml-from-rest c.words (tml_part t) f.outside f.unwritten (even refl) f.heap
 runs-moved c OrecLazy s t k e f m even level = orec-vouched (home_of c) c.words (orec_part t) f.inside f.unheld f.freed m.based f.heap (vouched-moved c s t m k)
@@ -179,7 +179,7 @@ runs-moved c RingSw s t k e f m even level = ring-from-rest slot_filter c.ring c
 runs-moved c Serial s t k e f m even level = record { free = λ z. f.heap; holder = λ n t. absurd (f.unlocked n t) }
 
 -- and after an attempt of the records that was promoted
-vouched-back : (c : Config) (n : ℕ) (s t : RunScene) → OrecSuits (home_of c) (suit_part n s) → Below t.history (t.clock + 1) → Moved s t → ((s.views n).attempt.entered ≡ true → (t.base ≡ t.clock) × (t.done ≡ t.clock)) → (q : ℕ) → t.base < last_write t.history q → (v : ℕ) → rec_of (t.records (home_of c q)) ≡ Free v → 2 * last_write t.history q ≤ 2 * v + 1
+vouched-back : (c : Config) (n : ℕ) (s t : RunProjection) → OrecSuits (home_of c) (suit_part n s) → Below t.history (t.clock + 1) → Moved s t → ((s.views n).attempt.entered ≡ true → (t.base ≡ t.clock) × (t.done ≡ t.clock)) → (q : ℕ) → t.base < last_write t.history q → (v : ℕ) → rec_of (t.records (home_of c q)) ≡ Free v → 2 * last_write t.history q ≤ 2 * v + 1
 vouched-back c n s t k below m marked q late v is = go (s.views n).attempt.entered refl
   where
     go : (b : Bool) → (s.views n).attempt.entered ≡ b → 2 * last_write t.history q ≤ 2 * v + 1
@@ -190,8 +190,8 @@ vouched-back c n s t k below m marked q late v is = go (s.views n).attempt.enter
         let vouched : 2 * last_write s.history q ≤ rank_one (s.views n).owned (home_of c q) (Free v) = subst (λ (x : Rec). 2 * last_write s.history q ≤ rank_one (s.views n).owned (home_of c q) x) word (k.stamped yet q (let up = m.base in omega arith)) in
         omega arith
 
--- BACK: the attempt of caller n was promoted, and left nothing; t is the scene without it
-pub back : (c : Config) (a : Alg) (n : ℕ) (s t : RunScene) → DirectRuns c a n s → Ease t → Moved s t → t.clock ≡ s.clock → ((s.views n).attempt.entered ≡ true → (t.base ≡ t.clock) × (t.done ≡ t.clock)) → ((m : ℕ) → (t.views m).front ≤ t.clock) → Runs c (Running a) t
+-- BACK: the attempt of caller n was promoted, and left nothing; t is the projection without it
+pub back : (c : Config) (a : Alg) (n : ℕ) (s t : RunProjection) → DirectRuns c a n s → Ease t → Moved s t → t.clock ≡ s.clock → ((s.views n).attempt.entered ≡ true → (t.base ≡ t.clock) × (t.done ≡ t.clock)) → ((m : ℕ) → (t.views m).front ≤ t.clock) → Runs c (Running a) t
 back c Cgl n s t d e m clock marked fronts = absurd d.suits
 back c Tml n s t d e m clock marked fronts = tml-from-rest c.words (tml_part t) e.outside e.unwritten (ap (λ k. k % 2) clock ∙ d.suits.even) e.heap
 back c OrecLazy n s t d e m clock marked fronts = orec-vouched (home_of c) c.words (orec_part t) e.inside e.unheld e.freed m.based e.heap (vouched-back c n s t d.suits e.below m marked)
@@ -216,7 +216,7 @@ back c RingSw n s t d e m clock marked fronts = ring-from-rest slot_filter c.rin
 back c Serial n s t d e m clock marked fronts = absurd d.suits
 
 -- AT REST: each algorithm leaves the memory in the heap when nobody is in an attempt of it
-pub at-rest : (c : Config) (a : Alg) (s : RunScene) → Runs c (Running a) s → s.lock ≡ 0 → ((n : ℕ) → (s.views n).tml.writer ≡ true → ⊥) → ((n : ℕ) → (s.views n).ring_commit.committed ≡ true → ⊥) → (has_records a ≡ true → (r n : ℕ) → rec_of (s.records r) ≡ Taken n → ⊥)
+pub at-rest : (c : Config) (a : Alg) (s : RunProjection) → Runs c (Running a) s → s.lock ≡ 0 → ((n : ℕ) → (s.views n).tml.writer ≡ true → ⊥) → ((n : ℕ) → (s.views n).ring_commit.committed ≡ true → ⊥) → (has_records a ≡ true → (r n : ℕ) → rec_of (s.records r) ≡ Taken n → ⊥)
     → ((at : ℕ) → s.heap at ≡ word_now s.history at) × (a ≡ Tml → s.clock % 2 ≡ 0) × (a ≡ RingSw → ((n : ℕ) → (s.views n).attempt.entered ≡ false) → s.done ≡ s.clock)
 at-rest c Cgl s k free none early freed = (k.free free, λ e. absurd cc, λ e. absurd cc)
 at-rest c Tml s k free none early freed = ((k.free none).1, λ e. (k.free none).0, λ e. absurd cc)
@@ -239,7 +239,7 @@ pub record Outside (v : RunView) : Type 0 where
   pub uncommitted : v.ring_commit.committed ≡ false
 
 -- FRESHNESS: under RingSW nobody has seen past DONE, but who has an entry to write back or raised the clock as the gate's holder
-pub runs-fresh : (c : Config) (r : Regime) (s : RunScene) (n : ℕ) → Runs c r s → named_in r ≡ RingSw → (s.views n).ring_commit.committed ≡ false → (s.views n).attempt.entered ≡ false → (s.views n).front ≤ s.done
+pub runs-fresh : (c : Config) (r : Regime) (s : RunProjection) (n : ℕ) → Runs c r s → named_in r ≡ RingSw → (s.views n).ring_commit.committed ≡ false → (s.views n).attempt.entered ≡ false → (s.views n).front ≤ s.done
 runs-fresh c (Running Cgl) s n k e early apart = absurd cc
 runs-fresh c (Running Tml) s n k e early apart = absurd cc
 runs-fresh c (Running OrecLazy) s n k e early apart = absurd cc
@@ -257,7 +257,7 @@ runs-fresh c (Promoted a m) s n k e early apart = go (n == m) refl
 runs-fresh c (Giving a) s n k e early apart = k.fresh e n apart
 
 -- what is so of it
-pub record Leaves (s : RunScene) (n : ℕ) (u : RunView) : Type 0 where
+pub record Leaves (s : RunProjection) (n : ℕ) (u : RunView) : Type 0 where
   pub was : Outside (s.views n)
   pub out : Outside u
   pub tml : u.tml.inside ≡ false
@@ -268,7 +268,7 @@ pub record Leaves (s : RunScene) (n : ℕ) (u : RunView) : Type 0 where
   pub unread : u.ring_read.inside ≡ false
   pub entered : u.attempt.entered ≡ (s.views n).attempt.entered
 
-pub runs-leave : (c : Config) (r : Regime) (s : RunScene) (n : ℕ) (u : RunView) → Leaves s n u → (u.front ≡ (s.views n).front) ⊎ (named_in r ≡ RingSw → u.front ≤ s.done) → ((a : Alg) → r ≡ Promoted a n → ⊥) → Runs c r s → Runs c r (record s { views = put s.views n u })
+pub runs-leave : (c : Config) (r : Regime) (s : RunProjection) (n : ℕ) (u : RunView) → Leaves s n u → (u.front ≡ (s.views n).front) ⊎ (named_in r ≡ RingSw → u.front ≤ s.done) → ((a : Alg) → r ≡ Promoted a n → ⊥) → Runs c r s → Runs c r (record s { views = put s.views n u })
 runs-leave c r s n u l front plain k = by r front plain k
   where
     cgl : CglRuns c s → CglRuns c (record s { views = put s.views n u })

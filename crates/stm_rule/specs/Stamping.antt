@@ -3,9 +3,9 @@ use Rattle.std.specs.Prelude.{ℕ, ◌≤◌}
 use Rattle.stm_model.specs.declared.config.Config.{Config}
 use Rattle.rule_base.specs.StepKinds.{world_after}
 use Rattle.rule_base.specs.World.{World}
-use Rattle.rule_orec.specs.OrecRule.{orec_scene, stamp}
+use Rattle.rule_orec.specs.OrecRule.{orec_projection, stamp}
 use Rattle.stm_rule.specs.CoreRuns.{CoreStep, core_kind, CoreMay}
-use Rattle.stm_rule.specs.Product.{Whole}
+use Rattle.stm_rule.specs.Product.{Invariant}
 
 abbrev pub CoreStamps : ((ℕ → ℕ) → Type 0) → Config → Type 0
-CoreStamps good c = (n : ℕ) (s : CoreStep) (w : World) → Whole good c w → CoreMay good c n s (w.views n) → (r : ℕ) → stamp (orec_scene w) r ≤ stamp (orec_scene (world_after (core_kind n s) n w)) r
+CoreStamps good c = (n : ℕ) (s : CoreStep) (w : World) → Invariant good c w → CoreMay good c n s (w.views n) → (r : ℕ) → stamp (orec_projection w) r ≤ stamp (orec_projection (world_after (core_kind n s) n w)) r

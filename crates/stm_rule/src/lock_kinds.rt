@@ -1,7 +1,7 @@
 //! A function for each kind of step of an attempt of CGL or Serial. Each costs
 //! one atomic step, and takes no memory.
 ghost use Rattle.rule_base.specs.StepKinds.{Nothing};
-ghost use Rattle.rule_seq.specs.CglSteps.{take_lock, CanTakeLock, load_start, CanLoadStart, Begins, load_heap, CanLoadHeap, Loads, store_heap, CanStoreHeap, store_clock, CanStoreClock, Commits, free_lock, CanFreeLock, load_undo, CanLoadUndo, load_limit, LoadsLimit, CanLoadLimit, take_back, CanTakeBack};
+ghost use Rattle.rule_seq.specs.CglSteps.{take_lock, CanTakeLock, load_start, CanLoadStart, Begins, load_heap, CanLoadHeap, Loads, store_heap, CanStoreHeap, store_clock, CanStoreClock, Commits, free_lock, CanFreeLock, load_undo, CanLoadUndo, load_limit, LoadsLimit, CanLoadLimit, store_back, CanStoreBack};
 ghost use Rattle.std.specs.Prelude.{◌<◌, ℕ, ◌≡◌};
 ghost use Rattle.stm_rule.specs.Callers.{IsSeatOf};
 ghost use Rattle.stm_rule.specs.Findings.{FindsLock};
@@ -101,12 +101,12 @@ impl<K: MemRule> Stm<K> {
     }
 
     /// Stores back what the undo log has of `a`.
-    pub fn take_back(&self, seat: &mut Token<K>, caller: usize, a: usize, x: u64)
+    pub fn store_back(&self, seat: &mut Token<K>, caller: usize, a: usize, x: u64)
         requires seat { IsSeatOf self.now caller seat.old }
         requires place { a < self.now.config.words }
-        requires view { CanTakeBack a x (view_of seat.old) }
+        requires view { CanStoreBack a x (view_of seat.old) }
         ensures same { IsSameSeat seat.old seat.new }
-        ensures step { SeatTells (take_back a x) Nothing seat.old.me.0 x seat.new.me.0 }
+        ensures step { SeatTells (store_back a x) Nothing seat.old.me.0 x seat.new.me.0 }
     {
         self.store_as::<Brand, usize>(seat, At::Heap(a), x, &caller);
     }

@@ -162,7 +162,7 @@ module _ (good : List ℕ → Type 0) (opening : List ℕ) (regions : List Regio
     places = higher front front' rows grew.front_rose h.places;
   }
 
-  -- the next row of a caller comes behind its others
+  -- the next row of a caller comes after its others
   next-ordered : (caller : ℕ) (made seen : List Entry) (front : ℕ) (rows : List Row) (r : Row)
       → Worked good opening regions script caller made seen front rows → r.caller ≡ caller → r.seq ≡ length rows → NextPlace front r.kind r.place → Ordered (rows ++ r ∷ [])
   next-ordered caller made seen front rows r h who seq next =

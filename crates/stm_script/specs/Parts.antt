@@ -44,7 +44,7 @@ pub record Worked (good : List ℕ → Type 0) (opening : List ℕ) (regions : L
   pub ordered : Ordered rows
   pub places : All (λ (r : Row). r.place ≤ front) rows
 
--- the history begins with what was seen up to the front, and goes on behind it
+-- the history begins with what was seen up to the front, and goes on after it
 abbrev pub BeginsWith : List Entry → List Entry → ℕ → Type 0
 BeginsWith es seen front = (later : List Entry) × (es ≡ seen ++ later) × Ascending front later
 

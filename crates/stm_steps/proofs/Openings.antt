@@ -4,7 +4,7 @@ use Rattle.stm_model.specs.declared.rule.AnyMem.{AnyMem}
 use Rattle.rule_base.specs.declared.views.View.{View}
 use Rattle.stm_rule.specs.Callers.{Handle, AllOpened}
 use Rattle.stm_rule.specs.declared.stm.Stm.{Stm}
-use Rattle.tx_answers.specs.Known.{is_in, is_closing, locked_under}
+use Rattle.tx_answers.specs.CallerState.{is_in, is_closing, locked_under}
 use Rattle.stm_steps.specs.Fresh.{IsFresh}
 
 module _ (m : Stm AnyMem) where

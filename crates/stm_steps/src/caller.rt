@@ -1,7 +1,7 @@
 //! The calls of a caller, and what they come to in a word.
 
 use tx_answers::answers::{Begin, Cancel, Check, Commit, Irrev, Read, Roll, Write};
-use tx_checked::member::Member;
+use tx_checked::checked_caller::CheckedCaller;
 use tx_checked::misuse::Misuse;
 
 /// One call.
@@ -35,14 +35,14 @@ pub enum Answer {
 }
 
 /// Makes the call, and answers what it came to. It writes 7.
-pub fn play(caller: &mut Member, step: Move) -> Answer {
+pub fn play(caller: &mut CheckedCaller, step: Move) -> Answer {
     match step {
         Move::Begin => of_begin(caller.begin()),
         Move::Read(a) => of_read(caller.read(a)),
         Move::Write(a) => of_write(caller.write(a, 7)),
         Move::Commit => of_commit(caller.commit()),
         Move::Cancel => of_cancel(caller.cancel()),
-        Move::Promote => of_promotion(caller.become_irrevocable()),
+        Move::Promote => of_promotion(caller.try_irrevocable()),
         Move::Mark => of_mark(caller.checkpoint()),
         Move::RollBack => of_roll(caller.roll_to(1)),
     }

@@ -9,7 +9,7 @@ use crate::counting::{begin_count, end_count};
 use std::alloc::Global;
 use stm_model::alg::Alg;
 use stm_model::config::{CLOCK_LIMIT, Config};
-use tx_checked::member::Member;
+use tx_checked::checked_caller::CheckedCaller;
 use tx_checked::opening::open;
 
 /// Three callers; logs of three items, a ring of four slots. The bits of word 49345 lie in the last words of the four
@@ -182,7 +182,7 @@ pub fn run(alloc: Global, case: &Case) -> Option<Answer> {
 }
 
 /// Makes the moves, and counts the last.
-fn play_all(callers: &mut [Member], before: &str, counted: &str) -> Answer {
+fn play_all(callers: &mut [CheckedCaller], before: &str, counted: &str) -> Answer {
     for word in before.split(' ') {
         make(callers, word.as_bytes());
     }
@@ -193,7 +193,7 @@ fn play_all(callers: &mut [Member], before: &str, counted: &str) -> Answer {
 }
 
 /// Makes the move of a word.
-fn make(callers: &mut [Member], word: &[u8]) -> Answer {
+fn make(callers: &mut [CheckedCaller], word: &[u8]) -> Answer {
     let number = match word.first() {
         Some(digit) => digit.wrapping_sub(b'0'),
         None => return Answer::Misplaced,

@@ -1,4 +1,4 @@
-//! A memory of three callers, for the calls that a `Member` makes several of in one, or none.
+//! A memory of three callers, for the calls that a `CheckedCaller` makes several of in one, or none.
 ghost use Rattle.std.specs.Prelude.{◌≡◌, IfSome};
 ghost use Rattle.stm_steps.specs.Fresh.{IsFresh};
 

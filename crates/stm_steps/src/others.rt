@@ -3,7 +3,7 @@ ghost use Rattle.std.specs.Prelude.{◌≡◌, ℕ, ◌≤◌, true};
 ghost use Rattle.rule_base.specs.Encodings.{fenced};
 ghost use Rattle.stm_rule.specs.Callers.{IsOf, IsSameCaller};
 ghost use Rattle.tx_answers.specs.Fences.{is_within};
-ghost use Rattle.tx_answers.specs.Known.{IsIdle};
+ghost use Rattle.tx_answers.specs.CallerState.{IsIdle};
 ghost use Rattle.stm_tx.specs.Descs.{known};
 ghost use Rattle.stm_steps.specs.Fresh.{IsFresh};
 
@@ -15,7 +15,7 @@ use stm_tx::gate::{close_gate, install, look, reopen};
 use stm_tx::{
     Alg, AnyMem, Begin, Check, CloseGate, Config, Desc, Fence, Give, Look, Roll, Stm, Write,
 };
-use tx_checked::member::Member;
+use tx_checked::checked_caller::CheckedCaller;
 use tx_checked::opening::open;
 
 /// Three callers and logs of three items, at an odd clock, which an install of TML makes even.
@@ -152,7 +152,7 @@ fn count_notes(stm: &Stm<AnyMem>, first: &mut Desc<AnyMem>, second: &mut Desc<An
 
 /// Counts `checkpoint`, `roll_to` after three writes, and `release`, in an attempt that has just begun. Answers whether
 /// each came to something.
-fn count_marks(caller: &mut Member) -> bool {
+fn count_marks(caller: &mut CheckedCaller) -> bool {
     begin_count();
     let marked = caller.checkpoint();
     end_count();

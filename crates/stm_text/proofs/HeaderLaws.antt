@@ -21,8 +21,8 @@ use Rattle.stm_script.specs.declared.workload.Version.{Version}
 use Rattle.stm_script.specs.declared.workload.Version.TheVariants.{One, Two}
 use Rattle.stm_script.specs.declared.workload.TheConstants.{MAX_ITEMS, MAX_WORDS_ONE, MAX_REGIONS, STRUCTS_END}
 use Rattle.stm_text.specs.declared.table.TheConstants.{KINDS}
-use Rattle.stm_text.specs.declared.draft.Place.{Place}
-use Rattle.stm_text.specs.declared.draft.Place.TheVariants.{Version as VersionLine, Words, Callers, Records, Ring, Reads, Writes, Clock, Algorithm, Structures, Regions, Region as RegionLine, Policy as PolicyLine, Items, Ops, Turns}
+use Rattle.stm_text.specs.declared.draft.NextLine.{NextLine}
+use Rattle.stm_text.specs.declared.draft.NextLine.TheVariants.{Version as VersionLine, Words, Callers, Records, Ring, Reads, Writes, Clock, Algorithm, Structures, Regions, Region as RegionLine, Policy as PolicyLine, Items, Ops, Turns}
 use Rattle.stm_text.specs.declared.draft.Field.{Field}
 use Rattle.stm_text.specs.declared.draft.Field.TheVariants as fields
 use Rattle.stm_text.specs.declared.draft.Step.{Step}
@@ -31,8 +31,8 @@ use Rattle.stm_text.specs.declared.parse.Mode.{Mode}
 use Rattle.stm_text.specs.declared.parse.Mode.TheVariants.{Run, Step as Stepwise}
 use Rattle.stm_text.specs.Lines.{number_of}
 use Rattle.stm_text.specs.Drafts.{Writing, regions_where, with_field, after}
-use Rattle.stm_text.specs.Grammar.{◌>>=◌, named, formed, ranged, below, number, algorithm_of, algorithm, sized, switched, version_of, most_words, most_size, numbered_policy, policy_of, header_line, behind_algorithm, next_line, next_region, kind_of, end_of, is_placed, placed, region_of}
-use Rattle.stm_text.specs.Built.{IsSized, Follow, RegionsOne, RegionsTwo, LayoutFits, HeaderFits, OpFits, ScriptFits, ItemFits, GoFits, all_turns, ScheduleFits}
+use Rattle.stm_text.specs.Grammar.{◌>>=◌, named, formed, ranged, below, number, algorithm_of, algorithm, sized, switched, version_of, most_words, most_size, numbered_policy, policy_of, header_line, after_algorithm, next_line, next_region, kind_of, end_of, is_placed, placed, region_of}
+use Rattle.stm_text.specs.Parsed.{IsSized, Follow, RegionsOne, RegionsTwo, LayoutFits, HeaderFits, OpFits, ScriptFits, ItemFits, GoFits, all_turns, ScheduleFits}
 use Rattle.stm_text.specs.Giving.{Gives}
 use Rattle.stm_text.specs.Numbers.{Fits64, number_of-fits}
 
@@ -87,7 +87,7 @@ abbrev pub IsBare : Header → Type 0
 IsBare h = (h.regions ≡ []) × (h.policy ≡ Fixed)
 
 -- what the header is at a line, where n regions are to come
-abbrev pub HeadAt : Place → Header → ℕ → Type 0
+abbrev pub HeadAt : NextLine → Header → ℕ → Type 0
 HeadAt VersionLine h n = (h.version ≡ One) × IsBare h
 HeadAt Structures h n = (h.version ≡ One) × IsBare h
 HeadAt Regions h n = (h.version ≡ Two) × IsBare h
@@ -99,7 +99,7 @@ HeadAt Turns h n = Unit {0}
 HeadAt p h n = IsBare h
 
 -- the header fits, and is what it is at a line
-abbrev pub FitsAt : Place → ℕ → Header → Type 0
+abbrev pub FitsAt : NextLine → ℕ → Header → Type 0
 FitsAt p n h = HeaderFits h × HeadAt p h n
 
 pub none-two : (h : Header) → h.regions ≡ [] → RegionsTwo h
@@ -123,7 +123,7 @@ least-words One n le = le
 least-words Two n le = omega arith
 
 -- a field that keeps the header fit, up to the line q
-abbrev pub Puts : Header → ℕ → Place → Field → Type 0
+abbrev pub Puts : Header → ℕ → NextLine → Field → Type 0
 Puts h n q field = FitsAt q n (with_field field h)
 
 -- a line that gives a number, where the header fits with each number in its range
@@ -174,7 +174,7 @@ with-regions h on e fixed room =
     let now : LayoutFits One next = (regions-one h on room, fixed) in
     subst (λ v. LayoutFits v next) (sym e) now
 
-behind-at : (v : Version) (h : Header) (n : ℕ) → h.version ≡ v → IsBare h → HeadAt (behind_algorithm v) h n
+behind-at : (v : Version) (h : Header) (n : ℕ) → h.version ≡ v → IsBare h → HeadAt (after_algorithm v) h n
 behind-at One h n e b = (e, b)
 behind-at Two h n e b = (e, b)
 
@@ -182,7 +182,7 @@ pub gives-any : {A : Type 0} (r : Result A ℕ) → Gives (λ a. Unit {0}) r
 gives-any (Ok a) = tt
 gives-any (Err c) = tt
 
-pub header_line-fits : (p : Place) (h : Header) (n : ℕ) (w v : List ℕ) → HeaderFits h → HeadAt p h n → Gives (Puts h n (next_line h.version p)) (header_line p h w v)
+pub header_line-fits : (p : NextLine) (h : Header) (n : ℕ) (w v : List ℕ) → HeaderFits h → HeadAt p h n → Gives (Puts h n (next_line h.version p)) (header_line p h w v)
 header_line-fits VersionLine h n w v f at =
     let first : Result Version ℕ = named (codes "stm") w (version_of v) in
     then-gives (λ k. Unit {0}) (Puts h n Words) first (λ k. Ok (fields.Version k)) (gives-any first)
@@ -227,7 +227,7 @@ header_line-fits Clock h n w v f at =
     let c = f.config in
     (record { config = record { words = c.words; records = c.records; ring = c.ring; callers = c.callers; reads = c.reads; writes = c.writes; clock = le.1 }; words = f.words; layout = bare-fits h.version (record h { clock = k }) at }, at))
 header_line-fits Algorithm h n w v f at =
-    let P : Field → Type 0 = Puts h n (behind_algorithm h.version) in
+    let P : Field → Type 0 = Puts h n (after_algorithm h.version) in
     let named : Result Alg ℕ = named (codes "alg") w (algorithm v) in
     then-gives (λ a. Unit {0}) P named (λ a. Ok (fields.Algorithm a)) (gives-any named)
     (λ a _. let next : Header = record h { alg = a } in (record { config = f.config; words = f.words; layout = bare-fits h.version next at }, behind-at h.version next n refl at))
@@ -246,12 +246,12 @@ header_line-fits Items h n w v f at = tt
 header_line-fits Ops h n w v f at = tt
 header_line-fits Turns h n w v f at = tt
 
--- nothing stands behind the header yet
+-- nothing stands after the header yet
 abbrev pub IsFront : Writing → Type 0
 IsFront d = (d.items ≡ []) × (d.ops ≡ []) × (d.schedule ≡ [])
 
 -- what stands at a place
-abbrev pub At : Mode → Place → Writing → Type 0
+abbrev pub At : Mode → NextLine → Writing → Type 0
 At m Items d = (d.ops ≡ []) × (d.schedule ≡ [])
 At m Ops d = (length d.items < MAX_ITEMS) × (d.caller < d.header.callers) × (d.schedule ≡ [])
 At m Turns d = (d.ops ≡ []) × (m ≡ Stepwise)
@@ -274,7 +274,7 @@ pub none-planned : (m : Mode) (h : Header) → ScheduleFits m h []
 none-planned Run h = refl
 none-planned Stepwise h = (All-nil (GoFits h), omega arith)
 
-head-by : (m : Mode) (q : Place) (d : Writing) → IsFront d → HeadAt q d.header d.count → q ≢ Ops → q ≢ Turns → At m q d
+head-by : (m : Mode) (q : NextLine) (d : Writing) → IsFront d → HeadAt q d.header d.count → q ≢ Ops → q ≢ Turns → At m q d
 head-by m Items d front at n t = (front.1, front.2)
 head-by m Ops d front at n t = absurd (n refl)
 head-by m Turns d front at n t = absurd (t refl)
@@ -292,23 +292,23 @@ head-by m Regions d front at n t = (front, at)
 head-by m RegionLine d front at n t = (front, at)
 head-by m PolicyLine d front at n t = (front, at)
 
-behind-no_ops : (v : Version) → behind_algorithm v ≢ Ops
+behind-no_ops : (v : Version) → after_algorithm v ≢ Ops
 behind-no_ops One e = cc
 behind-no_ops Two e = cc
 
-behind-no_turns : (v : Version) → behind_algorithm v ≢ Turns
+behind-no_turns : (v : Version) → after_algorithm v ≢ Turns
 behind-no_turns One e = cc
 behind-no_turns Two e = cc
 
-pub next-by : (v : Version) (p : Place) → next_line v p ≢ Ops
+pub next-by : (v : Version) (p : NextLine) → next_line v p ≢ Ops
 next-by v Algorithm e = behind-no_ops v e
 next-by v p e = cc
 
-pub next-no_turns : (v : Version) (p : Place) → next_line v p ≢ Turns
+pub next-no_turns : (v : Version) (p : NextLine) → next_line v p ≢ Turns
 next-no_turns v Algorithm e = behind-no_turns v e
 next-no_turns v p e = cc
 
--- a header that fits, and nothing behind it
+-- a header that fits, and nothing after it
 front-sound : (m : Mode) (d : Writing) → HeaderFits d.header → IsFront d → d.turns ≡ all_turns d.schedule → At m d.place d → Sound m d
 front-sound m d f front turns at = let none = front.0 in record {
   header = f;
@@ -324,7 +324,7 @@ front-sound m d f front turns at = let none = front.0 in record {
 abbrev pub Leaves : Mode → Writing → Step → Type 0
 Leaves m d step = Sound m (after step d)
 
-pub head-sound : (m : Mode) (d : Writing) (q : Place) (field : Field) → IsFront d → d.turns ≡ all_turns d.schedule → q ≢ Ops → q ≢ Turns → Puts d.header d.count q field → Leaves m d (Head q field)
+pub head-sound : (m : Mode) (d : Writing) (q : NextLine) (field : Field) → IsFront d → d.turns ≡ all_turns d.schedule → q ≢ Ops → q ≢ Turns → Puts d.header d.count q field → Leaves m d (Head q field)
 head-sound m d q field front turns ops gos f =
     let next : Writing = after (Head q field) d in front-sound m next f.0 front turns (head-by m q next front f.1 ops gos)
 

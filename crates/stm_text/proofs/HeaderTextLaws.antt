@@ -24,8 +24,8 @@ use Rattle.stm_script.specs.declared.workload.Version.TheVariants.{One, Two}
 use Rattle.stm_script.specs.declared.workload.TheConstants.{MAX_REGIONS, STRUCTS_END}
 use Rattle.stm_text.specs.declared.code.TheConstants.{REGION}
 use Rattle.stm_text.specs.declared.table.TheConstants.{KINDS}
-use Rattle.stm_text.specs.declared.draft.Place.{Place}
-use Rattle.stm_text.specs.declared.draft.Place.TheVariants.{Version as VersionLine, Words, Callers, Records, Ring, Reads, Writes, Clock, Algorithm, Structures, Regions, Region as RegionLine, Policy as PolicyLine, Items}
+use Rattle.stm_text.specs.declared.draft.NextLine.{NextLine}
+use Rattle.stm_text.specs.declared.draft.NextLine.TheVariants.{Version as VersionLine, Words, Callers, Records, Ring, Reads, Writes, Clock, Algorithm, Structures, Regions, Region as RegionLine, Policy as PolicyLine, Items}
 use Rattle.stm_text.specs.declared.draft.Field.{Field}
 use Rattle.stm_text.specs.declared.draft.Field.TheVariants as fields
 use Rattle.stm_text.specs.declared.draft.Step.{Step}
@@ -33,8 +33,8 @@ use Rattle.stm_text.specs.declared.draft.Step.TheVariants.{Head, Count as Announ
 use Rattle.stm_text.specs.declared.parse.Mode.{Mode}
 use Rattle.stm_text.specs.Lines.{lines_of, number_of}
 use Rattle.stm_text.specs.Drafts.{Writing, regions_where, with_field, opening}
-use Rattle.stm_text.specs.Grammar.{◌>>=◌, formed, ranged, algorithm_of, algorithm, sized, most_words, most_size, policy_of, behind_algorithm, next_region, kind_name, kind_of, end_of, placed, region_of, no_region, two_words, four_words, filled, parsed}
-use Rattle.stm_text.specs.Built.{cells_of, IsSized, Follow, RegionsOne, LayoutFits, HeaderFits}
+use Rattle.stm_text.specs.Grammar.{◌>>=◌, formed, ranged, algorithm_of, algorithm, sized, most_words, most_size, policy_of, after_algorithm, next_region, kind_name, kind_of, end_of, placed, region_of, no_region, two_words, four_words, filled, parsed}
+use Rattle.stm_text.specs.Parsed.{cells_of, IsSized, Follow, RegionsOne, LayoutFits, HeaderFits}
 use Rattle.stm_text.specs.Texts.{line, switch_of, version_word, region_words, layout_lines, header_lines, lines_text}
 use Rattle.stm_text.proofs.HeaderLaws.{most-words}
 use Rattle.stm_text.specs.WordLaws.{Visible, seen, visible-decimal}
@@ -67,17 +67,17 @@ algorithm-name RingSw = refl
 algorithm-name Serial = refl
 
 -- within the header, of which n regions were announced
-abbrev in_header : Place → ℕ → Header → Writing
+abbrev in_header : NextLine → ℕ → Header → Writing
 in_header p n h = record { place = p; header = h; count = n; items = []; caller = 0; ops = []; schedule = []; turns = 0 }
 
-not-done : (p : Place) (field : Field) → Head p field ≢ Done
+not-done : (p : NextLine) (field : Field) → Head p field ≢ Done
 not-done p field e = cc
 
 sized-decimal : (name : List ℕ) (low high n : ℕ) → bytes_eq name name ≡ true → low ≤ n → n ≤ high → n < 2 ^ 64 → sized name low high name (decimal n) ≡ Ok n
 sized-decimal name low high n same le ge lt = rw same (number-decimal low high n le ge lt)
 
 -- a line of the header that gives a number
-number-read : (m : Mode) (h : Header) (p q : Place) (k : ℕ) (name : List ℕ) (n : ℕ) (rest : List ℕ) (field : Field) → Visible name → n < 2 ^ 64
+number-read : (m : Mode) (h : Header) (p q : NextLine) (k : ℕ) (name : List ℕ) (n : ℕ) (rest : List ℕ) (field : Field) → Visible name → n < 2 ^ 64
     → two_words p m (in_header p 0 h) name (decimal n) ≡ Ok (Head q field)
     → parsed m (in_header p 0 h) k (lines_of (line (name ∷ decimal n ∷ []) ++ rest)) ≡ parsed m (in_header q 0 (with_field field h)) (k + 1) (lines_of rest)
 number-read m h p q k name n rest field clear fits is =
@@ -91,7 +91,7 @@ version-read m h k One rest =
 version-read m h k Two rest =
     step-read m (in_header VersionLine 0 h) k (codes "stm") (codes "2" ∷ []) rest (Head Words (fields.Version Two)) (seen (codes "stm") refl, (seen (codes "2") refl, tt)) refl (not-done Words (fields.Version Two))
 
-field-set : (r : Result ℕ ℕ) (field : ℕ → Field) (q : Place) (n : ℕ) → r ≡ Ok n → (r >>= (λ v. Ok (field v)) >>= λ x. Ok (Head q x)) ≡ Ok (Head q (field n))
+field-set : (r : Result ℕ ℕ) (field : ℕ → Field) (q : NextLine) (n : ℕ) → r ≡ Ok n → (r >>= (λ v. Ok (field v)) >>= λ x. Ok (Head q x)) ≡ Ok (Head q (field n))
 field-set r field q n is = ap (λ z. z >>= (λ v. Ok (field v)) >>= λ x. Ok (Head q x)) is
 
 words-read : (m : Mode) (h : Header) (k n : ℕ) (rest : List ℕ) → 1 ≤ n → n ≤ most_words h.version
@@ -138,9 +138,9 @@ clock-read m h k n rest le ge =
     (field-set (sized (codes "clock") 0 CLOCK_LIMIT (codes "clock") (decimal n)) (λ v. fields.Clock v) Algorithm n (sized-decimal (codes "clock") 0 CLOCK_LIMIT n refl le ge (omega arith)))
 
 alg-read : (m : Mode) (h : Header) (k : ℕ) (alg : Alg) (rest : List ℕ)
-    → parsed m (in_header Algorithm 0 h) k (lines_of (line (codes "alg" ∷ alg_name alg ∷ []) ++ rest)) ≡ parsed m (in_header (behind_algorithm h.version) 0 (record h { alg = alg })) (k + 1) (lines_of rest)
+    → parsed m (in_header Algorithm 0 h) k (lines_of (line (codes "alg" ∷ alg_name alg ∷ []) ++ rest)) ≡ parsed m (in_header (after_algorithm h.version) 0 (record h { alg = alg })) (k + 1) (lines_of rest)
 alg-read m h k alg rest =
-    let q : Place = behind_algorithm h.version in
+    let q : NextLine = after_algorithm h.version in
     step-read m (in_header Algorithm 0 h) k (codes "alg") (alg_name alg ∷ []) rest (Head q (fields.Algorithm alg)) (seen (codes "alg") refl, (visible-name alg, tt))
     (filled-name alg (two_words Algorithm m (in_header Algorithm 0 h) (codes "alg") (alg_name alg))
     ∙ ap (λ r. r >>= (λ a. Ok (fields.Algorithm a)) >>= λ x. Ok (Head q x)) (algorithm-name alg))
@@ -159,14 +159,14 @@ structs-read m h k true rest room =
 abbrev laying : Header → List Region → Header
 laying h rs = record h { regions = rs; policy = policies.Fixed }
 
-announce-not : (p : Place) (n : ℕ) → Announce p n ≢ Done
+announce-not : (p : NextLine) (n : ℕ) → Announce p n ≢ Done
 announce-not p n e = cc
 
 count-line : (m : Mode) (h : Header) (k n : ℕ) (rest : List ℕ) → n ≤ MAX_REGIONS
     → parsed m (in_header Regions 0 h) k (lines_of (line (codes "regions" ∷ decimal n ∷ []) ++ rest)) ≡ parsed m (in_header (next_region n 0) n h) (k + 1) (lines_of rest)
 count-line m h k n rest most =
     let d : Writing = in_header Regions 0 h in
-    let q : Place = next_region n 0 in
+    let q : NextLine = next_region n 0 in
     step-read m d k (codes "regions") (decimal n ∷ []) rest (Announce q n) (seen (codes "regions") refl, (visible-decimal n (omega arith), tt))
     (filled-decimal n (two_words Regions m d (codes "regions") (decimal n)) (omega arith)
     ∙ ap (λ r. r >>= λ x. Ok (Announce (next_region x 0) x)) (sized-decimal (codes "regions") 0 MAX_REGIONS n refl (omega arith) most (omega arith)))
@@ -242,7 +242,7 @@ region-read m h n before k r rest small sized above within =
     let s : Structure = structure_of r in
     let few = most-size s in
     let size = sized.1 in
-    let q : Place = next_region n (length before + 1) in
+    let q : NextLine = next_region n (length before + 1) in
     let x : start_of r < 2 ^ 64 = omega arith in
     let y : cells_of r < 2 ^ 64 = omega arith in
     let four : Result Step ℕ = four_words RegionLine d (codes "region") (kind_name s) (decimal (start_of r)) (decimal (cells_of r)) in
@@ -312,7 +312,7 @@ policy-read m h n k p rest word =
 
 -- the nine lines before the layout
 nine-read : (m : Mode) (h : Header) (rest : List (List (List ℕ))) → HeaderFits h
-    → parsed m opening 1 (lines_of (lines_text (header_lines h ++ rest))) ≡ parsed m (in_header (behind_algorithm h.version) 0 (laying h [])) 10 (lines_of (lines_text (layout_lines h.version h ++ rest)))
+    → parsed m opening 1 (lines_of (lines_text (header_lines h ++ rest))) ≡ parsed m (in_header (after_algorithm h.version) 0 (laying h [])) 10 (lines_of (lines_text (layout_lines h.version h ++ rest)))
 nine-read m h rest f =
     let h0 : Header = opening.header in
     let h1 : Header = record h0 { version = h.version } in
@@ -352,7 +352,7 @@ room-one h (inr four) on = four.1
 
 -- the layout of each version
 layout-read : (m : Mode) (h : Header) (more : List (List (List ℕ))) → HeaderFits h → (v : Version) → h.version ≡ v → LayoutFits v h
-    → (j : ℕ) × (parsed m (in_header (behind_algorithm v) 0 (laying h [])) 10 (lines_of (lines_text (layout_lines v h ++ more))) ≡ parsed m (between h [] 0) j (lines_of (lines_text more)))
+    → (j : ℕ) × (parsed m (in_header (after_algorithm v) 0 (laying h [])) 10 (lines_of (lines_text (layout_lines v h ++ more))) ≡ parsed m (between h [] 0) j (lines_of (lines_text more)))
 layout-read m h more f One one l =
     let on : Bool = not (no_region h.regions) in
     let rest : List ℕ = lines_text more in (

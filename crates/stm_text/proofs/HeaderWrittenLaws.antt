@@ -16,13 +16,13 @@ use Rattle.stm_script.specs.declared.workload.Header.{Header}
 use Rattle.stm_script.specs.declared.workload.Version.{Version}
 use Rattle.stm_script.specs.declared.workload.Version.TheVariants.{One, Two}
 use Rattle.stm_script.specs.declared.workload.TheConstants.{STRUCTS_END}
-use Rattle.stm_text.specs.declared.draft.Place.{Place}
-use Rattle.stm_text.specs.declared.draft.Place.TheVariants.{Version as VersionLine, Words, Callers, Records, Ring, Reads, Writes, Clock, Algorithm, Structures, Regions, Region as RegionLine, Policy as PolicyLine, Items, Ops, Turns}
+use Rattle.stm_text.specs.declared.draft.NextLine.{NextLine}
+use Rattle.stm_text.specs.declared.draft.NextLine.TheVariants.{Version as VersionLine, Words, Callers, Records, Ring, Reads, Writes, Clock, Algorithm, Structures, Regions, Region as RegionLine, Policy as PolicyLine, Items, Ops, Turns}
 use Rattle.stm_text.specs.declared.draft.Field.{Field}
 use Rattle.stm_text.specs.declared.draft.Field.TheVariants as fields
 use Rattle.stm_text.specs.Lines.{number_of}
 use Rattle.stm_text.specs.Drafts.{Writing, regions_where, with_field}
-use Rattle.stm_text.specs.Grammar.{◌>>=◌, named, formed, ranged, below, number, algorithm_of, algorithm, sized, switched, version_of, most_words, numbered_policy, policy_of, header_line, behind_algorithm, next_line, no_region}
+use Rattle.stm_text.specs.Grammar.{◌>>=◌, named, formed, ranged, below, number, algorithm_of, algorithm, sized, switched, version_of, most_words, numbered_policy, policy_of, header_line, after_algorithm, next_line, no_region}
 use Rattle.stm_text.specs.Texts.{switch_of, op_words, items_lines, version_word, region_words, layout_lines, header_lines, section_lines}
 use Rattle.stm_text.specs.Giving.{Gives, gives-with}
 use Rattle.stm_text.specs.Numbers.{number_of-says}
@@ -96,7 +96,7 @@ nine_lines h =
 abbrev pub region_lines : Header → ℕ → List (List (List ℕ))
 region_lines h n = nine_lines h ++ (codes "regions" ∷ decimal n ∷ []) ∷ map region_words h.regions
 
-abbrev pub head_so_far : Place → Header → ℕ → List (List (List ℕ))
+abbrev pub head_so_far : NextLine → Header → ℕ → List (List (List ℕ))
 head_so_far VersionLine h n = []
 head_so_far Words h n = take 1 (nine_lines h)
 head_so_far Callers h n = take 2 (nine_lines h)
@@ -114,22 +114,22 @@ head_so_far Items h n = header_lines h
 head_so_far Ops h n = header_lines h
 head_so_far Turns h n = header_lines h
 
-abbrev pub open_lines : Place → Writing → List (List (List ℕ))
+abbrev pub open_lines : NextLine → Writing → List (List (List ℕ))
 open_lines Ops d = (codes "tx" ∷ decimal d.caller ∷ []) ∷ map (op_words d.header.version) d.ops
 open_lines Turns d = section_lines d.schedule
 open_lines p d = []
 
-abbrev pub written_at : Place → Writing → List (List (List ℕ))
+abbrev pub written_at : NextLine → Writing → List (List (List ℕ))
 written_at p d = head_so_far p d.header d.count ++ (items_lines d.header.version d.items ++ open_lines p d)
 
 -- a line of the header is the one before the line q
-abbrev pub HeadGrows : Place → Place → Header → ℕ → List ℕ → List ℕ → Field → Type 0
+abbrev pub HeadGrows : NextLine → NextLine → Header → ℕ → List ℕ → List ℕ → Field → Type 0
 HeadGrows p q h n w v field = head_so_far q (with_field field h) n ≡ head_so_far p h n ++ (w ∷ v ∷ []) ∷ []
 
 pub two-same : (xs : List (List (List ℕ))) (a b w v : List ℕ) → w ≡ a → v ≡ b → xs ++ (a ∷ b ∷ []) ∷ [] ≡ xs ++ (w ∷ v ∷ []) ∷ []
 two-same xs a b w v p q = ap (λ x. xs ++ (x ∷ b ∷ []) ∷ []) (sym p) ∙ ap (λ x. xs ++ (w ∷ x ∷ []) ∷ []) (sym q)
 
-number-grows : (p q : Place) (h : Header) (n : ℕ) (name : List ℕ) (low high : ℕ) (w v : List ℕ) (field : ℕ → Field) → ((k : ℕ) → head_so_far q (with_field (field k) h) n ≡ head_so_far p h n ++ (name ∷ decimal k ∷ []) ∷ [])
+number-grows : (p q : NextLine) (h : Header) (n : ℕ) (name : List ℕ) (low high : ℕ) (w v : List ℕ) (field : ℕ → Field) → ((k : ℕ) → head_so_far q (with_field (field k) h) n ≡ head_so_far p h n ++ (name ∷ decimal k ∷ []) ∷ [])
     → Gives (HeadGrows p q h n w v) (sized name low high w v >>= λ k. Ok (field k))
 number-grows p q h n name low high w v field next =
     then-gives (Names name w v) (HeadGrows p q h n w v) (sized name low high w v) (λ k. Ok (field k)) (sized-says name low high w v)
@@ -169,7 +169,7 @@ policy_of-says v =
     (if-else-gives P (bytes_eq v (codes "expert")) (Ok policies.Expert) numbered (λ e. (bytes_eq-Decides v (codes "expert")).0 e)
     (gives-with (λ p. take 6 v ++ drop 6 v ≡ policy_word p) P numbered (numbered-says (take 6 v) (drop 6 v)) (λ p is. sym (take-append-drop 6 v) ∙ is)))
 
-behind-far : (x : Version) (h : Header) (n : ℕ) → head_so_far (behind_algorithm x) h n ≡ nine_lines h
+behind-far : (x : Version) (h : Header) (n : ℕ) → head_so_far (after_algorithm x) h n ≡ nine_lines h
 behind-far One h n = refl
 behind-far Two h n = refl
 
@@ -177,7 +177,7 @@ switch-where : (on : Bool) → not (no_region (regions_where on)) ≡ on
 switch-where true = refl
 switch-where false = refl
 
-pub header_line-grows : (p : Place) (h : Header) (n : ℕ) (w v : List ℕ) → HeadAt p h n → Gives (HeadGrows p (next_line h.version p) h n w v) (header_line p h w v)
+pub header_line-grows : (p : NextLine) (h : Header) (n : ℕ) (w v : List ℕ) → HeadAt p h n → Gives (HeadGrows p (next_line h.version p) h n w v) (header_line p h w v)
 header_line-grows VersionLine h n w v at =
     let Says : Version → Type 0 = λ k. (w ≡ codes "stm") × (v ≡ version_word k) in
     then-gives Says (HeadGrows VersionLine Words h n w v) (named (codes "stm") w (version_of v)) (λ k. Ok (fields.Version k))
@@ -192,7 +192,7 @@ header_line-grows Writes h n w v at = number-grows Writes Clock h n (codes "writ
 header_line-grows Clock h n w v at = number-grows Clock Algorithm h n (codes "clock") 0 CLOCK_LIMIT w v (λ k. fields.Clock k) (λ k. refl)
 header_line-grows Algorithm h n w v at =
     let Says : Alg → Type 0 = λ a. (w ≡ codes "alg") × (v ≡ alg_name a) in
-    then-gives Says (HeadGrows Algorithm (behind_algorithm h.version) h n w v) (named (codes "alg") w (algorithm v)) (λ a. Ok (fields.Algorithm a))
+    then-gives Says (HeadGrows Algorithm (after_algorithm h.version) h n w v) (named (codes "alg") w (algorithm v)) (λ a. Ok (fields.Algorithm a))
     (named-says Says (codes "alg") w (algorithm v) (λ a. gives-with (λ x. v ≡ alg_name x) Says (algorithm v) (algorithm-says v) (λ x is. (a, is))))
     (λ a is. behind-far h.version (record h { alg = a }) n ∙ two-same (head_so_far Algorithm h n) (codes "alg") (alg_name a) w v is.0 is.1)
 header_line-grows Structures h n w v at =

@@ -2,7 +2,7 @@ pub mod OrderLaws
 pub mod ParseLaws
 mod PieceLaws
 pub mod HeaderLaws
-pub mod BuiltLaws
+pub mod ParsedLaws
 pub mod ReportLaws
 mod OpTextLaws
 mod HeaderTextLaws

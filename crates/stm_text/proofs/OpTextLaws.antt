@@ -24,14 +24,14 @@ use Rattle.stm_script.specs.declared.workload.Workload.{Workload}
 use Rattle.stm_script.specs.declared.workload.TheConstants.{MAX_ITEMS, MAX_OPS, MAX_TURNS, MAX_KEY, MAX_REGIONS, STRUCTS_BEGIN, STRUCTS_END, STRIPES}
 use Rattle.stm_script.specs.Scripts.{has_irrev}
 use Rattle.stm_text.specs.declared.code.TheConstants.{ORDER, REGION}
-use Rattle.stm_text.specs.declared.draft.Place.TheVariants.{Items, Ops, Turns}
+use Rattle.stm_text.specs.declared.draft.NextLine.TheVariants.{Items, Ops, Turns}
 use Rattle.stm_text.specs.declared.draft.Step.{Step}
 use Rattle.stm_text.specs.declared.draft.Step.TheVariants.{Head, Count as Announce, Begin, Change, Lengthen, Add, End, Schedule, Turn, Done}
 use Rattle.stm_text.specs.declared.parse.Mode.{Mode}
 use Rattle.stm_text.specs.Lines.{Line, lines_of, words_of, any_bad, number_of}
 use Rattle.stm_text.specs.Drafts.{Writing, after}
 use Rattle.stm_text.specs.Grammar.{◌>>=◌, formed, ranged, below, number, sized, begun, changed, lengthened, added, emitted, has_region, has_structure, structured, planned, is_plain, plain_in, plain, address, operands, move_of, count_of, op_of, keyless, region_number, stripe_in, stripe_of, one_word, pair_op, triple_op, quadruple_op, two_words, three_words, four_words, filled, by_words, step_of, go_on, parsed}
-use Rattle.stm_text.specs.Built.{IsSized, RegionsOne, LayoutFits, HeaderFits, IsFreeIn, IsFree, HasStructure, KeyFits, OpFits, IsAllowed}
+use Rattle.stm_text.specs.Parsed.{IsSized, RegionsOne, LayoutFits, HeaderFits, IsFreeIn, IsFree, HasStructure, KeyFits, OpFits, IsAllowed}
 use Rattle.stm_text.specs.Texts.{joined, line, numbered, op_words}
 use Rattle.stm_text.proofs.RegionLaws.{laid-by}
 use Rattle.stm_text.specs.LineLaws.{lines_of-first}

@@ -3,7 +3,7 @@ use Rattle.std.proofs.Common.{◌≡◌, List, [], ◌∷◌, ◌++◌, Bool, tr
 use Rattle.stm_script.specs.declared.op.Op.{Op}
 use Rattle.stm_script.specs.Operations.{is_irrev}
 use Rattle.stm_script.specs.Scripts.{has_irrev}
-use Rattle.stm_text.specs.Built.{IsAllowed, AreInOrder}
+use Rattle.stm_text.specs.Parsed.{IsAllowed, AreInOrder}
 
 or-assoc : (a b c : Bool) → (a || b) || c ≡ a || (b || c)
 or-assoc true b c = refl

@@ -1,4 +1,4 @@
--- A text is parted behind its first line `done`.
+-- A text is parted after its first line `done`.
 use Rattle.std.proofs.Common.{ℕ, ◌≡◌, ◌≢◌, List, [], ◌∷◌, ◌++◌, Bool, true, false, refl, sym, ap, ◌∙◌, arith, subst, inl, inr, append_assoc, append-nil, length, length-append, length-drop, take, drop, ◌+◌, ◌<◌, ◌≤◌}
 use Rattle.std.specs.Prelude.{◌==◌, ◌⊎◌, All, if◌then◌else◌, codes, bytes_eq}
 use Rattle.std.proofs.lemmas.Bool.Decides.{nat_tests}
@@ -43,7 +43,7 @@ at-end (x ∷ xs) h =
       ends = inr (ap lines_of (append-nil (x ∷ xs)) ∙ lines_of-last x xs h, refl);
     }
 
--- behind a line that isn't `done`
+-- after a line that isn't `done`
 line-past : (line bs : List ℕ) (p : List ℕ × List ℕ) → Lacks 10 line → line ≢ codes "done" → Parts [] bs p → Parts line (10 ∷ bs) (10 ∷ p.0, p.1)
 line-past line bs p lacks other h =
     let first = lines_of-first line p.0 lacks in
@@ -106,7 +106,7 @@ text-parted text = let h = parts [] text tt in record { whole = h.whole; before 
 abbrev Two : Type 0
 Two = List ℕ × List ℕ
 
--- what a line and the text behind it are parted into
+-- what a line and the text after it are parted into
 abbrev line_parted : Bool → List ℕ → List ℕ → Two
 line_parted true xs r = (xs ++ 10 ∷ [], r)
 line_parted false xs r = (xs ++ 10 ∷ (parted_by [] r).0, (parted_by [] r).1)

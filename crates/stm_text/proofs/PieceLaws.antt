@@ -1,4 +1,4 @@
--- The lines of all rows are those of the chunks, one behind the other.
+-- The lines of all rows are those of the chunks, one after the other.
 use Rattle.std.proofs.Common.{ℕ, ◌≡◌, ◌≤◌, ◌+◌, ◌*◌, List, [], ◌∷◌, ◌++◌, length, take, drop, refl, sym, ap, ◌∙◌, subst, append_assoc}
 use Rattle.std.specs.Prelude.{All}
 use Rattle.std.specs.Fork.{slice_chunk}
@@ -11,7 +11,7 @@ lines-append : (rs ss : List Row) → row_lines (rs ++ ss) ≡ row_lines rs ++ r
 lines-append [] ss = refl
 lines-append (r ∷ rs) ss = ap (λ l. row_line r ++ l) (lines-append rs ss) ∙ sym (append_assoc (row_line r) (row_lines rs) (row_lines ss))
 
--- the rows from chunk n on are those of chunk n and those behind it
+-- the rows from chunk n on are those of chunk n and those after it
 pub chunk-first : (size n : ℕ) (rows : List Row) → row_lines (slice_chunk rows size n) ++ row_lines (drop (n * size + size) rows) ≡ row_lines (drop (n * size) rows)
 chunk-first size n rows =
     let rest = drop (n * size) rows in
@@ -24,7 +24,7 @@ chunk-fits size n rows chunk behind =
     let others = subst (λ (l : List Row). All RowFits l) (sym (drop-drop size (n * size) rows)) behind in
     subst (λ (l : List Row). All RowFits l) (take-append-drop size rest) (All-append RowFits (take size rest) (drop size rest) chunk others)
 
--- behind the last chunk there is none
+-- after the last chunk there is none
 pub none-behind : (n : ℕ) (rows : List Row) (text : List ℕ) → length rows ≤ n → text ++ row_lines (drop n rows) ≡ text
 none-behind n rows text le = ap (λ (l : List Row). text ++ row_lines l) (drop_all n rows le) ∙ append-nil text
 

@@ -1,4 +1,4 @@
--- What is built fits the memory of its header: structures lie in their regions, and plain addresses outside them.
+-- What is parsed fits the memory of its header: structures lie in their regions, and plain addresses outside them.
 use Rattle.std.proofs.Common.{ℕ, ◌≡◌, ◌<◌, ◌≤◌, ◌+◌, ◌^◌, List, [], ◌∷◌, get_or, length, refl, sym, ap, arith, subst, inl, inr}
 use Rattle.std.specs.Prelude.{◌⊎◌, All, AllPairs, Contains}
 use Rattle.std.proofs.lemmas.List.Elements.{All-nil, All-cons, All-weaker, Contains-get_or}
@@ -19,8 +19,8 @@ use Rattle.stm_script.specs.Operations.{OpFits}
 use Rattle.stm_script.specs.Reports.{regions_of}
 use Rattle.stm_script.specs.Structures.{region_at, as_counter, as_list, as_hash, as_tree, as_queue, as_sum_map, AreLaid, HasRegion}
 use Rattle.stm_script.specs.Workloads.{ItemFits}
-use Rattle.stm_text.specs.Built as built
-use Rattle.stm_text.specs.Built.{cells_of, IsSized, Follow, RegionsOne, RegionsTwo, LayoutFits, HasStructure, IsFree, IsFreeIn, BuiltWorkloadsFit}
+use Rattle.stm_text.specs.Parsed as is_parsed
+use Rattle.stm_text.specs.Parsed.{cells_of, IsSized, Follow, RegionsOne, RegionsTwo, LayoutFits, HasStructure, IsFree, IsFreeIn, ParsedWorkloadsFit}
 use Rattle.stm_text.proofs.HeaderLaws.{none-two}
 
 -- regions that follow each other are apart
@@ -72,7 +72,7 @@ pub laid-by : (v : Version) (h : Header) → LayoutFits v h → RegionsTwo h
 laid-by One h l = one-two h l.0
 laid-by Two h l = l.0
 
-laid-out : (h : Header) → built.HeaderFits h → AreLaid h.regions h.words
+laid-out : (h : Header) → is_parsed.HeaderFits h → AreLaid h.regions h.words
 laid-out h f =
     let two = laid-by h.version h f.layout in
     let small = f.config.words.1 in
@@ -116,30 +116,30 @@ queue-some (OfQueue q) e some = omega arith
 queue-some r e some = absurd cc
 
 -- it has words of its own
-has-region : (h : Header) (r : ℕ) (x : Region) → built.HeaderFits h → r < length h.regions → region_at h.regions r ≡ x → HasRegion h.regions h.words x
+has-region : (h : Header) (r : ℕ) (x : Region) → is_parsed.HeaderFits h → r < length h.regions → region_at h.regions r ≡ x → HasRegion h.regions h.words x
 has-region h r x f lt is =
     (laid-out h f, subst (Contains h.regions) is (Contains-get_or h.regions r (OfCounter (record { at = 0; stripes = 0 })) lt))
 
-some-cells : (h : Header) (r : ℕ) → built.HeaderFits h → r < length h.regions → 1 ≤ cells_of (region_at h.regions r)
+some-cells : (h : Header) (r : ℕ) → is_parsed.HeaderFits h → r < length h.regions → 1 ≤ cells_of (region_at h.regions r)
 some-cells h r f lt =
     let two = laid-by h.version h f.layout in (two.sized r (OfCounter (record { at = 0; stripes = 0 })) lt).0
 
-has-counter : (h : Header) (r : ℕ) → built.HeaderFits h → HasStructure h structures.Counter r → HasRegion h.regions h.words (OfCounter (as_counter (region_at h.regions r)))
+has-counter : (h : Header) (r : ℕ) → is_parsed.HeaderFits h → HasStructure h structures.Counter r → HasRegion h.regions h.words (OfCounter (as_counter (region_at h.regions r)))
 has-counter h r f b = has-region h r (OfCounter (as_counter (region_at h.regions r))) f b.0 (is-counter (region_at h.regions r) b.1)
 
-has-list : (h : Header) (r : ℕ) → built.HeaderFits h → HasStructure h structures.List r → HasRegion h.regions h.words (OfList (as_list (region_at h.regions r)))
+has-list : (h : Header) (r : ℕ) → is_parsed.HeaderFits h → HasStructure h structures.List r → HasRegion h.regions h.words (OfList (as_list (region_at h.regions r)))
 has-list h r f b = has-region h r (OfList (as_list (region_at h.regions r))) f b.0 (is-list (region_at h.regions r) b.1)
 
-has-hash : (h : Header) (r : ℕ) → built.HeaderFits h → HasStructure h structures.Hash r → HasRegion h.regions h.words (OfHash (as_hash (region_at h.regions r)))
+has-hash : (h : Header) (r : ℕ) → is_parsed.HeaderFits h → HasStructure h structures.Hash r → HasRegion h.regions h.words (OfHash (as_hash (region_at h.regions r)))
 has-hash h r f b = has-region h r (OfHash (as_hash (region_at h.regions r))) f b.0 (is-hash (region_at h.regions r) b.1)
 
-has-tree : (h : Header) (r : ℕ) → built.HeaderFits h → HasStructure h structures.Tree r → HasRegion h.regions h.words (OfTree (as_tree (region_at h.regions r)))
+has-tree : (h : Header) (r : ℕ) → is_parsed.HeaderFits h → HasStructure h structures.Tree r → HasRegion h.regions h.words (OfTree (as_tree (region_at h.regions r)))
 has-tree h r f b = has-region h r (OfTree (as_tree (region_at h.regions r))) f b.0 (is-tree (region_at h.regions r) b.1)
 
-has-queue : (h : Header) (r : ℕ) → built.HeaderFits h → HasStructure h structures.Queue r → HasRegion h.regions h.words (OfQueue (as_queue (region_at h.regions r)))
+has-queue : (h : Header) (r : ℕ) → is_parsed.HeaderFits h → HasStructure h structures.Queue r → HasRegion h.regions h.words (OfQueue (as_queue (region_at h.regions r)))
 has-queue h r f b = has-region h r (OfQueue (as_queue (region_at h.regions r))) f b.0 (is-queue (region_at h.regions r) b.1)
 
-has-sum_map : (h : Header) (r : ℕ) → built.HeaderFits h → HasStructure h structures.SumMap r → HasRegion h.regions h.words (OfSumMap (as_sum_map (region_at h.regions r)))
+has-sum_map : (h : Header) (r : ℕ) → is_parsed.HeaderFits h → HasStructure h structures.SumMap r → HasRegion h.regions h.words (OfSumMap (as_sum_map (region_at h.regions r)))
 has-sum_map h r f b = has-region h r (OfSumMap (as_sum_map (region_at h.regions r))) f b.0 (is-sum_map (region_at h.regions r) b.1)
 
 module _ (plain : VersionOnePlain) where
@@ -153,14 +153,14 @@ module _ (plain : VersionOnePlain) where
   layout-one h (inr four) = inr four.0
 
   -- a free address is in no region
-  free-plain : (h : Header) (a : ℕ) → built.HeaderFits h → IsFree h a → IsPlain (regions_of h) a
+  free-plain : (h : Header) (a : ℕ) → is_parsed.HeaderFits h → IsFree h a → IsPlain (regions_of h) a
   free-plain h a f free = by h.version f.layout free
     where
       by : (v : Version) → LayoutFits v h → IsFreeIn v h.regions a → IsPlain h.regions a
       by One l free = free-one h.regions a (layout-one h l.0) free
       by Two l free = free
 
-  op-fits : (h : Header) (op : Op) → built.HeaderFits h → built.OpFits h op → OpFits (regions_of h) h.words op
+  op-fits : (h : Header) (op : Op) → is_parsed.HeaderFits h → is_parsed.OpFits h op → OpFits (regions_of h) h.words op
   op-fits h (Read a) f b = (b.0, free-plain h a f b.1)
   op-fits h (Write a v) f b = (b.0, free-plain h a f b.2)
   op-fits h (Add a k) f b = (b.0, free-plain h a f b.2)
@@ -189,10 +189,10 @@ module _ (plain : VersionOnePlain) where
   op-fits h (MapPut r key v) f b = let le = b.0.1 in (has-sum_map h r f b.0.0, omega arith, b.1)
   op-fits h (MapSum r lo hi) f b = let le = b.0.1 in let top = b.1 in (has-sum_map h r f b.0.0, omega arith, omega arith)
 
-  item-fits : (h : Header) (item : Item) → built.HeaderFits h → built.ItemFits h item → ItemFits (regions_of h) h item
+  item-fits : (h : Header) (item : Item) → is_parsed.HeaderFits h → is_parsed.ItemFits h item → ItemFits (regions_of h) h item
   item-fits h (Tx caller script) f b = (b.0, λ i d lt. op-fits h (get_or script i d) f (b.1.each i d lt))
   item-fits h (Switch caller alg) f b = b
   item-fits h (Reserve caller reads writes) f b = b.0
 
-  pub workload-fits : BuiltWorkloadsFit
+  pub workload-fits : ParsedWorkloadsFit
   workload-fits m w b = λ i d lt. item-fits w.header (get_or w.items i d) b.header (b.items i d lt)

@@ -15,7 +15,7 @@ use Rattle.stm_script.specs.declared.workload.Go.{Go}
 use Rattle.stm_script.specs.declared.workload.Workload.{Workload}
 use Rattle.stm_script.specs.declared.workload.TheConstants.{MAX_ITEMS, MAX_OPS, MAX_TURNS}
 use Rattle.stm_script.specs.Scripts.{has_irrev}
-use Rattle.stm_text.specs.declared.draft.Place.TheVariants.{Items, Turns}
+use Rattle.stm_text.specs.declared.draft.NextLine.TheVariants.{Items, Turns}
 use Rattle.stm_text.specs.declared.draft.Step.{Step}
 use Rattle.stm_text.specs.declared.draft.Step.TheVariants.{Begin, Change, Lengthen, End, Schedule, Turn, Done}
 use Rattle.stm_text.specs.declared.parse.TheConstants.{MAX_TEXT}
@@ -24,7 +24,7 @@ use Rattle.stm_text.specs.declared.parse.Mode.TheVariants.{Run, Step as Stepwise
 use Rattle.stm_text.specs.Lines.{lines_of, number_of}
 use Rattle.stm_text.specs.Drafts.{Writing, opening}
 use Rattle.stm_text.specs.Grammar.{◌>>=◌, formed, ranged, below, algorithm, begun, changed, lengthened, planned, caller_of, go_of, quadruple_item, two_words, three_words, four_words, filled, by_words, parsed, workload_of}
-use Rattle.stm_text.specs.Built.{HeaderFits, OpFits, AreInOrder, ItemFits, GoFits, all_turns, ScheduleFits, IsBuilt}
+use Rattle.stm_text.specs.Parsed.{HeaderFits, OpFits, AreInOrder, ItemFits, GoFits, all_turns, ScheduleFits, IsParsed}
 use Rattle.stm_text.specs.Texts.{line, op_words, items_lines, header_lines, go_words, section_lines, schedule_lines, lines_with, lines_text, AreLinesOf, IsTextOf}
 use Rattle.stm_text.proofs.OrderLaws.{irrev-snoc}
 use Rattle.stm_text.specs.WordLaws.{seen, visible-decimal}
@@ -236,7 +236,7 @@ bare-read h items f room fits =
 short-enough : (m : Mode) (t : List ℕ) → length t ≤ MAX_TEXT → workload_of m t ≡ parsed m opening 1 (lines_of t)
 short-enough m t le = let p : ltb MAX_TEXT (length t) ≡ false = grind (arith, nat_tests) in rw p
 
-lines-read : (m : Mode) (w : Workload) (lines : List (List (List ℕ))) → IsBuilt m w → AreLinesOf m w lines → parsed m opening 1 (lines_of (lines_text lines)) ≡ Ok w
+lines-read : (m : Mode) (w : Workload) (lines : List (List (List ℕ))) → IsParsed m w → AreLinesOf m w lines → parsed m opening 1 (lines_of (lines_text lines)) ≡ Ok w
 lines-read m w lines b (inl is) =
     ap (λ ls. parsed m opening 1 (lines_of (lines_text ls))) is ∙ all-read m w.header w.items w.schedule b.header b.count b.items b.schedule
 lines-read Run w lines b (inr is) = absurd cc
@@ -245,6 +245,6 @@ lines-read Stepwise w lines b (inr is) =
     ∙ (bare-read w.header w.items b.header b.count b.items ∙ ap (λ gs. Ok (whole w.header w.items gs)) (sym is.1))
 
 -- a text of a workload that fits is read as that workload
-pub text-read : (m : Mode) (w : Workload) (text : List ℕ) → IsBuilt m w → IsTextOf m w text → length text ≤ MAX_TEXT → workload_of m text ≡ Ok w
+pub text-read : (m : Mode) (w : Workload) (text : List ℕ) → IsParsed m w → IsTextOf m w text → length text ≤ MAX_TEXT → workload_of m text ≡ Ok w
 text-read m w text b is le =
     short-enough m text le ∙ (ap (λ t. parsed m opening 1 (lines_of t)) is.2 ∙ lines-read m w is.0 b is.1)

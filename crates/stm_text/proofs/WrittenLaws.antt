@@ -26,8 +26,8 @@ use Rattle.stm_script.specs.declared.workload.Workload.{Workload}
 use Rattle.stm_script.specs.declared.workload.TheConstants.{MAX_ITEMS, MAX_OPS, MAX_TURNS, MAX_KEY, MAX_REGIONS, STRUCTS_BEGIN, STRUCTS_END, STRIPES}
 use Rattle.stm_script.specs.Scripts.{has_irrev}
 use Rattle.stm_text.specs.declared.table.TheConstants.{KINDS}
-use Rattle.stm_text.specs.declared.draft.Place.{Place}
-use Rattle.stm_text.specs.declared.draft.Place.TheVariants.{Version as VersionLine, Words, Callers, Records, Ring, Reads, Writes, Clock, Algorithm, Structures, Regions, Region as RegionLine, Policy as PolicyLine, Items, Ops, Turns}
+use Rattle.stm_text.specs.declared.draft.NextLine.{NextLine}
+use Rattle.stm_text.specs.declared.draft.NextLine.TheVariants.{Version as VersionLine, Words, Callers, Records, Ring, Reads, Writes, Clock, Algorithm, Structures, Regions, Region as RegionLine, Policy as PolicyLine, Items, Ops, Turns}
 use Rattle.stm_text.specs.declared.draft.Field.{Field}
 use Rattle.stm_text.specs.declared.draft.Field.TheVariants as fields
 use Rattle.stm_text.specs.declared.draft.Step.{Step}
@@ -37,12 +37,12 @@ use Rattle.stm_text.specs.declared.parse.Mode.{Mode}
 use Rattle.stm_text.specs.declared.parse.Mode.TheVariants.{Run, Step as Stepwise}
 use Rattle.stm_text.specs.Lines.{Line, lines_of, words_of, any_bad, number_of}
 use Rattle.stm_text.specs.Drafts.{Writing, with_field, after, opening}
-use Rattle.stm_text.specs.Grammar.{◌>>=◌, named, formed, ranged, below, number, algorithm, sized, most_size, header_line, behind_algorithm, next_line, next_region, kind_name, kind_of, is_placed, placed, region_of, begun, changed, lengthened, added, emitted, has_structure, structured, planned, scheduled, caller_of, is_plain, no_region, plain_in, plain, address, operands, move_of, count_of, op_of, keyed, keyless, region_number, placed_keyless, placed_keyed, stripe_in, stripe_of, placed_count, map_put_of, map_sum_of, reserve_of, go_of, one_word, pair_op, triple_op, quadruple_op, quadruple_item, two_words, three_words, four_words, filled, by_words, step_of, ended, go_on, parsed, workload_of}
+use Rattle.stm_text.specs.Grammar.{◌>>=◌, named, formed, ranged, below, number, algorithm, sized, most_size, header_line, after_algorithm, next_line, next_region, kind_name, kind_of, is_placed, placed, region_of, begun, changed, lengthened, added, emitted, has_structure, structured, planned, scheduled, caller_of, is_plain, no_region, plain_in, plain, address, operands, move_of, count_of, op_of, keyed, keyless, region_number, placed_keyless, placed_keyed, stripe_in, stripe_of, placed_count, map_put_of, map_sum_of, reserve_of, go_of, one_word, pair_op, triple_op, quadruple_op, quadruple_item, two_words, three_words, four_words, filled, by_words, step_of, ended, go_on, parsed, workload_of}
 use Rattle.stm_text.specs.Texts.{joined, line, op_words, item_lines, items_lines, region_words, header_lines, go_words, section_lines, schedule_lines, lines_with, lines_text, AreLinesOf, IsTextOf}
 use Rattle.stm_text.specs.Giving.{Gives, gives-with, given}
 use Rattle.stm_text.specs.WordLaws.{joined-words_of, unlines, unlines-lines_of}
 use Rattle.stm_text.proofs.HeaderLaws.{then-gives, if-gives, unless-gives, if-else-gives, if-both, HeadAt, IsFront, At, Sound, Leaves}
-use Rattle.stm_text.proofs.BuiltLaws.{op_of-gives, filled-gives, step-sound, opening-sound}
+use Rattle.stm_text.proofs.ParsedLaws.{op_of-gives, filled-gives, step-sound, opening-sound}
 use Rattle.stm_text.proofs.HeaderWrittenLaws.{formed-says, named-says, below-says, ranged-says, Names, algorithm-says, sized-says, number-says, three-say, nine_lines, region_lines, head_so_far, open_lines, written_at, HeadGrows, two-same, header_line-grows}
 
 abbrev made : List (List ℕ) → Line
@@ -63,7 +63,7 @@ items_lines-append x (i ∷ is) js =
     ap (λ t. item_lines x i ++ t) (items_lines-append x is js) ∙ sym (append_assoc (item_lines x i) (items_lines x is) (items_lines x js))
 
 -- what stands after a line is what stood before it, and the line
-abbrev Grows : Place → Writing → List (List ℕ) → Step → Type 0
+abbrev Grows : NextLine → Writing → List (List ℕ) → Step → Type 0
 Grows p d ws (Head q field) = written_at q (after (Head q field) d) ≡ written_at p d ++ ws ∷ []
 Grows p d ws (Announce q n) = written_at q (after (Announce q n) d) ≡ written_at p d ++ ws ∷ []
 Grows p d ws (Begin c) = written_at Ops (after (Begin c) d) ≡ written_at p d ++ ws ∷ []
@@ -167,7 +167,7 @@ scheduled-grows : (m : Mode) (d : Writing) (w : List ℕ) → d.schedule ≡ [] 
 scheduled-grows Run d w none is = tt
 scheduled-grows Stepwise d w none is = schedule-grows d none ∙ one-line (written_at Items d) (codes "schedule") w is
 
-one-grows : (m : Mode) (d : Writing) (p : Place) (w : List ℕ) → At m p d → d.place ≡ p → Gives (Grows p d (w ∷ [])) (one_word p m d w)
+one-grows : (m : Mode) (d : Writing) (p : NextLine) (w : List ℕ) → At m p d → d.place ≡ p → Gives (Grows p d (w ∷ [])) (one_word p m d w)
 one-grows m d Items w at e =
     if-else-says (Grows Items d (w ∷ [])) (codes "done") w (Ok Done) (named (codes "schedule") w (scheduled m)) (λ is. (inl e, ap (λ x. x ∷ []) is))
     (named-says (Grows Items d (w ∷ [])) (codes "schedule") w (scheduled m) (λ is. scheduled-grows m d w at.1 is))
@@ -341,13 +341,13 @@ go-says d a v =
     (λ n k. then-gives (λ c. a ≡ decimal c) (IsGo a v) (below d.header.callers i) (λ c. ranged 1 MAX_TURNS n >>= made c) (below-says d.header.callers i a h)
     (λ c l. then-gives (λ t. v ≡ decimal t) (IsGo a v) (ranged 1 MAX_TURNS n) (made c) (ranged-says 1 MAX_TURNS n v k) (λ t u. (l, u)))))
 
-heads-grow : (d : Writing) (p : Place) (w v : List ℕ) → IsFront d → HeadAt p d.header d.count → open_lines p d ≡ []
+heads-grow : (d : Writing) (p : NextLine) (w v : List ℕ) → IsFront d → HeadAt p d.header d.count → open_lines p d ≡ []
     → ((field : Field) → open_lines (next_line d.header.version p) (after (Head (next_line d.header.version p) field) d) ≡ [])
     → Gives (Grows p d (w ∷ v ∷ [])) (header_line p d.header w v >>= λ field. Ok (Head (next_line d.header.version p) field))
 heads-grow d p w v front at here opens =
     let h : Header = d.header in
     let n : ℕ = d.count in
-    let q : Place = next_line h.version p in
+    let q : NextLine = next_line h.version p in
     then-gives (HeadGrows p q h n w v) (Grows p d (w ∷ v ∷ [])) (header_line p h w v) (λ field. Ok (Head q field)) (header_line-grows p h n w v at)
     (λ field is.
     let g : Header = with_field field h in
@@ -355,8 +355,8 @@ heads-grow d p w v front at here opens =
     ∙ (none-between g.version h.version (head_so_far q g n) (head_so_far p h n) ((w ∷ v ∷ []) ∷ []) d.items front.0 is
     ∙ ap (λ t. (head_so_far p h n ++ (items_lines h.version d.items ++ t)) ++ (w ∷ v ∷ []) ∷ []) (sym here)))
 
--- nothing is open behind the line of the algorithm
-behind-open : (x : Version) (d : Writing) → open_lines (behind_algorithm x) d ≡ []
+-- nothing is open after the line of the algorithm
+behind-open : (x : Version) (d : Writing) → open_lines (after_algorithm x) d ≡ []
 behind-open One d = refl
 behind-open Two d = refl
 
@@ -418,7 +418,7 @@ pair-grows d One w v e one =
     then-gives (λ op. op_words One op ≡ w ∷ v ∷ []) (Grows Ops d (w ∷ v ∷ [])) (keyed w v) (structured d) (keyed-says w v) (λ op is. structured-grows d (w ∷ v ∷ []) op One e one is)
 pair-grows d Two w v e two = placed_keyless-grows d w v e two
 
-two-grows : (m : Mode) (d : Writing) (p : Place) (w v : List ℕ) → At m p d → d.place ≡ p → Gives (Grows p d (w ∷ v ∷ [])) (two_words p m d w v)
+two-grows : (m : Mode) (d : Writing) (p : NextLine) (w v : List ℕ) → At m p d → d.place ≡ p → Gives (Grows p d (w ∷ v ∷ [])) (two_words p m d w v)
 two-grows m d Items w v at e =
     let P : ℕ → Type 0 = λ c. v ≡ decimal c in
     let x : Version = d.header.version in
@@ -441,7 +441,7 @@ two-grows m d Ops w v at e =
     (λ _. added-grows d (w ∷ v ∷ []) (Emit a) e (two-are (codes "emit") (decimal a) w v name is))))
     (pair-grows d d.header.version w v e refl))
 two-grows m d Regions w v at e = regions-grow m d w v at
-two-grows m d Algorithm w v at e = heads-grow d Algorithm w v at.0 at.1 refl (λ field. behind-open d.header.version (after (Head (behind_algorithm d.header.version) field) d))
+two-grows m d Algorithm w v at e = heads-grow d Algorithm w v at.0 at.1 refl (λ field. behind-open d.header.version (after (Head (after_algorithm d.header.version) field) d))
 two-grows m d VersionLine w v at e = heads-grow d VersionLine w v at.0 at.1 refl (λ field. refl)
 two-grows m d Words w v at e = heads-grow d Words w v at.0 at.1 refl (λ field. refl)
 two-grows m d Callers w v at e = heads-grow d Callers w v at.0 at.1 refl (λ field. refl)
@@ -477,7 +477,7 @@ triple-grows d One w a v e one =
     (λ op is. structured-grows d ws op One e one (is ∙ ap (λ x. x ∷ a ∷ v ∷ []) (sym name))))
 triple-grows d Two w a v e two = placed_keyed-grows d w a v e two
 
-three-grows : (d : Writing) (p : Place) (w a v : List ℕ) → d.place ≡ p → Gives (Grows p d (w ∷ a ∷ v ∷ [])) (three_words p d w a v)
+three-grows : (d : Writing) (p : NextLine) (w a v : List ℕ) → d.place ≡ p → Gives (Grows p d (w ∷ a ∷ v ∷ [])) (three_words p d w a v)
 three-grows d Ops w a v e =
     let ws : List (List ℕ) = w ∷ a ∷ v ∷ [] in
     let P : ℕ × ℕ → Type 0 = λ p. (a ≡ decimal p.0) × (v ≡ decimal p.1) in
@@ -526,7 +526,7 @@ quadruple_item-grows d One w a b v e = tt
 quadruple_item-grows d Two w a b v e =
     named-says (Grows Items d (w ∷ a ∷ b ∷ v ∷ [])) (codes "reserve") w (reserve_of d a b v) (λ name. reserve-grows d w a b v e name)
 
-four-grows : (m : Mode) (d : Writing) (p : Place) (w a b v : List ℕ) → At m p d → d.place ≡ p → Gives (Grows p d (w ∷ a ∷ b ∷ v ∷ [])) (four_words p d w a b v)
+four-grows : (m : Mode) (d : Writing) (p : NextLine) (w a b v : List ℕ) → At m p d → d.place ≡ p → Gives (Grows p d (w ∷ a ∷ b ∷ v ∷ [])) (four_words p d w a b v)
 four-grows m d Ops w a b v at e =
     let ws : List (List ℕ) = w ∷ a ∷ b ∷ v ∷ [] in
     if-else-says (Grows Ops d ws) (codes "move") w (move_of d a b v >>= added d) (quadruple_op d.header.version d w a b v)

@@ -10,8 +10,8 @@ use Rattle.stm_script.specs.declared.workload.Header.{Header}
 use Rattle.stm_script.specs.declared.workload.Item.{Item}
 use Rattle.stm_script.specs.declared.workload.Item.TheVariants.{Tx, Switch, Reserve}
 use Rattle.stm_script.specs.declared.workload.Go.{Go}
-use Rattle.stm_text.specs.declared.draft.Place.{Place}
-use Rattle.stm_text.specs.declared.draft.Place.TheVariants.{Version, Items, Ops, Turns}
+use Rattle.stm_text.specs.declared.draft.NextLine.{NextLine}
+use Rattle.stm_text.specs.declared.draft.NextLine.TheVariants.{Version, Items, Ops, Turns}
 use Rattle.stm_text.specs.declared.draft.Step.{Step}
 use Rattle.stm_text.specs.declared.draft.Field.{Field}
 use Rattle.stm_text.specs.declared.draft.Field.TheVariants as fields
@@ -19,7 +19,7 @@ use Rattle.stm_text.specs.declared.draft.Step.TheVariants.{Head, Count, Begin, C
 
 -- the line that comes next, the header, how many regions it has, the items, the open transaction's caller and operations, the schedule and its turns in all
 pub record Writing : Type 0 where
-  pub place : Place
+  pub place : NextLine
   pub header : Header
   pub count : ℕ
   pub items : List Item

@@ -28,8 +28,8 @@ use Rattle.stm_text.specs.declared.draft.Field.{Field}
 use Rattle.stm_text.specs.declared.draft.Field.TheVariants as fields
 use Rattle.stm_script.specs.Scripts.{has_irrev}
 use Rattle.stm_text.specs.declared.code.TheConstants.{LONG, BYTES, UNENDED, WORD, NUMBER, RANGE, ALG, REGION, ORDER, MANY, EXTRA}
-use Rattle.stm_text.specs.declared.draft.Place.{Place}
-use Rattle.stm_text.specs.declared.draft.Place.TheVariants.{Version as VersionLine, Words, Callers, Records, Ring, Reads, Writes, Clock, Algorithm, Structures, Regions, Region as RegionLine, Policy as PolicyLine, Items, Ops, Turns}
+use Rattle.stm_text.specs.declared.draft.NextLine.{NextLine}
+use Rattle.stm_text.specs.declared.draft.NextLine.TheVariants.{Version as VersionLine, Words, Callers, Records, Ring, Reads, Writes, Clock, Algorithm, Structures, Regions, Region as RegionLine, Policy as PolicyLine, Items, Ops, Turns}
 use Rattle.stm_text.specs.declared.draft.Step.{Step}
 use Rattle.stm_text.specs.declared.draft.Step.TheVariants.{Head, Count, Begin, Change, Lengthen, Add, End, Schedule, Turn, Done}
 use Rattle.stm_text.specs.declared.parse.Mode.{Mode}
@@ -94,7 +94,7 @@ abbrev pub most_words : Version → ℕ
 most_words One = MAX_WORDS_ONE
 most_words Two = MAX_WORDS
 
--- the policy of a name with its colon, and of the number behind it
+-- the policy of a name with its colon, and of the number after it
 abbrev pub numbered_policy : List ℕ → List ℕ → Result Policy ℕ
 numbered_policy name n =
     if bytes_eq name (codes "round:") then number 1 MOST_ROUND n >>= (λ k. Ok (policies.Round k))
@@ -107,7 +107,7 @@ policy_of v =
     else (if bytes_eq v (codes "expert") then Ok policies.Expert else numbered_policy (take 6 v) (drop 6 v))
 
 -- THE HEADER, line by line: what a name and a value give
-abbrev pub header_line : Place → Header → List ℕ → List ℕ → Result Field ℕ
+abbrev pub header_line : NextLine → Header → List ℕ → List ℕ → Result Field ℕ
 header_line VersionLine h w v = named (codes "stm") w (version_of v) >>= λ k. Ok (fields.Version k)
 header_line Words h w v = sized (codes "words") 1 (most_words h.version) w v >>= λ n. Ok (fields.Words n)
 header_line Callers h w v = sized (codes "callers") 1 MAX_CALLERS w v >>= λ n. Ok (fields.Callers n)
@@ -122,12 +122,12 @@ header_line PolicyLine h w v = named (codes "policy") w (policy_of v) >>= λ p. 
 header_line p h w v = Err WORD
 
 -- the line that follows that of the algorithm
-abbrev pub behind_algorithm : Version → Place
-behind_algorithm One = Structures
-behind_algorithm Two = Regions
+abbrev pub after_algorithm : Version → NextLine
+after_algorithm One = Structures
+after_algorithm Two = Regions
 
 -- the line that follows one of the header
-abbrev pub next_line : Version → Place → Place
+abbrev pub next_line : Version → NextLine → NextLine
 next_line v VersionLine = Words
 next_line v Words = Callers
 next_line v Callers = Records
@@ -136,11 +136,11 @@ next_line v Ring = Reads
 next_line v Reads = Writes
 next_line v Writes = Clock
 next_line v Clock = Algorithm
-next_line v Algorithm = behind_algorithm v
+next_line v Algorithm = after_algorithm v
 next_line v p = Items
 
 -- the line that comes where n regions of count are there
-abbrev pub next_region : ℕ → ℕ → Place
+abbrev pub next_region : ℕ → ℕ → NextLine
 next_region count n = if leb count n then PolicyLine else RegionLine
 
 -- the word of a structure
@@ -338,7 +338,7 @@ go_of d a v =
     below d.header.callers i >>= λ c. ranged 1 MAX_TURNS n >>= λ t. Ok (record { caller = c; turns = t })
 
 -- LINES OF ONE WORD
-abbrev pub one_word : Place → Mode → Writing → List ℕ → Result Step ℕ
+abbrev pub one_word : NextLine → Mode → Writing → List ℕ → Result Step ℕ
 one_word Items m d w = if bytes_eq w (codes "done") then Ok Done else named (codes "schedule") w (scheduled m)
 one_word Ops m d w =
     if bytes_eq w (codes "irrev") then added d Irrev
@@ -373,7 +373,7 @@ quadruple_item One d w a b v = Err WORD
 quadruple_item Two d w a b v = named (codes "reserve") w (reserve_of d a b v)
 
 -- LINES OF TWO WORDS
-abbrev pub two_words : Place → Mode → Writing → List ℕ → List ℕ → Result Step ℕ
+abbrev pub two_words : NextLine → Mode → Writing → List ℕ → List ℕ → Result Step ℕ
 two_words Items m d w v = named (codes "tx") w (caller_of d v >>= begun d)
 two_words Ops m d w v =
     if bytes_eq w (codes "read") then address d v >>= (λ a. added d (Read a))
@@ -383,7 +383,7 @@ two_words Regions m d w v = sized (codes "regions") 0 MAX_REGIONS w v >>= λ n. 
 two_words p m d w v = header_line p d.header w v >>= λ field. Ok (Head (next_line d.header.version p) field)
 
 -- LINES OF THREE WORDS
-abbrev pub three_words : Place → Writing → List ℕ → List ℕ → List ℕ → Result Step ℕ
+abbrev pub three_words : NextLine → Writing → List ℕ → List ℕ → List ℕ → Result Step ℕ
 three_words Ops d w a v =
     if bytes_eq w (codes "write") then operands d a v >>= (λ p. added d (Write p.0 p.1))
     else (if bytes_eq w (codes "add") then operands d a v >>= (λ p. added d (Sum p.0 p.1))
@@ -393,7 +393,7 @@ three_words Turns d w a v = named (codes "go") w (go_of d a v >>= planned d)
 three_words p d w a v = Err WORD
 
 -- LINES OF FOUR WORDS
-abbrev pub four_words : Place → Writing → List ℕ → List ℕ → List ℕ → List ℕ → Result Step ℕ
+abbrev pub four_words : NextLine → Writing → List ℕ → List ℕ → List ℕ → List ℕ → Result Step ℕ
 four_words Ops d w a b v = if bytes_eq w (codes "move") then move_of d a b v >>= added d else quadruple_op d.header.version d w a b v
 four_words Items d w a b v = quadruple_item d.header.version d w a b v
 four_words RegionLine d w a b v = named (codes "region") w (region_of d a b v)

@@ -1,7 +1,7 @@
 pub mod Lines
 pub mod Drafts
 pub mod Grammar
-pub mod Built
+pub mod Parsed
 pub mod Reports
 pub mod Texts
 pub mod Pieces

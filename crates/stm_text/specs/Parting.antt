@@ -1,8 +1,8 @@
--- A text that goes on behind its first line `done`.
+-- A text that goes on after its first line `done`.
 use Rattle.std.specs.Prelude.{ℕ, ◌≡◌, ◌≢◌, ◌⊎◌, true, List, [], ◌∷◌, ◌++◌, ◌==◌, All, length, if◌then◌else◌, codes, bytes_eq}
 use Rattle.stm_text.specs.Lines.{Line, lines_of}
 
--- the bytes up to and with the first line `done`, and those behind it; `line` is what the line has had before them
+-- the bytes up to and with the first line `done`, and those after it; `line` is what the line has had before them
 abbrev pub parted_by : List ℕ → List ℕ → List ℕ × List ℕ
 parted_by line [] = ([], [])
 parted_by line (b ∷ bs) =
@@ -14,9 +14,9 @@ parted_by line (b ∷ bs) =
 abbrev pub to_done : List ℕ → List ℕ
 to_done text = (parted_by [] text).0
 
--- the text behind that line
-abbrev pub behind_done : List ℕ → List ℕ
-behind_done text = (parted_by [] text).1
+-- the text after that line
+abbrev pub after_done : List ℕ → List ℕ
+after_done text = (parted_by [] text).1
 
 -- how many lines there are up to and with that line
 abbrev pub lines_to_done : List ℕ → ℕ
@@ -34,4 +34,4 @@ pub record IsParted (text head rest : List ℕ) : Type 0 where
 
 -- that is how a text is parted
 abbrev pub TextIsParted : Type 0
-TextIsParted = (text : List ℕ) → IsParted text (to_done text) (behind_done text)
+TextIsParted = (text : List ℕ) → IsParted text (to_done text) (after_done text)

@@ -30,11 +30,11 @@ abbrev pub judged : (List (List ℕ) → Result Step ℕ) → List Line → Resu
 judged by [] = Err UNENDED
 judged by (l ∷ ls) = if any_bad l.bytes then Err BYTES else (if l.ended then by (words_of l.bytes) else Err UNENDED)
 
--- the lines behind the first
+-- the lines after the first
 abbrev pub behind : List Line → List Line
 behind [] = []
 behind (l ∷ ls) = ls
 
--- the rest is what stands behind the first line of a text
+-- the rest is what stands after the first line of a text
 abbrev pub Leaves : List ℕ → List ℕ → Type 0
 Leaves text rest = (behind (lines_of text) ≡ lines_of rest) × (length rest < length text)

@@ -18,7 +18,7 @@ use Rattle.stm_profile.specs.PolicyWords.{policy_word}
 use Rattle.tx_regions.specs.declared.region.Region.{Region}
 use Rattle.tx_regions.specs.Regions.{start_of, structure_of}
 use Rattle.stm_text.specs.Grammar.{kind_name, no_region, workload_of}
-use Rattle.stm_text.specs.Built.{IsBuilt, cells_of}
+use Rattle.stm_text.specs.Parsed.{IsParsed, cells_of}
 
 -- words, parted by one space
 abbrev pub joined : List (List ℕ) → List ℕ
@@ -134,12 +134,12 @@ IsTextOf m w text = (lines : List (List (List ℕ))) × AreLinesOf m w lines × 
 
 -- a text of a workload that fits is read as that workload
 abbrev pub TextIsRead : Type 0
-TextIsRead = (m : Mode) (w : Workload) (text : List ℕ) → IsBuilt m w → IsTextOf m w text → length text ≤ MAX_TEXT → workload_of m text ≡ Ok w
+TextIsRead = (m : Mode) (w : Workload) (text : List ℕ) → IsParsed m w → IsTextOf m w text → length text ≤ MAX_TEXT → workload_of m text ≡ Ok w
 
 -- a text that is read as a workload is a text of that workload
 abbrev pub TextIsWritten : Type 0
 TextIsWritten = (m : Mode) (text : List ℕ) (w : Workload) → workload_of m text ≡ Ok w → IsTextOf m w text
 
 -- what is read from a text is a workload of the grammar
-abbrev pub TextIsBuilt : Type 0
-TextIsBuilt = (m : Mode) (text : List ℕ) (w : Workload) → workload_of m text ≡ Ok w → IsBuilt m w
+abbrev pub TextIsParsed : Type 0
+TextIsParsed = (m : Mode) (text : List ℕ) (w : Workload) → workload_of m text ≡ Ok w → IsParsed m w

@@ -19,7 +19,7 @@ use tx_regions::region::{Region, Regions};
 
 /// The line that comes next.
 #[derive(Clone, Copy, Drop)]
-pub enum Place {
+pub enum NextLine {
     Version,
     Words,
     Callers,
@@ -68,9 +68,9 @@ pub enum Field {
 #[derive(Clone, Copy, Drop)]
 pub enum Step {
     /// A line of the header: the line that comes next, and what it gives.
-    Head(Place, Field),
+    Head(NextLine, Field),
     /// `regions`: the line that comes next, and how many regions there are.
-    Count(Place, usize),
+    Count(NextLine, usize),
     /// `tx` of this caller.
     Begin(usize),
     /// `switch` of this caller to this algorithm.
@@ -88,7 +88,7 @@ pub enum Step {
 /// A workload as far as it is read, with the transaction that is open.
 #[derive(Drop)]
 pub struct Draft {
-    place: Place,
+    place: NextLine,
     header: Header,
     // how many regions the header has
     count: usize,
@@ -115,13 +115,13 @@ impl Model for Draft {
 }
 
 /// The line of the header that comes where there are `regions` of `count`.
-pub fn next_region(count: usize, regions: usize) -> Place
+pub fn next_region(count: usize, regions: usize) -> NextLine
     ensures { result ≡ next_region count regions }
 {
     if count <= regions {
-        Place::Policy
+        NextLine::Policy
     } else {
-        Place::Region
+        NextLine::Region
     }
 }
 
@@ -176,7 +176,7 @@ impl Draft {
         ensures { result ≡ opening }
     {
         Draft {
-            place: Place::Version,
+            place: NextLine::Version,
             header: Header {
                 version: Version::One,
                 words: 1,
@@ -200,7 +200,7 @@ impl Draft {
         }
     }
 
-    pub fn place(&self) -> Place
+    pub fn place(&self) -> NextLine
         ensures { result ≡ self.now.place }
     {
         self.place
@@ -213,7 +213,7 @@ impl Draft {
     }
 
     /// The line of the header that comes once there are so many regions.
-    pub fn next_region(&self, regions: usize) -> Place
+    pub fn next_region(&self, regions: usize) -> NextLine
         ensures { result ≡ next_region self.now.count regions }
     {
         next_region(self.count, regions)
@@ -312,7 +312,7 @@ impl Draft {
                 Ok(())
             }
             Step::Begin(caller) => {
-                self.place = Place::Ops;
+                self.place = NextLine::Ops;
                 self.caller = caller;
                 Ok(())
             }
@@ -335,7 +335,7 @@ impl Draft {
             }
             Step::End => self.close(alloc),
             Step::Schedule => {
-                self.place = Place::Turns;
+                self.place = NextLine::Turns;
                 Ok(())
             }
             Step::Turn(go, all) => {
@@ -358,7 +358,7 @@ impl Draft {
             caller: self.caller,
             script,
         })?;
-        self.place = Place::Items;
+        self.place = NextLine::Items;
         Ok(())
     }
 

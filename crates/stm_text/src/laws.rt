@@ -1,9 +1,9 @@
 //! Laws of the definitions, each the contract of a function.
 ghost use Rattle.stm_text.specs.Reports.{OneReportPerText};
-ghost use Rattle.stm_text.specs.Built.{BuiltWorkloadsFit};
+ghost use Rattle.stm_text.specs.Parsed.{ParsedWorkloadsFit};
 ghost use Rattle.stm_text.specs.Limits.{CodesAre, LimitsAre};
 ghost use Rattle.stm_text.specs.Parting.{TextIsParted};
-ghost use Rattle.stm_text.specs.Texts.{TextIsRead, TextIsWritten, TextIsBuilt};
+ghost use Rattle.stm_text.specs.Texts.{TextIsRead, TextIsWritten, TextIsParsed};
 
 use tx_regions::laws::version_one_is_laid_out;
 
@@ -33,8 +33,8 @@ pub fn text_is_written()
 {}
 
 /// A text that is read as a workload gives one that fits.
-pub fn text_is_built()
-    ensures { TextIsBuilt }
+pub fn text_is_parsed()
+    ensures { TextIsParsed }
 {}
 
 /// A text is parted after the first of its lines that is `done`.
@@ -43,8 +43,8 @@ pub fn text_is_parted()
 {}
 
 /// The memory that a workload of the grammar asks for takes each of its scripts.
-pub fn built_workloads_fit()
-    ensures { BuiltWorkloadsFit }
+pub fn parsed_workloads_fit()
+    ensures { ParsedWorkloadsFit }
 {
     version_one_is_laid_out();
 }

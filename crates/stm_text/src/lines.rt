@@ -145,7 +145,7 @@ pub fn number(word: &[u8]) -> Option<u64>
     }
 }
 
-/// Behind each number below this one there is room for any digit.
+/// After each number below this one there is room for any digit.
 const ROOMY: u64 = u64::MAX / 10;
 
 #[inline(always)]

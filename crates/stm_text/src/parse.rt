@@ -3,7 +3,7 @@ ghost use Rattle.std.specs.Prelude.{◌≡◌, ◌≤◌, length, IfOk, IfErr, O
 ghost use Rattle.stm_text.specs.Grammar.{workload_of, parsed, ended, IsFirstFault, Answers};
 ghost use Rattle.stm_text.specs.Drafts.{opening};
 ghost use Rattle.stm_text.specs.Lines.{lines_of};
-ghost use Rattle.stm_text.specs.Built.{IsBuilt};
+ghost use Rattle.stm_text.specs.Parsed.{IsParsed};
 
 use crate::code;
 use crate::draft::{Draft, Step};
@@ -49,7 +49,7 @@ pub const MAX_TEXT: usize = 16_777_216;
 /// The workload of a text, or its first fault. The text is gone through line by line, once.
 pub fn parse(alloc: Global, bytes: &[u8], mode: Mode) -> Result<Workload, ParseError>
     ensures workload { IfOk result (λ w. workload_of mode bytes.now ≡ Ok w) }
-    ensures built { IfOk result (IsBuilt mode) }
+    ensures is_parsed { IfOk result (IsParsed mode) }
     ensures fault { IfErr result (λ e. IsFirstFault e (workload_of mode bytes.now)) }
 {
     if bytes.len() > MAX_TEXT {

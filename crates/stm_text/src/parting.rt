@@ -1,7 +1,7 @@
 //! A text that goes on after its first line `done`.
 ghost use Rattle.std.specs.Prelude.{◌≡◌, ◌≤◌, length};
 ghost use Rattle.stm_text.specs.Lines.{lines_of};
-ghost use Rattle.stm_text.specs.Parting.{to_done, behind_done};
+ghost use Rattle.stm_text.specs.Parting.{to_done, after_done};
 
 use crate::lines;
 
@@ -9,7 +9,7 @@ use crate::lines;
 /// is no such line.
 pub fn part_at_done(text: &[u8]) -> (&[u8], &[u8])
     ensures head { result.0.now ≡ to_done text.now }
-    ensures rest { result.1.now ≡ behind_done text.now }
+    ensures rest { result.1.now ≡ after_done text.now }
 {
     let mut rest = text;
     let mut at = 0usize;

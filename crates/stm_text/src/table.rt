@@ -5,7 +5,7 @@ ghost use Rattle.stm_text.specs.Lines.{lines_of, number_of};
 ghost use Rattle.stm_text.specs.Reading.{judged, Leaves};
 ghost use Rattle.stm_text.specs.declared.code.TheConstants.{WORD};
 
-use crate::draft::{Draft, Field, Place, Step, next_region};
+use crate::draft::{Draft, Field, NextLine, Step, next_region};
 use crate::lines::End;
 use crate::parse::Mode;
 use crate::{code, lines};
@@ -285,54 +285,59 @@ fn region_of(draft: &Draft, k: &[u8], a: &[u8], v: &[u8]) -> Result<Step, u32>
 }
 
 /// A line of the header: what it gives.
-fn header_line(place: Place, h: &Header, w: &[u8], v: &[u8]) -> Result<Field, u32>
+fn header_line(place: NextLine, h: &Header, w: &[u8], v: &[u8]) -> Result<Field, u32>
     ensures { result ≡ header_line place h.now w.now v.now }
 {
     let field = match place {
-        Place::Version => Field::Version(first_line(w, v)?),
-        Place::Words => Field::Words(sized(b"words", 1, most_words(h.version), w, v)? as usize),
-        Place::Callers => Field::Callers(sized(b"callers", 1, MAX_CALLERS as u64, w, v)? as usize),
-        Place::Records => Field::Records(sized(b"records", 1, MAX_RECORDS as u64, w, v)? as usize),
-        Place::Ring => {
+        NextLine::Version => Field::Version(first_line(w, v)?),
+        NextLine::Words => Field::Words(sized(b"words", 1, most_words(h.version), w, v)? as usize),
+        NextLine::Callers => Field::Callers(
+            sized(b"callers", 1, MAX_CALLERS as u64, w, v)? as usize,
+        ),
+        NextLine::Records => Field::Records(
+            sized(b"records", 1, MAX_RECORDS as u64, w, v)? as usize,
+        ),
+        NextLine::Ring => {
             Field::Ring(sized(b"ring", MIN_RING as u64, MAX_RING as u64, w, v)? as usize)
         }
-        Place::Reads => Field::Reads(sized(b"reads", 1, MAX_LOG as u64, w, v)? as usize),
-        Place::Writes => Field::Writes(sized(b"writes", 1, MAX_LOG as u64, w, v)? as usize),
-        Place::Clock => Field::Clock(sized(b"clock", 0, CLOCK_LIMIT, w, v)?),
-        Place::Algorithm => Field::Algorithm(first_algorithm(w, v)?),
-        Place::Structures => Field::Structures(structures(h.words, w, v)?),
-        Place::Policy => Field::Policy(policy(w, v)?),
-        Place::Regions | Place::Region | Place::Items | Place::Ops | Place::Turns => {
-            return Err(code::WORD);
-        }
+        NextLine::Reads => Field::Reads(sized(b"reads", 1, MAX_LOG as u64, w, v)? as usize),
+        NextLine::Writes => Field::Writes(sized(b"writes", 1, MAX_LOG as u64, w, v)? as usize),
+        NextLine::Clock => Field::Clock(sized(b"clock", 0, CLOCK_LIMIT, w, v)?),
+        NextLine::Algorithm => Field::Algorithm(first_algorithm(w, v)?),
+        NextLine::Structures => Field::Structures(structures(h.words, w, v)?),
+        NextLine::Policy => Field::Policy(policy(w, v)?),
+        NextLine::Regions | NextLine::Region | NextLine::Items | NextLine::Ops | NextLine::Turns =>
+            {
+                return Err(code::WORD);
+            }
     };
     Ok(field)
 }
 
 /// The line that follows one of the header.
-fn next_line(version: Version, place: Place) -> Place
+fn next_line(version: Version, place: NextLine) -> NextLine
     ensures { result ≡ next_line version place }
 {
     match place {
-        Place::Version => Place::Words,
-        Place::Words => Place::Callers,
-        Place::Callers => Place::Records,
-        Place::Records => Place::Ring,
-        Place::Ring => Place::Reads,
-        Place::Reads => Place::Writes,
-        Place::Writes => Place::Clock,
-        Place::Clock => Place::Algorithm,
-        Place::Algorithm => match version {
-            Version::One => Place::Structures,
-            Version::Two => Place::Regions,
+        NextLine::Version => NextLine::Words,
+        NextLine::Words => NextLine::Callers,
+        NextLine::Callers => NextLine::Records,
+        NextLine::Records => NextLine::Ring,
+        NextLine::Ring => NextLine::Reads,
+        NextLine::Reads => NextLine::Writes,
+        NextLine::Writes => NextLine::Clock,
+        NextLine::Clock => NextLine::Algorithm,
+        NextLine::Algorithm => match version {
+            Version::One => NextLine::Structures,
+            Version::Two => NextLine::Regions,
         },
-        Place::Structures
-        | Place::Regions
-        | Place::Region
-        | Place::Policy
-        | Place::Items
-        | Place::Ops
-        | Place::Turns => Place::Items,
+        NextLine::Structures
+        | NextLine::Regions
+        | NextLine::Region
+        | NextLine::Policy
+        | NextLine::Items
+        | NextLine::Ops
+        | NextLine::Turns => NextLine::Items,
     }
 }
 
@@ -561,7 +566,7 @@ fn one_word(mode: Mode, draft: &Draft, w: &[u8]) -> Result<Step, u32>
     ensures { result ≡ one_word draft.now.place mode draft.now w.now }
 {
     match draft.place() {
-        Place::Items => {
+        NextLine::Items => {
             if lines::is(w, b"done") {
                 return Ok(Step::Done);
             }
@@ -570,14 +575,14 @@ fn one_word(mode: Mode, draft: &Draft, w: &[u8]) -> Result<Step, u32>
             }
             Err(code::WORD)
         }
-        Place::Turns => {
+        NextLine::Turns => {
             if lines::is(w, b"done") {
                 Ok(Step::Done)
             } else {
                 Err(code::WORD)
             }
         }
-        Place::Ops => {
+        NextLine::Ops => {
             if lines::is(w, b"irrev") {
                 return draft.added(Op::Irrev);
             }
@@ -600,13 +605,13 @@ fn two_words(mode: Mode, draft: &Draft, w: &[u8], v: &[u8]) -> Result<Step, u32>
         return Err(code::WORD);
     }
     match draft.place() {
-        Place::Items => {
+        NextLine::Items => {
             if !lines::is(w, b"tx") {
                 return Err(code::WORD);
             }
             draft.begun(caller_of(draft, v)?)
         }
-        Place::Ops => {
+        NextLine::Ops => {
             if lines::is(w, b"read") {
                 return draft.added(Op::Read(address(draft, v)?));
             }
@@ -618,8 +623,8 @@ fn two_words(mode: Mode, draft: &Draft, w: &[u8], v: &[u8]) -> Result<Step, u32>
                 Version::Two => placed_keyless(draft, w, v),
             }
         }
-        Place::Turns => Err(code::WORD),
-        Place::Regions => {
+        NextLine::Turns => Err(code::WORD),
+        NextLine::Regions => {
             let count = sized(b"regions", 0, MAX_REGIONS as u64, w, v)? as usize;
             Ok(Step::Count(next_region(count, 0), count))
         }
@@ -639,7 +644,7 @@ fn three_words(draft: &Draft, w: &[u8], a: &[u8], v: &[u8]) -> Result<Step, u32>
         return Err(code::WORD);
     }
     match draft.place() {
-        Place::Ops => {
+        NextLine::Ops => {
             if lines::is(w, b"write") {
                 let (at, value) = operands(draft, a, v)?;
                 return draft.added(Op::Write(at, value));
@@ -659,14 +664,14 @@ fn three_words(draft: &Draft, w: &[u8], a: &[u8], v: &[u8]) -> Result<Step, u32>
                 Version::Two => placed_keyed(draft, w, a, v),
             }
         }
-        Place::Items => {
+        NextLine::Items => {
             if !lines::is(w, b"switch") {
                 return Err(code::WORD);
             }
             let caller = caller_of(draft, a)?;
             draft.changed(caller, algorithm(v)?)
         }
-        Place::Turns => {
+        NextLine::Turns => {
             if !lines::is(w, b"go") {
                 return Err(code::WORD);
             }
@@ -684,14 +689,14 @@ fn four_words(draft: &Draft, w: &[u8], a: &[u8], b: &[u8], v: &[u8]) -> Result<S
         return Err(code::WORD);
     }
     match draft.place() {
-        Place::Region => {
+        NextLine::Region => {
             if lines::is(w, b"region") {
                 region_of(draft, a, b, v)
             } else {
                 Err(code::WORD)
             }
         }
-        Place::Items => match draft.header().version {
+        NextLine::Items => match draft.header().version {
             Version::One => Err(code::WORD),
             Version::Two => {
                 if lines::is(w, b"reserve") {
@@ -701,7 +706,7 @@ fn four_words(draft: &Draft, w: &[u8], a: &[u8], b: &[u8], v: &[u8]) -> Result<S
                 }
             }
         },
-        Place::Ops => {
+        NextLine::Ops => {
             if lines::is(w, b"move") {
                 return draft.added(move_of(draft, a, b, v)?);
             }
@@ -739,7 +744,7 @@ pub fn step_of<'t>(mode: Mode, draft: &Draft, text: &'t [u8]) -> (Result<Step, u
     let (i, end) = lines::first_word(text);
     let w = &text[..i];
     match end {
-        End::Space => behind_one(mode, draft, w, lines::past(text, i)),
+        End::Space => after_one(mode, draft, w, lines::past(text, i)),
         End::Line => (one_word(mode, draft, w), lines::past(text, i)),
         End::Bad => (Err(code::BYTES), text),
         End::Text => (Err(code::UNENDED), text),
@@ -748,7 +753,7 @@ pub fn step_of<'t>(mode: Mode, draft: &Draft, text: &'t [u8]) -> (Result<Step, u
 
 /// The same from the second word on, where `w` is the first.
 #[inline(always)]
-fn behind_one<'t>(
+fn after_one<'t>(
     mode: Mode,
     draft: &Draft,
     w: &[u8],
@@ -760,7 +765,7 @@ fn behind_one<'t>(
     let (i, end) = lines::first_word(text);
     let v = &text[..i];
     match end {
-        End::Space => behind_two(mode, draft, w, v, lines::past(text, i)),
+        End::Space => after_two(mode, draft, w, v, lines::past(text, i)),
         End::Line => (two_words(mode, draft, w, v), lines::past(text, i)),
         End::Bad => (Err(code::BYTES), text),
         End::Text => (Err(code::UNENDED), text),
@@ -769,7 +774,7 @@ fn behind_one<'t>(
 
 /// The same from the third word on.
 #[inline(always)]
-fn behind_two<'t>(
+fn after_two<'t>(
     _mode: Mode,
     draft: &Draft,
     w: &[u8],
@@ -782,7 +787,7 @@ fn behind_two<'t>(
     let (i, end) = lines::first_word(text);
     let v = &text[..i];
     match end {
-        End::Space => behind_three(_mode, draft, w, a, v, lines::past(text, i)),
+        End::Space => after_three(_mode, draft, w, a, v, lines::past(text, i)),
         End::Line => (three_words(draft, w, a, v), lines::past(text, i)),
         End::Bad => (Err(code::BYTES), text),
         End::Text => (Err(code::UNENDED), text),
@@ -791,7 +796,7 @@ fn behind_two<'t>(
 
 /// The same from the fourth word on.
 #[inline(always)]
-fn behind_three<'t>(
+fn after_three<'t>(
     _mode: Mode,
     draft: &Draft,
     w: &[u8],

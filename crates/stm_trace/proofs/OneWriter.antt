@@ -15,17 +15,17 @@ use Rattle.stm_trace.specs.declared.said.Phase.TheVariants.{Between}
 use Rattle.stm_trace.specs.declared.said.Said.TheVariants.{TryBegin, Reply, TryCommit}
 use Rattle.stm_trace.specs.Adapting.{no_profile}
 use Rattle.stm_trace.specs.Fits.{first_place}
-use Rattle.stm_trace.specs.Places.{Place}
+use Rattle.stm_trace.specs.Places.{CallerProgress}
 use Rattle.stm_trace.specs.Told.{OneWriterFits, one_writer, one_writer_rows}
 use Rattle.stm_trace.specs.Turns.{IsOver}
 use Rattle.std.proofs.lemmas.List.Elements.{All-nil, All-cons}
 
-abbrev done : Header → Alg → ℕ → ℕ → ℕ → Place
+abbrev done : Header → Alg → ℕ → ℕ → ℕ → CallerProgress
 done h alg a v time = record { caller = 0; left = []; failed = 0; must = false; phase = Between; alg = alg; rest = []; replies = []; emits = []; wrote = true; granted = false; rows = one_writer_rows v time; policy = Fixed; profile = with_outcome no_profile outcomes.Committed; chosen = None; reads_limit = h.reads; writes_limit = h.writes }
 
 pub writer-fits : OneWriterFits
 writer-fits h alg a v time memory =
-    let start : Place = first_place (one_writer h a v) 0 in
+    let start : CallerProgress = first_place (one_writer h a v) 0 in
     record {
       calm = (refl, (refl, (refl, tt)));
       now = done h alg a v time ∷ [];
@@ -35,7 +35,7 @@ writer-fits h alg a v time memory =
         parts = refl;
         middle = start ∷ [];
         wound = record { first = []; second = []; parts = refl; middle = start ∷ []; played = refl; order = refl; path = refl; rises = tt };
-        closed = All-cons (λ (at : Place). at.phase ≡ Between) start [] refl (All-nil (λ (at : Place). at.phase ≡ Between));
+        closed = All-cons (λ (at : CallerProgress). at.phase ≡ Between) start [] refl (All-nil (λ (at : CallerProgress). at.phase ≡ Between));
         path = (omega arith, (refl, tt, refl), tt, (omega arith, ((refl, refl, refl), refl), tt, (omega arith, (refl, refl, refl), refl, refl)));
         rises = (omega arith, (omega arith, (omega arith, tt)));
       };

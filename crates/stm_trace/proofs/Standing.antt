@@ -22,7 +22,7 @@ use Rattle.stm_trace.specs.declared.said.Phase.{Phase}
 use Rattle.stm_trace.specs.declared.said.Phase.TheVariants.{Between, Inside, Closing, Quiet}
 use Rattle.stm_trace.specs.declared.said.Said.{Said}
 use Rattle.stm_trace.specs.declared.said.Said.TheVariants.{TryBegin, Reply, Stopped, TryCancel, TryIrrevocable, TryCommit, TryClose, Looked, Installed, Reserved, Idle, Dropped, Reopened}
-use Rattle.stm_trace.specs.Places.{Place, after, ended, granted_at, is_forced, lengthened, row_at, rest_of, script_at, switched, items_of}
+use Rattle.stm_trace.specs.Places.{CallerProgress, after, ended, granted_at, is_forced, lengthened, row_at, rest_of, script_at, switched, items_of}
 use Rattle.stm_trace.specs.Told.{AreOf, ItemsHaveScripts}
 use Rattle.stm_trace.specs.Turns.{MaySay, MayWind, MayFinish, BeforeTx, BeforeSwitch, Lengthens, MustSwitch, IsOver}
 
@@ -68,7 +68,7 @@ Faces Closing chosen left = MustSwitch chosen left
 Faces Quiet chosen left = MustSwitch chosen left
 
 -- n is the caller, and items are all of the workload
-pub record Stands (items : List Item) (n : ℕ) (at : Place) : Type 0 where
+pub record Stands (items : List Item) (n : ℕ) (at : CallerProgress) : Type 0 where
   pub caller : at.caller ≡ n
   pub todo : scripts_of n at.left ≡ drop (length at.rows) (scripts_of n items)
   pub within : length at.rows ≤ length (scripts_of n items)
@@ -120,9 +120,9 @@ own-rest n (Tx c script ∷ items) h = h.1
 own-rest n (Switch c alg ∷ items) h = h.1
 own-rest n (Reserve c reads writes ∷ items) h = h.1
 
-module _ (items : List Item) (n : ℕ) (at : Place) (s : Stands items n at) where
+module _ (items : List Item) (n : ℕ) (at : CallerProgress) (s : Stands items n at) where
   -- nothing is done, and the phase is one that fits what is left
-  moved : (to : Place) → to.caller ≡ at.caller → to.left ≡ at.left → to.rows ≡ at.rows → Faces to.phase to.chosen at.left → Stands items n to
+  moved : (to : CallerProgress) → to.caller ≡ at.caller → to.left ≡ at.left → to.rows ≡ at.rows → Faces to.phase to.chosen at.left → Stands items n to
   moved to caller left rows faces = record {
     caller = caller ∙ s.caller;
     todo = ap (scripts_of n) left ∙ (s.todo ∙ ap (λ (r : List Row). drop (length r) (scripts_of n items)) (sym rows));
@@ -178,15 +178,15 @@ module _ (items : List Item) (n : ℕ) (at : Place) (s : Stands items n at) wher
   facing p e = subst (λ q. Faces q at.chosen at.left) e s.faces
 
 -- a cancelled transaction's row has one reply more
-rowed-cancel : (items : List Item) (n : ℕ) (at : Place) (time : ℕ) → Stands items n at → BeforeTx at.left → Stands items n (ended C time (record at { replies = at.replies ++ 1 ∷ [] }))
+rowed-cancel : (items : List Item) (n : ℕ) (at : CallerProgress) (time : ℕ) → Stands items n at → BeforeTx at.left → Stands items n (ended C time (record at { replies = at.replies ++ 1 ∷ [] }))
 rowed-cancel items n at time s b =
     rowed items n (record at { replies = at.replies ++ 1 ∷ [] }) (moved items n at s (record at { replies = at.replies ++ 1 ∷ [] }) refl refl refl s.faces) C time b
 
-stands-granted : (items : List Item) (n : ℕ) (at : Place) (forced : Bool) → Stands items n at → Stands items n (granted_at forced at)
+stands-granted : (items : List Item) (n : ℕ) (at : CallerProgress) (forced : Bool) → Stands items n at → Stands items n (granted_at forced at)
 stands-granted items n at true s = moved items n at s (granted_at true at) refl refl refl s.faces
 stands-granted items n at false s = moved items n at s (granted_at false at) refl refl refl s.faces
 
-pub stands-said : (items : List Item) (n : ℕ) (at : Place) (said : Said) → MaySay at said → Stands items n at → Stands items n (after at said)
+pub stands-said : (items : List Item) (n : ℕ) (at : CallerProgress) (said : Said) → MaySay at said → Stands items n at → Stands items n (after at said)
 stands-said items n at (TryBegin (Begun alg)) m s = moved items n at s (after at (TryBegin (Begun alg))) refl refl refl m.1
 stands-said items n at (TryBegin (Closed gate)) m s = s
 stands-said items n at (TryBegin (Held word)) m s = s
@@ -217,7 +217,7 @@ stands-said items n at Idle m s = s
 stands-said items n at Dropped m s = absurd m
 stands-said items n at Reopened m s = absurd m
 
-pub stands-wound : (items : List Item) (n : ℕ) (at : Place) (said : Said) → MayWind at said → Stands items n at → Stands items n (after at said)
+pub stands-wound : (items : List Item) (n : ℕ) (at : CallerProgress) (said : Said) → MayWind at said → Stands items n at → Stands items n (after at said)
 stands-wound items n at (TryBegin b) m s = stands-said items n at (TryBegin b) m.2 s
 stands-wound items n at (Reply op reply) m s = stands-said items n at (Reply op reply) m.2 s
 stands-wound items n at (Stopped op stop) m s = stands-said items n at (Stopped op stop) m.2 s
@@ -232,7 +232,7 @@ stands-wound items n at Idle m s = stands-said items n at Idle m.2 s
 stands-wound items n at Dropped m s = moved items n at s (after at Dropped) refl refl refl tt
 stands-wound items n at Reopened m s = moved items n at s (after at Reopened) refl refl refl tt
 
-pub stands-finished : (items : List Item) (n : ℕ) (at : Place) (said : Said) → MayFinish at said → Stands items n at → Stands items n (after at said)
+pub stands-finished : (items : List Item) (n : ℕ) (at : CallerProgress) (said : Said) → MayFinish at said → Stands items n at → Stands items n (after at said)
 stands-finished items n at (TryBegin b) m s = stands-said items n at (TryBegin b) m s
 stands-finished items n at (Reply op reply) m s = stands-said items n at (Reply op reply) m s
 stands-finished items n at (Stopped op stop) m s = stands-said items n at (Stopped op stop) m s
@@ -248,7 +248,7 @@ stands-finished items n at Dropped m s = absurd m
 stands-finished items n at Reopened m s = absurd m
 
 -- who has nothing left has a row for each of its transactions
-pub stands-over : (items : List Item) (n : ℕ) (at : Place) → Stands items n at → IsOver at → map (λ (row : Row). row.seq) at.rows ≡ counted 0 (length (scripts_of n items))
+pub stands-over : (items : List Item) (n : ℕ) (at : CallerProgress) → Stands items n at → IsOver at → map (λ (row : Row). row.seq) at.rows ≡ counted 0 (length (scripts_of n items))
 stands-over items n at s over =
     let most = drop-none (length at.rows) (scripts_of n items) (sym (ap (scripts_of n) over.1) ∙ s.todo) in
     let least = s.within in

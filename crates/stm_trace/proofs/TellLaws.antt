@@ -12,19 +12,19 @@ use Rattle.stm_trace.specs.declared.line.Line.{Line}
 use Rattle.stm_trace.specs.declared.line.Line.TheVariants.{Of, Finish}
 use Rattle.stm_trace.specs.declared.said.Said.{Said}
 use Rattle.stm_trace.specs.Fits.{Path, place_of, no_place, first_place, first_places, all_told}
-use Rattle.stm_trace.specs.Places.{Place, after}
+use Rattle.stm_trace.specs.Places.{CallerProgress, after}
 use Rattle.stm_trace.specs.PlayLaws.{path-length}
 use Rattle.stm_trace.specs.Told.{AreOf, joined, TellsEachOnce}
 use Rattle.stm_trace.specs.Turns.{MaySay, MayWind, MayFinish, IsOver}
 use Rattle.stm_trace.proofs.Standing.{Stands, scripts-items, own-items, stands-said, stands-wound, stands-finished, stands-over}
 
 -- each caller of these places stands so
-abbrev AllStand : (ℕ → Place → Type 0) → List Place → Type 0
+abbrev AllStand : (ℕ → CallerProgress → Type 0) → List CallerProgress → Type 0
 AllStand holds places = (k : ℕ) → k < length places → holds k (place_of places k)
 
-module _ (h : Header) (may : Place → Said → Type 0) (holds : ℕ → Place → Type 0)
-    (step : (n : ℕ) (at : Place) (said : Said) → may at said → holds n at → holds n (after at said)) where
-  said-stands : (places : List Place) (n k : ℕ) (said : Said) → n < length places → may (place_of places n) said → AllStand holds places
+module _ (h : Header) (may : CallerProgress → Said → Type 0) (holds : ℕ → CallerProgress → Type 0)
+    (step : (n : ℕ) (at : CallerProgress) (said : Said) → may at said → holds n at → holds n (after at said)) where
+  said-stands : (places : List CallerProgress) (n k : ℕ) (said : Said) → n < length places → may (place_of places n) said → AllStand holds places
       → k < length places → (k ≡ n) ⊎ (k ≢ n) → holds k (place_of (set places n (after (place_of places n) said)) k)
   said-stands places n k said lt m all le (inl e) =
       subst (λ j. holds j (place_of (set places n (after (place_of places n) said)) j)) (sym e)
@@ -32,7 +32,7 @@ module _ (h : Header) (may : Place → Said → Type 0) (holds : ℕ → Place �
   said-stands places n k said lt m all le (inr other) =
       subst (holds k) (sym (get_or-set_other places n k (after (place_of places n) said) no_place other)) (all k le)
 
-  path-stands : (places : List Place) (lines : List Line) (last : List Place) → Path h may places lines last → AllStand holds places → AllStand holds last
+  path-stands : (places : List CallerProgress) (lines : List Line) (last : List CallerProgress) → Path h may places lines last → AllStand holds places → AllStand holds last
   path-stands places [] last p all = subst (AllStand holds) p all
   path-stands places (Of n said ∷ lines) last p all =
       path-stands (set places n (after (place_of places n) said)) lines last p.3
@@ -70,7 +70,7 @@ all-stand-first w k lt =
     let e : place_of (first_places w) k ≡ first_place w k = get_or-map (first_place w) (counted 0 w.header.callers) k 0 no_place in_list ∙ ap (first_place w) number in
     subst (Stands w.items k) (sym e) (first-stands w k)
 
-joined-told : (places : List Place) → joined (map (λ (at : Place). at.rows) places) ≡ all_told places
+joined-told : (places : List CallerProgress) → joined (map (λ (at : CallerProgress). at.rows) places) ≡ all_told places
 joined-told [] = refl
 joined-told (at ∷ places) = ap (λ rows. at.rows ++ rows) (joined-told places)
 
@@ -86,12 +86,12 @@ tells-each w lines report fits =
     let count : length fits.now ≡ w.header.callers =
     path-length hd MayFinish f.middle f.second fits.now f.path ∙ (path-length hd MayWind v.middle v.second f.middle v.path ∙ (path-length hd MaySay start v.first v.middle v.played ∙ first-length w)) in
     let within : (n : ℕ) → n < w.header.callers → n < length fits.now = λ n lt. subst (λ (j : ℕ). n < j) (sym count) lt in
-    let part : (n : ℕ) → n < w.header.callers → get_or (map (λ (at : Place). at.rows) fits.now) n [] ≡ (place_of fits.now n).rows
-    = λ n lt. get_or-map (λ (at : Place). at.rows) fits.now n no_place [] (within n lt) in
+    let part : (n : ℕ) → n < w.header.callers → get_or (map (λ (at : CallerProgress). at.rows) fits.now) n [] ≡ (place_of fits.now n).rows
+    = λ n lt. get_or-map (λ (at : CallerProgress). at.rows) fits.now n no_place [] (within n lt) in
     record {
-      parts = map (λ (at : Place). at.rows) fits.now;
+      parts = map (λ (at : CallerProgress). at.rows) fits.now;
       told = subst (λ (rows : List Row). IsPermutation rows report.rows) (sym (joined-told fits.now)) fits.told;
-      count = length-map fits.now (λ (at : Place). at.rows) ∙ count;
+      count = length-map fits.now (λ (at : CallerProgress). at.rows) ∙ count;
       mine = λ n lt. subst (AreOf n) (sym (part n lt)) (three n (within n lt)).mine;
       numbered = λ n lt. ap (map (λ (row : Row). row.seq)) (part n lt)
           ∙ stands-over w.items n (place_of fits.now n) (three n (within n lt)) (All-get_or IsOver fits.now n no_place (within n lt) fits.over);

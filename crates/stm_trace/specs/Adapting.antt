@@ -1,4 +1,4 @@
--- ADAPTING: what a caller's attempts came to, and the switch that its policy asks for behind a transaction.
+-- ADAPTING: what a caller's attempts came to, and the switch that its policy asks for after a transaction.
 use Rattle.std.specs.Prelude.{ℕ, ◌≡◌, ◌≢◌, ◌==◌, leb, [], length, Option, Some, None, if◌then◌else◌, ◌↔◌}
 use Rattle.stm_model.specs.Algorithms.{alg_number}
 use Rattle.stm_model.specs.declared.alg.Alg.{Alg}

@@ -15,7 +15,7 @@ use Rattle.stm_script.specs.declared.workload.Header.{Header}
 use Rattle.tx_answers.specs.Answers.{Begins, Commits, Cancels, Closes, Looks, Irrevs, Stops}
 use Rattle.tx_answers.specs.Causes.{Asked, Conflicts, IsAgain, IsAnothers, NamesOther, Needs}
 use Rattle.tx_answers.specs.Causes.Asked.{ForWord, ToCommit, ToPromote}
-use Rattle.tx_answers.specs.Known.{Known, is_irrevocable, wrote}
+use Rattle.tx_answers.specs.CallerState.{CallerState, is_irrevocable, wrote}
 use Rattle.tx_answers.specs.declared.answers.Begin.{Begin}
 use Rattle.tx_answers.specs.declared.answers.Begin.TheVariants as begins
 use Rattle.tx_answers.specs.declared.answers.Cancel.{Cancel}
@@ -29,18 +29,18 @@ use Rattle.tx_answers.specs.declared.answers.Irrev.TheVariants as irrevs
 use Rattle.tx_answers.specs.declared.answers.Look.{Look}
 use Rattle.tx_answers.specs.declared.answers.Look.TheVariants as looks
 use Rattle.stm_trace.specs.declared.said.Said.TheVariants.{TryBegin, TryCancel, TryIrrevocable, TryCommit, TryClose, Looked}
-use Rattle.stm_trace.specs.Places.{Place, may_write, irrevocable}
+use Rattle.stm_trace.specs.Places.{CallerProgress, may_write, irrevocable}
 use Rattle.stm_trace.specs.Turns.{HasSizes, IsFair, IsFairCause, IsFairStop}
 use Rattle.stm_trace.specs.Turns as turns
 
 -- the place is that of what the caller knows of its open attempt
-pub record IsPlaceOf (v : Known) (at : Place) : Type 0 where
+pub record IsPlaceOf (v : CallerState) (at : CallerProgress) : Type 0 where
   pub alg : at.alg ≡ v.alg
   pub wrote : at.wrote ≡ wrote v
   pub irrevocable : irrevocable at ≡ is_irrevocable v
 
 -- or of what it knew in the middle of an operation
-pub record IsPlaceIn (v : Known) (at : Place) : Type 0 where
+pub record IsPlaceIn (v : CallerState) (at : CallerProgress) : Type 0 where
   pub alg : at.alg ≡ v.alg
   pub revocable : is_irrevocable v ≡ false → irrevocable at ≡ false
 
@@ -49,7 +49,7 @@ both true b e = (refl, e)
 both false b e = absurd cc
 
 -- c is the memory's configuration, and n the caller of the place
-module _ (good : List ℕ → Type 0) (c : Config) (n : ℕ) (h : Header) (at : Place) (ranges : IsConfig c) (sizes : HasSizes c h) (caller : at.caller ≡ n) where
+module _ (good : List ℕ → Type 0) (c : Config) (n : ℕ) (h : Header) (at : CallerProgress) (ranges : IsConfig c) (sizes : HasSizes c h) (caller : at.caller ≡ n) where
   names-other : (x : ℕ) → NamesOther c n x → turns.NamesOther h at x
   names-other x o =
       let k = o.0 in let below = o.1 in let other = o.2 in let is = o.3 in let same = sizes.3 in
@@ -61,17 +61,17 @@ module _ (good : List ℕ → Type 0) (c : Config) (n : ℕ) (h : Header) (at : 
   above-zero : (x : ℕ) → 0 < x → x ≢ 0
   above-zero x lt e = absurd (omega (arith, lt, e))
 
-  pub fair-begin : (b : Begin) (v w : Known) → Begins good c n b v w → IsFair h at (TryBegin b)
+  pub fair-begin : (b : Begin) (v w : CallerState) → Begins good c n b v w → IsFair h at (TryBegin b)
   fair-begin (begins.Begun alg) v w t = tt
   fair-begin (begins.Closed gate) v w t = (others t.3, names-other (holder_of gate) t.2)
   fair-begin (begins.Held word) v w t = (others t.4, above-zero word t.2)
   fair-begin (begins.ClockFull clock) v w t = t.3.limit
 
-  pub fair-close : (r : CloseGate) (v w : Known) → Closes good c n r v w → IsFair h at (TryClose r)
+  pub fair-close : (r : CloseGate) (v w : CallerState) → Closes good c n r v w → IsFair h at (TryClose r)
   fair-close closes.Closed v w t = tt
   fair-close (closes.Taken gate) v w t = (others t.3, names-other (holder_of gate) t.2)
 
-  pub fair-look : (l : Look) (v w : Known) → Looks good c n l v w → IsFair h at (Looked l)
+  pub fair-look : (l : Look) (v w : CallerState) → Looks good c n l v w → IsFair h at (Looked l)
   fair-look looks.Quiet v w t = tt
   fair-look (looks.Busy k status) v w t =
       let o = t.1.other in let below = o.0 in let same = sizes.3 in
@@ -83,13 +83,13 @@ module _ (good : List ℕ → Type 0) (c : Config) (n : ℕ) (h : Header) (at : 
       let low : a % c.records < c.records = mod_below a c.records (omega (arith, some)) in
       let same = sizes.1 in omega (arith, low, is, same)
 
-  needed : (asked : Asked) (index : ℕ) (v : Known) → Needs c asked index v → index < h.records
+  needed : (asked : Asked) (index : ℕ) (v : CallerState) → Needs c asked index v → index < h.records
   needed (ForWord a) index v k = in-range a index k
   needed ToCommit index v k = in-range k.0 index k.1
   needed ToPromote index v k = absurd k
 
-  module _ (v : Known) (is : IsPlaceIn v at) where
-    pub fair-cause : (asked : Asked) (cause : Cause) (w : Known) → Conflicts c n asked cause v w → IsFairCause h at cause
+  module _ (v : CallerState) (is : IsPlaceIn v at) where
+    pub fair-cause : (asked : Asked) (cause : Cause) (w : CallerState) → Conflicts c n asked cause v w → IsFairCause h at cause
     fair-cause asked (Clock had now) w t = (is.alg ∙ t.0, t.2)
     fair-cause asked (Record index word start) w t = (
       ap has_records is.alg ∙ t.0,
@@ -105,7 +105,7 @@ module _ (good : List ℕ → Type 0) (c : Config) (n : ℕ) (h : Header) (at : 
 
     -- the logs have the lengths that the place tells
     module _ (reads : v.reads_limit ≡ at.reads_limit) (writes : v.writes_limit ≡ at.writes_limit) where
-      pub fair-stop : (op : Op) (a : ℕ) (stop : Stop) (w : Known) → ((clock : ℕ) → stop ≡ stops.ClockFull clock → may_write op ≡ true) → Stops good c n a stop v w
+      pub fair-stop : (op : Op) (a : ℕ) (stop : Stop) (w : CallerState) → ((clock : ℕ) → stop ≡ stops.ClockFull clock → may_write op ≡ true) → Stops good c n a stop v w
           → (irrevocable at ≡ false) × IsFairStop h at op stop
       fair-stop op a (stops.Conflict cause) w may t = (is.revocable t.0.revocable, (others t.2, fair-cause (ForWord a) cause w t.1))
       fair-stop op a (stops.Full limit) w may t = (
@@ -117,11 +117,11 @@ module _ (good : List ℕ → Type 0) (c : Config) (n : ℕ) (h : Header) (at : 
       )
       fair-stop op a (stops.ClockFull clock) w may t = (is.revocable t.0.revocable, (t.2.limit, ap asks_at_write is.alg ∙ t.1, may clock refl))
 
-  module _ (v : Known) (is : IsPlaceOf v at) where
-    cause-of : (asked : Asked) (cause : Cause) (w : Known) → Conflicts c n asked cause v w → IsFairCause h at cause
+  module _ (v : CallerState) (is : IsPlaceOf v at) where
+    cause-of : (asked : Asked) (cause : Cause) (w : CallerState) → Conflicts c n asked cause v w → IsFairCause h at cause
     cause-of asked cause w t = fair-cause v (record { alg = is.alg; revocable = λ e. is.irrevocable ∙ e }) asked cause w t
 
-    fair-again : (word had now : ℕ) (w : Known) → IsAgain c n word had now v w → turns.IsFairAgain h at word had now
+    fair-again : (word had now : ℕ) (w : CallerState) → IsAgain c n word had now v w → turns.IsFairAgain h at word had now
     fair-again word had now w (inl t) = inl (t.0, ap has_records is.alg ∙ t.1, t.3.0)
     fair-again word had now w (inr t) = inr (t.0, is.alg ∙ t.1, t.2, names-other now t.4)
 
@@ -129,11 +129,11 @@ module _ (good : List ℕ → Type 0) (c : Config) (n : ℕ) (h : Header) (at : 
     revocable : is_irrevocable v ≡ false → irrevocable at ≡ false
     revocable e = is.irrevocable ∙ e
 
-    pub fair-cancel : (r : Cancel) (w : Known) → Cancels good c n r v w → IsFair h at (TryCancel r)
+    pub fair-cancel : (r : Cancel) (w : CallerState) → Cancels good c n r v w → IsFair h at (TryCancel r)
     fair-cancel (cancels.Cancelled time) w t = revocable t.3
     fair-cancel cancels.Irrevocable w t = is.irrevocable ∙ t.1
 
-    pub fair-irrevocable : (r : Irrev) (w : Known) → Irrevs good c n r v w → IsFair h at (TryIrrevocable r)
+    pub fair-irrevocable : (r : Irrev) (w : CallerState) → Irrevs good c n r v w → IsFair h at (TryIrrevocable r)
     fair-irrevocable irrevs.Granted w t = tt
     fair-irrevocable (irrevs.Busy k status) w t =
         let o = t.2.other in let below = o.0 in let same = sizes.3 in
@@ -142,7 +142,7 @@ module _ (good : List ℕ → Type 0) (c : Config) (n : ℕ) (h : Header) (at : 
     fair-irrevocable (irrevs.Conflict cause) w t = (revocable t.0.revocable, others t.2, cause-of ToPromote cause w t.1)
     fair-irrevocable (irrevs.ClockFull clock) w t = (revocable t.0.revocable, t.2.limit, ap asks_at_grant is.alg ∙ t.1)
 
-    pub fair-commit : (r : Commit) (w : Known) → Commits good c n r v w → IsFair h at (TryCommit r)
+    pub fair-commit : (r : Commit) (w : CallerState) → Commits good c n r v w → IsFair h at (TryCommit r)
     fair-commit (commits.Committed time) w t = is.wrote ∙ t.wrote
     fair-commit (commits.ReadOnly time) w t = is.wrote ∙ t.2
     fair-commit (commits.Conflict cause) w t = (revocable t.0.revocable, others t.2, cause-of ToCommit cause w t.1, is.wrote ∙ t.3)

@@ -29,7 +29,7 @@ use Rattle.stm_trace.specs.declared.said.Said.{Said}
 use Rattle.stm_trace.specs.declared.said.Said.TheVariants.{TryBegin, Reply, Stopped, TryCancel, TryIrrevocable, TryCommit, TryClose, Looked, Installed, Reserved, Idle, Dropped, Reopened}
 
 -- what the caller has still to do; of its next transaction how many attempts were in somebody's way, and whether it must become irrevocable; of its last attempt the algorithm, and of an open one the operations still to come, the replies and emits so far, whether it wrote, and whether it was granted to be irrevocable; its rows; and its policy, what its attempts came to since it last switched by it, and the switch that it asks for, which comes before the next item
-pub record Place : Type 0 where
+pub record CallerProgress : Type 0 where
   pub caller : ℕ
   pub left : List Item
   pub failed : ℕ
@@ -122,23 +122,23 @@ abbrev pub most_failed : ℕ
 most_failed = 16
 
 -- the open attempt can't be cancelled
-abbrev pub irrevocable : Place → Bool
+abbrev pub irrevocable : CallerProgress → Bool
 irrevocable at = irrevocable_under at.alg at.granted at.wrote
 
 -- it must become irrevocable before it goes on
-abbrev pub is_forced : Place → Bool
+abbrev pub is_forced : CallerProgress → Bool
 is_forced at = at.must && not (irrevocable at)
 
 -- a new attempt: nothing of an earlier one stays
-abbrev pub begun : Alg → Place → Place
+abbrev pub begun : Alg → CallerProgress → CallerProgress
 begun alg at = record at { phase = Inside; alg = alg; rest = script_at at.left; replies = []; emits = []; wrote = false; granted = false }
 
 -- the next operation is done
-abbrev pub replied : Op → ℕ → Place → Place
+abbrev pub replied : Op → ℕ → CallerProgress → CallerProgress
 replied op reply at = record at { rest = rest_of at.rest; replies = at.replies ++ reply ∷ []; emits = at.emits ++ emits_of op reply; wrote = at.wrote || writes op reply }
 
 -- the attempt is over, and its script still to do
-abbrev pub given_up : Place → Place
+abbrev pub given_up : CallerProgress → CallerProgress
 given_up at = record at { phase = Between; replies = []; emits = [] }
 
 -- another caller was in its way: so it is counted, until the next one must become irrevocable; and what it came to is noted
@@ -148,45 +148,45 @@ failed_next must failed = if must then failed else failed + 1
 abbrev pub must_next : Bool → ℕ → Bool
 must_next must failed = must || leb most_failed (failed + 1)
 
-abbrev pub in_the_way : Outcome → Place → Place
+abbrev pub in_the_way : Outcome → CallerProgress → CallerProgress
 in_the_way outcome at = record (given_up at) { failed = failed_next at.must at.failed; must = must_next at.must at.failed; profile = with_outcome at.profile outcome }
 
 -- by why it was stopped: a log that is too short will be so again
-abbrev pub stopped : Stop → Place → Place
+abbrev pub stopped : Stop → CallerProgress → CallerProgress
 stopped (Conflict cause) at = in_the_way outcomes.Conflict at
 stopped (Full limit) at = record (given_up at) { must = true; profile = with_outcome at.profile outcomes.Full }
 stopped (ClockFull clock) at = given_up at
 
 -- granted: where `irrev` asked for it that operation is done
-abbrev pub granted_at : Bool → Place → Place
+abbrev pub granted_at : Bool → CallerProgress → CallerProgress
 granted_at true at = record at { granted = true }
 granted_at false at = record (replied Irrev 1 at) { granted = true }
 
 -- the transaction has ended, and has its row
-abbrev pub row_at : Kind → ℕ → Place → Row
+abbrev pub row_at : Kind → ℕ → CallerProgress → Row
 row_at kind time at = record { kind = kind; place = time; caller = at.caller; seq = length at.rows; replies = at.replies; emits = at.emits }
 
 -- its last attempt is noted, and its policy asked
-abbrev pub adapted : Outcome → Place → Place
+abbrev pub adapted : Outcome → CallerProgress → CallerProgress
 adapted outcome at = record at { profile = with_outcome at.profile outcome; chosen = asked_by at.policy (with_outcome at.profile outcome) at.alg }
 
-abbrev pub recorded : Kind → ℕ → Place → Place
+abbrev pub recorded : Kind → ℕ → CallerProgress → CallerProgress
 recorded kind time at = record at { left = rest_of at.left; failed = 0; must = false; phase = Between; replies = []; emits = []; rows = at.rows ++ row_at kind time at ∷ [] }
 
-abbrev pub ended : Kind → ℕ → Place → Place
+abbrev pub ended : Kind → ℕ → CallerProgress → CallerProgress
 ended kind time at = adapted (outcome_of kind) (recorded kind time at)
 
 -- the switch is done: one that the policy asked for clears the profile
-abbrev pub switched : Option Alg → Place → Place
+abbrev pub switched : Option Alg → CallerProgress → CallerProgress
 switched None at = record at { phase = Between; left = rest_of at.left }
 switched (Some alg) at = record at { phase = Between; profile = no_profile; chosen = None }
 
 -- its logs are so long, or were longer
-abbrev pub lengthened : ℕ → ℕ → Place → Place
+abbrev pub lengthened : ℕ → ℕ → CallerProgress → CallerProgress
 lengthened reads writes at = record at { left = rest_of at.left; reads_limit = max at.reads_limit reads; writes_limit = max at.writes_limit writes }
 
 -- where the caller stands after this was said
-abbrev pub after : Place → Said → Place
+abbrev pub after : CallerProgress → Said → CallerProgress
 after at (TryBegin (Begun alg)) = begun alg at
 after at (TryBegin (Closed gate)) = at
 after at (TryBegin (Held word)) = at

@@ -1,4 +1,4 @@
--- Some turns behind others.
+-- Some turns after others.
 use Rattle.std.proofs.Common.{ℕ, zero, suc, ◌≡◌, ◌≢◌, ◌<◌, List, [], ◌∷◌, ◌++◌, length, get_or, set, refl, sym, ap, ◌∙◌, subst, append_assoc, true, false}
 use Rattle.std.specs.Prelude.{map, Some, None, replicate}
 use Rattle.std.proofs.lemmas.List.{length-map, get_or-map, map-set, length-set, get_or-set_other}
@@ -12,7 +12,7 @@ use Rattle.stm_trace.specs.declared.line.Line.TheVariants.{Of, Finish}
 use Rattle.stm_trace.specs.declared.said.Said.{Said}
 use Rattle.stm_trace.specs.declared.said.Said.TheVariants.{TryBegin, Reply, Stopped, TryCancel, TryIrrevocable, TryCommit, TryClose, Looked, Installed, Reserved, Idle, Dropped, Reopened}
 use Rattle.stm_trace.specs.Fits.{Path, IsCalm, callers, place_of, no_place, says}
-use Rattle.stm_trace.specs.Places.{Place, after, clock_of, irrevocable}
+use Rattle.stm_trace.specs.Places.{CallerProgress, after, clock_of, irrevocable}
 use Rattle.stm_trace.specs.Played.{Played, Halted, EndsFull}
 use Rattle.stm_trace.specs.Turns.{IsFair, IsOver, MaySay, MayWind, MayFinish}
 use Rattle.stm_trace.specs.declared.said.Phase.TheVariants.{Between, Inside}
@@ -32,7 +32,7 @@ calm-append (Of n said ∷ xs) ys a b = (a.0, calm-append xs ys a.1 b)
 calm-append (Finish ∷ xs) ys a b = calm-append xs ys a b
 
 -- who isn't at the end says what may be said while the schedule goes on
-pub may-finish : (at : Place) (said : Said) → (IsOver at → ⊥) → MaySay at said → MayFinish at said
+pub may-finish : (at : CallerProgress) (said : Said) → (IsOver at → ⊥) → MaySay at said → MayFinish at said
 may-finish at (TryBegin b) still m = m
 may-finish at (Reply op reply) still m = m
 may-finish at (Stopped op stop) still m = m
@@ -48,7 +48,7 @@ may-finish at Dropped still m = m
 may-finish at Reopened still m = m
 
 -- who can't cancel its open attempt says the same once the schedule is over
-pub may-wind : (at : Place) (said : Said) → at.phase ≡ Inside → irrevocable at ≡ true → MaySay at said → MayWind at said
+pub may-wind : (at : CallerProgress) (said : Said) → at.phase ≡ Inside → irrevocable at ≡ true → MaySay at said → MayWind at said
 may-wind at (TryBegin b) here is m = (here, is, m)
 may-wind at (Reply op reply) here is m = (here, is, m)
 may-wind at (Stopped op stop) here is m = (here, is, m)
@@ -77,7 +77,7 @@ silent-first k [] ys s = tt
 silent-first k (x ∷ xs) ys s = (s.0, silent-first k xs ys s.1)
 
 -- who can't be cancelled is not refused, and so never meets a full clock
-wind-calm : (h : Header) (at : Place) (said : Said) (clock : ℕ) → MayWind at said → IsFair h at said → clock_of said ≡ Some clock → ⊥
+wind-calm : (h : Header) (at : CallerProgress) (said : Said) (clock : ℕ) → MayWind at said → IsFair h at said → clock_of said ≡ Some clock → ⊥
 wind-calm h at (TryBegin (begins.Begun alg)) clock m f e = absurd cc
 wind-calm h at (TryBegin (begins.Closed gate)) clock m f e = absurd cc
 wind-calm h at (TryBegin (begins.Held word)) clock m f e = absurd cc
@@ -105,37 +105,37 @@ wind-calm h at Idle clock m f e = absurd cc
 wind-calm h at Dropped clock m f e = absurd cc
 wind-calm h at Reopened clock m f e = absurd cc
 
-path-calm : (h : Header) (places : List Place) (before : List Line) (n : ℕ) (said : Said) (last : List Place) (clock : ℕ)
+path-calm : (h : Header) (places : List CallerProgress) (before : List Line) (n : ℕ) (said : Said) (last : List CallerProgress) (clock : ℕ)
     → Path h MayWind places (before ++ Of n said ∷ []) last → clock_of said ≡ Some clock → ⊥
 path-calm h places [] n said last clock p full = wind-calm h (place_of places n) said clock p.1 p.2 full
 path-calm h places (Of k s ∷ before) n said last clock p full = path-calm h (says places k s) before n said last clock p.3 full
 path-calm h places (Finish ∷ before) n said last clock p full = absurd p
 
--- so no turn behind the schedule finds it full until nothing is open
-pub never-full : (h : Header) (places : List Place) (lines : List Line) (last : List Place) (clock : ℕ) → Path h MayWind places lines last → EndsFull lines clock → ⊥
+-- so no turn after the schedule finds it full until nothing is open
+pub never-full : (h : Header) (places : List CallerProgress) (lines : List Line) (last : List CallerProgress) (clock : ℕ) → Path h MayWind places lines last → EndsFull lines clock → ⊥
 never-full h places lines last clock p f = path-calm h places f.before f.caller f.said last clock (subst (λ (ls : List Line). Path h MayWind places ls last) f.parts p) f.full
 
-module _ (h : Header) (may : Place → Said → Type 0) where
-  pub path-append : (places : List Place) (xs : List Line) (mid : List Place) (ys : List Line) (last : List Place)
+module _ (h : Header) (may : CallerProgress → Said → Type 0) where
+  pub path-append : (places : List CallerProgress) (xs : List Line) (mid : List CallerProgress) (ys : List Line) (last : List CallerProgress)
       → Path h may places xs mid → Path h may mid ys last → Path h may places (xs ++ ys) last
   path-append places [] mid ys last a b = subst (λ s. Path h may s ys last) (sym a) b
   path-append places (Of n said ∷ xs) mid ys last a b = (a.0, a.1, a.2, path-append (says places n said) xs mid ys last a.3 b)
   path-append places (Finish ∷ xs) mid ys last a b = absurd a
 
   -- no caller comes or goes
-  pub path-length : (places : List Place) (lines : List Line) (last : List Place) → Path h may places lines last → length last ≡ length places
+  pub path-length : (places : List CallerProgress) (lines : List Line) (last : List CallerProgress) → Path h may places lines last → length last ≡ length places
   path-length places [] last a = ap (λ ps. length ps) (sym a)
   path-length places (Of n said ∷ lines) last a = path-length (says places n said) lines last a.3 ∙ length-set places n (after (place_of places n) said)
   path-length places (Finish ∷ lines) last a = absurd a
 
   -- who says nothing stays where it stands
-  pub path-others : (places : List Place) (lines : List Line) (last : List Place) (k : ℕ) → Path h may places lines last → IsSilent k (callers lines) → place_of last k ≡ place_of places k
+  pub path-others : (places : List CallerProgress) (lines : List Line) (last : List CallerProgress) (k : ℕ) → Path h may places lines last → IsSilent k (callers lines) → place_of last k ≡ place_of places k
   path-others places [] last k a others = ap (λ ps. place_of ps k) (sym a)
   path-others places (Of n said ∷ lines) last k a others = path-others (says places n said) lines last k a.3 others.1 ∙ get_or-set_other places n k (after (place_of places n) said) no_place others.0
   path-others places (Finish ∷ lines) last k a others = absurd a
 
   -- one turn of one of many, whatever they are, of which f tells the place
-  pub path-one : {W : Type 0} (f : W → Place) (ws : List W) (n : ℕ) (d w : W) (said : Said)
+  pub path-one : {W : Type 0} (f : W → CallerProgress) (ws : List W) (n : ℕ) (d w : W) (said : Said)
       → n < length ws → may (f (get_or ws n d)) said → IsFair h (f (get_or ws n d)) said → f w ≡ after (f (get_or ws n d)) said
       → Path h may (map f ws) (Of n said ∷ []) (map f (set ws n w))
   path-one f ws n d w said lt here fair now =
@@ -143,10 +143,10 @@ module _ (h : Header) (may : Place → Said → Type 0) where
       let next = ap (λ a. set (map f ws) n a) (ap (λ a. after a said) e ∙ sym now) ∙ sym (map-set f ws n w) in
       (subst (λ k. n < k) (sym (length-map ws f)) lt, subst (λ a. may a said) (sym e) here, subst (λ a. IsFair h a said) (sym e) fair, next)
 
-  pub played-none : (places : List Place) (lines : List Line) → Played h may places places lines lines []
+  pub played-none : (places : List CallerProgress) (lines : List Line) → Played h may places places lines lines []
   played-none places lines = record { more = []; lines = sym (append-nil lines); path = refl; turned = refl; calm = tt }
 
-  module _ {W : Type 0} (f : W → Place) (ws : List W) (n : ℕ) (d w : W) (said : Said) (old new : List Line)
+  module _ {W : Type 0} (f : W → CallerProgress) (ws : List W) (n : ℕ) (d w : W) (said : Said) (old new : List Line)
       (lt : n < length ws) (here : may (f (get_or ws n d)) said) (fair : IsFair h (f (get_or ws n d)) said) (now : f w ≡ after (f (get_or ws n d)) said)
       (lines : new ≡ old ++ Of n said ∷ []) where
     pub played-one : clock_of said ≡ None → Played h may (map f ws) (map f (set ws n w)) old new (n ∷ [])
@@ -162,7 +162,7 @@ module _ (h : Header) (may : Place → Said → Type 0) where
       full = record { before = []; caller = n; said = said; parts = refl; calm = tt; full = full };
     }
 
-  module _ (ps qs rs : List Place) (a b c : List Line) (first second : List ℕ) where
+  module _ (ps qs rs : List CallerProgress) (a b c : List Line) (first second : List ℕ) where
     pub played-append : Played h may ps qs a b first → Played h may qs rs b c second → Played h may ps rs a c (first ++ second)
     played-append p q = record {
       more = p.more ++ q.more;
@@ -189,7 +189,7 @@ module _ (h : Header) (may : Place → Said → Type 0) where
       };
     }
 
-  module _ (ps qs : List Place) (a b : List Line) (order : List ℕ) where
+  module _ (ps qs : List CallerProgress) (a b : List Line) (order : List ℕ) where
     pub played-as : (other : List ℕ) → order ≡ other → Played h may ps qs a b order → Played h may ps qs a b other
     played-as other e p = subst (λ o. Played h may ps qs a b o) e p
 

@@ -5,7 +5,7 @@ use Rattle.stm_trace.specs.declared.line.Line.{Line}
 use Rattle.stm_trace.specs.declared.line.Line.TheVariants.{Of}
 use Rattle.stm_trace.specs.declared.said.Said.{Said}
 use Rattle.stm_trace.specs.Fits.{Path, IsCalm, callers}
-use Rattle.stm_trace.specs.Places.{Place, clock_of}
+use Rattle.stm_trace.specs.Places.{CallerProgress, clock_of}
 
 -- the last line, and no other, tells of this clock
 pub record EndsFull (lines : List Line) (clock : ℕ) : Type 0 where
@@ -16,9 +16,9 @@ pub record EndsFull (lines : List Line) (clock : ℕ) : Type 0 where
   pub calm : IsCalm before
   pub full : clock_of said ≡ Some clock
 
-module _ (h : Header) (may : Place → Said → Type 0) where
+module _ (h : Header) (may : CallerProgress → Said → Type 0) where
   -- the lines that were added are those of the turns of these callers in this order, and lead from one list of places to another
-  pub record Played (places now : List Place) (old new : List Line) (order : List ℕ) : Type 0 where
+  pub record Played (places now : List CallerProgress) (old new : List Line) (order : List ℕ) : Type 0 where
     pub more : List Line
     pub lines : new ≡ old ++ more
     pub path : Path h may places more now
@@ -26,7 +26,7 @@ module _ (h : Header) (may : Place → Said → Type 0) where
     pub calm : IsCalm more
 
   -- the same up to a full clock, before or at the end of the order
-  pub record Halted (places now : List Place) (old new : List Line) (order : List ℕ) (clock : ℕ) : Type 0 where
+  pub record Halted (places now : List CallerProgress) (old new : List Line) (order : List ℕ) (clock : ℕ) : Type 0 where
     pub more : List Line
     pub lines : new ≡ old ++ more
     pub path : Path h may places more now

@@ -1,4 +1,4 @@
--- Each caller's turns, one caller behind the other.
+-- Each caller's turns, one caller after the other.
 use Rattle.std.proofs.Common.{ℕ, zero, suc, ◌≡◌, ◌<◌, ◌≤◌, List, [], ◌∷◌, ◌++◌, length, sym, ap, ◌∙◌, arith, append_assoc, subst, inl, inr}
 use Rattle.std.specs.Prelude.{replicate, All, IsPermutation, ◌⊎◌}
 use Rattle.std.proofs.lemmas.Bool.{cases_eq}
@@ -13,7 +13,7 @@ use Rattle.stm_trace.specs.WholeLaws.{cut-in-finishing, whole-fits}
 use Rattle.stm_trace.specs.declared.line.Line.{Line}
 use Rattle.stm_trace.specs.declared.said.Said.{Said}
 use Rattle.stm_trace.specs.Fits.{Path, callers, place_of, no_place, Rising, turns, all_told, IsWhole, IsCut}
-use Rattle.stm_trace.specs.Places.{Place}
+use Rattle.stm_trace.specs.Places.{CallerProgress}
 use Rattle.stm_trace.specs.Played.{Played, Halted}
 use Rattle.stm_trace.specs.PlayLaws.{append-nil, callers-append, path-others, played-none, played-append, halted-append, silent-replicate, silent-first, IsSilent}
 use Rattle.stm_trace.specs.TurnLaws.{InTurn, in_turn-none, in_turn-next, rises-next}
@@ -25,25 +25,25 @@ each-turn [] x ys (suc j) n e = cc
 each-turn (y ∷ xs) x ys zero n e = absurd cc
 each-turn (y ∷ xs) x ys (suc j) n e = each-turn xs x ys j n (let t : xs ++ (x ∷ ys) ≡ replicate j n = cc in t)
 
-module _ (h : Header) (may : Place → Said → Type 0) (holds : Place → Type 0) where
+module _ (h : Header) (may : CallerProgress → Said → Type 0) (holds : CallerProgress → Type 0) where
   -- a full clock came in the turns of a caller, and so each caller below it now stands
-  pub record HaltedRound (places now : List Place) (old new : List Line) (clock : ℕ) : Type 0 where
+  pub record HaltedRound (places now : List CallerProgress) (old new : List Line) (clock : ℕ) : Type 0 where
     pub order : List ℕ
     pub halted : Halted h may places now old new order clock
     pub rises : Rising 0 order
     pub below : (k : ℕ) → k < halted.full.caller → holds (place_of now k)
 
   -- the callers below n took their turns, and so each of them now stands
-  pub record WentRound (n : ℕ) (places now : List Place) (old new : List Line) : Type 0 where
+  pub record WentRound (n : ℕ) (places now : List CallerProgress) (old new : List Line) : Type 0 where
     pub order : List ℕ
     pub played : Played h may places now old new order
     pub in_turn : InTurn n order
     pub each : (k : ℕ) → k < n → holds (place_of now k)
 
-  pub round-none : (places : List Place) (lines : List Line) → WentRound 0 places places lines lines
+  pub round-none : (places : List CallerProgress) (lines : List Line) → WentRound 0 places places lines lines
   round-none places lines = record { order = []; played = played-none h may places lines; in_turn = in_turn-none; each = λ k lt. absurd (omega (arith, lt)) }
 
-  module _ (n j : ℕ) (ps qs rs : List Place) (a b c : List Line) (round : WentRound n ps qs a b) where
+  module _ (n j : ℕ) (ps qs rs : List CallerProgress) (a b c : List Line) (round : WentRound n ps qs a b) where
     -- in turns that are all caller n's those below it stand as they did
     below-stay : (more : List Line) (later : List ℕ) → Path h may qs more rs → callers more ++ later ≡ replicate j n → (k : ℕ) → k < n → holds (place_of rs k)
     below-stay more later path turned k lt =
@@ -81,15 +81,15 @@ module _ (h : Header) (may : Place → Said → Type 0) (holds : Place → Type 
     }
 
   -- all callers took theirs
-  pub round-all : (n : ℕ) (places now : List Place) (old new : List Line) → WentRound n places now old new → length now ≤ n → All holds now
+  pub round-all : (n : ℕ) (places now : List CallerProgress) (old new : List Line) → WentRound n places now old new → length now ≤ n → All holds now
   round-all n places now old new round most = All-from_get_or holds now no_place (λ k lt. round.each k (omega (arith, lt, most)))
 
 -- THE WHOLE of a driver: the schedule, `finish`, a round that ends attempts and closings, and a round to the end
-module _ (h : Header) (ps qs rs ss : List Place) (schedule : List Go) (a b c : List Line) (n : ℕ)
+module _ (h : Header) (ps qs rs ss : List CallerProgress) (schedule : List Go) (a b c : List Line) (n : ℕ)
     (played : Played h MaySay ps qs [] a (turns schedule)) where
-  module _ (wound : WentRound h MayWind (λ (at : Place). at.phase ≡ Between) n qs rs (a ++ Finish ∷ []) b) (most : length rs ≤ n) where
-    closed : All (λ (at : Place). at.phase ≡ Between) rs
-    closed = round-all h MayWind (λ (at : Place). at.phase ≡ Between) n qs rs (a ++ Finish ∷ []) b wound most
+  module _ (wound : WentRound h MayWind (λ (at : CallerProgress). at.phase ≡ Between) n qs rs (a ++ Finish ∷ []) b) (most : length rs ≤ n) where
+    closed : All (λ (at : CallerProgress). at.phase ≡ Between) rs
+    closed = round-all h MayWind (λ (at : CallerProgress). at.phase ≡ Between) n qs rs (a ++ Finish ∷ []) b wound most
 
     pub rounds-cut : (clock : ℕ) → HaltedRound h MayFinish IsOver rs ss b c clock → IsCut h ps schedule c clock
     rounds-cut clock r = cut-in-finishing h ps qs rs ss schedule a played b wound.order wound.played wound.in_turn.rises closed c r.order clock r.halted r.rises r.below

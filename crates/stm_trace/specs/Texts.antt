@@ -38,7 +38,7 @@ stop_bytes (Conflict cause) = cause_bytes cause
 stop_bytes (Full limit) = codes " full" ++ spaced (limit ∷ [])
 stop_bytes (ClockFull clock) = full_clock_bytes clock
 
--- what a turn says, behind the caller
+-- what a turn says, after the caller
 abbrev pub said_bytes : Said → List ℕ
 said_bytes (TryBegin (Begun alg)) = codes " begin " ++ alg_name alg
 said_bytes (TryBegin (Closed gate)) = codes " begin closed" ++ spaced (gate ∷ [])

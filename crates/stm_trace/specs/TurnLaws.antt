@@ -1,4 +1,4 @@
--- The turns of a schedule, line by line; and those behind it, caller by caller.
+-- The turns of a schedule, line by line; and those after it, caller by caller.
 use Rattle.std.proofs.Common.{ℕ, zero, suc, ◌≡◌, ◌<◌, ◌≤◌, ◌+◌, ◌-◌, List, [], ◌∷◌, ◌++◌, length, get_or, refl, sym, ap, ◌∙◌, arith, append_assoc, add-one, zero-add}
 use Rattle.std.specs.Prelude.{replicate, take, drop}
 use Rattle.stm_script.specs.declared.workload.Go.{Go}
@@ -57,7 +57,7 @@ turns-more i s d lt =
 pub turns-next : (i : ℕ) (s : List Go) (d : Go) → i < length s → turns (take i s) ++ replicate (get_or s i d).turns (get_or s i d).caller ≡ turns (take (i + 1) s)
 turns-next i s d lt = turns-more i s d lt ∙ ap (λ (j : ℕ). turns (take j s)) (sym (add-one i))
 
--- and the lines behind it
+-- and the lines after it
 pub turns-part : (i : ℕ) (s : List Go) (d : Go) → i < length s → (turns (take i s) ++ replicate (get_or s i d).turns (get_or s i d).caller) ++ turns (drop (suc i) s) ≡ turns s
 turns-part i s d lt = ap (λ w. w ++ turns (drop (suc i) s)) (turns-more i s d lt) ∙ (sym (turns-append (take (suc i) s) (drop (suc i) s)) ∙ ap turns (take-drop (suc i) s))
 

@@ -25,7 +25,7 @@ use Rattle.tx_answers.specs.declared.answers.Look.TheVariants.{Quiet, Busy}
 use Rattle.stm_trace.specs.declared.said.Phase.TheVariants.{Between, Inside, Closing, Quiet}
 use Rattle.stm_trace.specs.declared.said.Said.{Said}
 use Rattle.stm_trace.specs.declared.said.Said.TheVariants.{TryBegin, Reply, Stopped, TryCancel, TryIrrevocable, TryCommit, TryClose, Looked, Installed, Reserved, Idle, Dropped, Reopened}
-use Rattle.stm_trace.specs.Places.{Place, may_write, irrevocable, is_forced}
+use Rattle.stm_trace.specs.Places.{CallerProgress, may_write, irrevocable, is_forced}
 
 -- a transaction comes next
 abbrev pub BeforeTx : List Item → Type 0
@@ -71,7 +71,7 @@ Next op [] = ⊥
 Next op (o ∷ ops) = o ≡ op
 
 -- nothing is left to the caller
-abbrev pub IsOver : Place → Type 0
+abbrev pub IsOver : CallerProgress → Type 0
 IsOver at = (at.phase ≡ Between) × (at.left ≡ []) × (at.chosen ≡ None)
 
 -- the operation asks for something of the attempt, and not of the memory
@@ -79,11 +79,11 @@ abbrev pub is_call : Op → Bool
 is_call op = is_cancel op || is_irrev op
 
 -- the script goes on with this operation
-abbrev pub Comes : Op → Place → Type 0
+abbrev pub Comes : Op → CallerProgress → Type 0
 Comes op at = (at.phase ≡ Inside) × (is_forced at ≡ false) × Next op at.rest
 
 -- where it may be said, while the schedule goes on
-abbrev pub MaySay : Place → Said → Type 0
+abbrev pub MaySay : CallerProgress → Said → Type 0
 MaySay at (TryBegin b) = (at.phase ≡ Between) × BeforeTx at.left × (at.chosen ≡ None)
 MaySay at (Reply op reply) = Comes op at × (is_call op ≡ false)
 MaySay at (Stopped op stop) = Comes op at × (is_call op ≡ false)
@@ -99,13 +99,13 @@ MaySay at Dropped = ⊥
 MaySay at Reopened = ⊥
 
 -- once the schedule is over, until no attempt and no closing is open: an attempt that can't be cancelled goes on to its end
-abbrev pub MayWind : Place → Said → Type 0
+abbrev pub MayWind : CallerProgress → Said → Type 0
 MayWind at Dropped = (at.phase ≡ Inside) × (irrevocable at ≡ false)
 MayWind at Reopened = (at.phase ≡ Closing) ⊎ (at.phase ≡ Quiet)
 MayWind at said = (at.phase ≡ Inside) × (irrevocable at ≡ true) × MaySay at said
 
 -- and then: nobody says that nothing is left
-abbrev pub MayFinish : Place → Said → Type 0
+abbrev pub MayFinish : CallerProgress → Said → Type 0
 MayFinish at Idle = ⊥
 MayFinish at said = MaySay at said
 
@@ -116,7 +116,7 @@ HasSizes c h = (h.words ≡ c.words) × (h.records ≡ c.records) × (h.ring ≡
 -- h is the workload's header
 module _ (h : Header) where
   -- the number, as that of a holder, names another caller of the header
-  abbrev pub NamesOther : Place → ℕ → Type 0
+  abbrev pub NamesOther : CallerProgress → ℕ → Type 0
   NamesOther at holder = (holder ≢ 0) × (holder ≢ 1 + at.caller) × (holder < 1 + h.callers)
 
   -- another caller's doing: with one caller there is none
@@ -124,7 +124,7 @@ module _ (h : Header) where
   HasOthers = 1 < h.callers
 
   -- a conflict comes under the algorithm of the attempt, with the inequality of its cause
-  abbrev pub IsFairCause : Place → Cause → Type 0
+  abbrev pub IsFairCause : CallerProgress → Cause → Type 0
   IsFairCause at (Clock had now) = (at.alg ≡ Tml) × (had ≢ now)
   IsFairCause at (Record index word start) = (has_records at.alg ≡ true) × (index < h.records)
       × (((is_owned word ≡ true) × (owner_of word ≢ at.caller)) ⊎ ((is_owned word ≡ false) × (start < version_of word)))
@@ -133,24 +133,24 @@ module _ (h : Header) where
   IsFairCause at (Overrun start clock) = (at.alg ≡ RingSw) × (start + h.ring ≤ clock)
 
   -- another commit was faster: at the clock, or at the lock
-  abbrev pub IsFairAgain : Place → ℕ → ℕ → ℕ → Type 0
+  abbrev pub IsFairAgain : CallerProgress → ℕ → ℕ → ℕ → Type 0
   IsFairAgain at word had now = ((word ≡ 0) × (has_records at.alg ≡ true) × (had ≢ now)) ⊎ ((word ≡ 1) × (at.alg ≡ RingSw) × (had ≡ 0) × NamesOther at now)
 
   -- the length of a log that the algorithm has
-  abbrev pub IsFairLimit : Place → ℕ → Type 0
+  abbrev pub IsFairLimit : CallerProgress → ℕ → Type 0
   IsFairLimit at limit = ((has_read_log at.alg ≡ true) × (limit ≡ at.reads_limit)) ⊎ ((logs_writes at.alg ≡ true) × (limit ≡ at.writes_limit))
 
-  abbrev pub IsFairStop : Place → Op → Stop → Type 0
+  abbrev pub IsFairStop : CallerProgress → Op → Stop → Type 0
   IsFairStop at op (Conflict cause) = HasOthers × IsFairCause at cause
   IsFairStop at op (Full limit) = IsFairLimit at limit
   IsFairStop at op (ClockFull clock) = (CLOCK_LIMIT ≤ clock) × (asks_at_write at.alg ≡ true) × (may_write op ≡ true)
 
   -- an attempt that can be cancelled waits to be alone
-  abbrev pub IsFairWait : Place → Type 0
+  abbrev pub IsFairWait : CallerProgress → Type 0
   IsFairWait at = (irrevocable at ≡ false) × (closes_gate at.alg ≡ true) × HasOthers
 
   -- THE NUMBERS of each answer are such as its cause allows; who can't be cancelled is not refused
-  abbrev pub IsFair : Place → Said → Type 0
+  abbrev pub IsFair : CallerProgress → Said → Type 0
   IsFair at (TryBegin (Begun alg)) = Unit {0}
   IsFair at (TryBegin (Closed gate)) = HasOthers × NamesOther at (holder_of gate)
   IsFair at (TryBegin (Held word)) = HasOthers × (word ≢ 0)

@@ -1,4 +1,4 @@
--- THE WHOLE: its phases, one behind the other, are a trace that fits; and so is a part that a full clock ended.
+-- THE WHOLE: its phases, one after the other, are a trace that fits; and so is a part that a full clock ended.
 use Rattle.std.proofs.Common.{ℕ, ◌≡◌, List, [], ◌∷◌, ◌++◌, sym, ap, ◌∙◌, subst, append_assoc, inl, inr}
 use Rattle.std.specs.Prelude.{All, IsPermutation, ◌⊎◌}
 use Rattle.stm_script.specs.declared.report.Row.{Row}
@@ -8,7 +8,7 @@ use Rattle.stm_trace.specs.declared.line.Line.{Line}
 use Rattle.stm_trace.specs.declared.line.Line.TheVariants.{Of, Finish}
 use Rattle.stm_trace.specs.declared.said.Phase.TheVariants.{Between}
 use Rattle.stm_trace.specs.Fits.{Path, IsCalm, callers, turns, Rising, IsWhole, IsCut, Scheduled, Winding, Finishing, AreOverBelow, all_told}
-use Rattle.stm_trace.specs.Places.{Place}
+use Rattle.stm_trace.specs.Places.{CallerProgress}
 use Rattle.stm_trace.specs.Played.{Played, Halted, EndsFull}
 use Rattle.stm_trace.specs.PlayLaws.{calm-append}
 use Rattle.stm_trace.specs.TurnLaws.{rising-first}
@@ -25,8 +25,8 @@ full-behind xs ys clock calm e = record {
   full = e.full;
 }
 
--- h is the header; the places at the start, behind the schedule, behind the winding, and at the end
-module _ (h : Header) (ps qs rs ss : List Place) (schedule : List Go) where
+-- h is the header; the places at the start, after the schedule, after the winding, and at the end
+module _ (h : Header) (ps qs rs ss : List CallerProgress) (schedule : List Go) where
   scheduled-cut : (c : List Line) (clock : ℕ) (p : Halted h MaySay ps qs [] c (turns schedule) clock) → Scheduled h ps schedule c qs
   scheduled-cut c clock p = record {
     path = subst (λ ls. Path h MaySay ps ls qs) (sym p.lines) p.path;
@@ -34,7 +34,7 @@ module _ (h : Header) (ps qs rs ss : List Place) (schedule : List Go) where
     order = ap (λ ls. callers ls ++ p.later) p.lines ∙ p.turned;
   }
 
-  cut-as : (c d : List Line) (clock : ℕ) (now : List Place) → c ≡ d → (f : EndsFull d clock)
+  cut-as : (c d : List Line) (clock : ℕ) (now : List CallerProgress) → c ≡ d → (f : EndsFull d clock)
       → Scheduled h ps schedule c now ⊎ (Finishing h ps schedule c now × AreOverBelow f.caller now) → IsCut h ps schedule c clock
   cut-as c d clock now e f r = record {
     before = f.before;
@@ -68,7 +68,7 @@ module _ (h : Header) (ps qs rs ss : List Place) (schedule : List Go) where
     }
 
     module _ (b : List Line) (second : List ℕ) (q : Played h MayWind qs rs (a ++ Finish ∷ []) b second) (rises : Rising 0 second)
-        (closed : All (λ (at : Place). at.phase ≡ Between) rs) where
+        (closed : All (λ (at : CallerProgress). at.phase ≡ Between) rs) where
       wound : Winding h ps schedule b rs
       wound = winding b q.more q.lines q.path (subst (Rising 0) (sym q.turned) rises)
 

@@ -11,7 +11,7 @@ use Rattle.rule_base.specs.declared.layout.At.{At}
 use Rattle.rule_base.specs.declared.layout.At.TheVariants.{Clock, Lock, Gate, Status}
 use Rattle.rule_base.specs.declared.views.Act.TheVariants.{Load, Store, Exchange}
 use Rattle.rule_base.specs.declared.views.Phase.TheVariants.{In, Turned}
-use Rattle.rule_base.specs.declared.views.TrailItem.{TrailItem}
+use Rattle.rule_base.specs.declared.views.TracedStep.{TracedStep}
 use Rattle.rule_base.specs.declared.views.View.{View}
 use Rattle.rule_base.specs.Encodings.{holder_of, alg_of, fence_of, announced, taken_lock}
 use Rattle.rule_base.specs.GateSteps.{announce, load_gate, depart, departed}
@@ -26,8 +26,8 @@ use Rattle.tx_answers.specs.declared.answers.Begin.TheVariants.{Begun, Closed, H
 use Rattle.tx_answers.specs.Answers.{Begins, BeginsAt, FindsOpen, Stays, IsHeld, start_word}
 use Rattle.tx_answers.specs.Causes.{NamesOther}
 use Rattle.tx_answers.specs.Evidence.{Found, Exchanged}
-use Rattle.tx_answers.specs.Known.{Known, Grows, known_of, is_in, is_closing}
-use Rattle.tx_answers.specs.KnownLaws.{grows-same, grows-trans}
+use Rattle.tx_answers.specs.CallerState.{CallerState, Grows, known_of, is_in, is_closing}
+use Rattle.tx_answers.specs.CallerStateLaws.{grows-same, grows-trans}
 use Rattle.stm_gate.specs.InnerLaws.{unlocked-of}
 use Rattle.stm_gate.specs.LeavingLaws.{found-later, found-earlier, finds-full}
 use Rattle.stm_gate.specs.Starts.{CanBegin, Waits, IsFresh, StartsAt, Refuses}
@@ -36,10 +36,10 @@ two : (k n callers : ℕ) → k < callers → n < callers → k ≢ n → 1 < ca
 two k n callers a b apart = grind arith
 
 -- an exchange from a later moment on, as seen from before
-exchanged-earlier : (p : At) (old new : ℕ) (u v w : Known) → Exchanged p old new v w → (more : List TrailItem) → v.trail ≡ more ++ u.trail → Exchanged p old new u w
+exchanged-earlier : (p : At) (old new : ℕ) (u v w : CallerState) → Exchanged p old new v w → (more : List TracedStep) → v.step_trace ≡ more ++ u.step_trace → Exchanged p old new u w
 exchanged-earlier p old new u v w f more t = (
   f.0 ++ more,
-  f.1 ∙ (ap (λ s. f.0 ++ s) t ∙ sym (append_assoc f.0 more u.trail)),
+  f.1 ∙ (ap (λ s. f.0 ++ s) t ∙ sym (append_assoc f.0 more u.step_trace)),
   Contains-append_left f.0 more (record { place = p; act = Exchange old new; found = Some old }) f.2,
 )
 
@@ -47,7 +47,7 @@ module _ (good : List ℕ → Type 0) (c : Config) (n : ℕ) where
   abbrev pub looked : World → World → View → ℕ → View
   looked m l v gate = view_after load_gate l (view_after (announce n) m v 1) gate
 
-  abbrev pub first_steps : ℕ → List TrailItem
+  abbrev pub first_steps : ℕ → List TracedStep
   first_steps gate = record { place = Gate; act = Load; found = Some gate } ∷ record { place = Status n; act = Store announced; found = None } ∷ []
 
   pub looked-at : (gate : ℕ) (v s t : View) (a : Tells (announce n) Nothing v 1 s) (l : Tells load_gate (FindsGate c n) s gate t) → t ≡ looked a.0 l.0 v gate
@@ -74,7 +74,7 @@ module _ (good : List ℕ → Type 0) (c : Config) (n : ℕ) where
     committing = b.committing;
     closing = b.closing;
     made = b.made;
-    grows = record { later = g.later; is = g.is; ascending = g.ascending; up_to = g.up_to; front_rose = g.front_rose; more = g.more; trail = g.trail; reads_limit = g.reads_limit ∙ sym reads; writes_limit = g.writes_limit ∙ sym writes; fenced = g.fenced };
+    grows = record { later = g.later; is = g.is; ascending = g.ascending; up_to = g.up_to; front_rose = g.front_rose; more = g.more; step_trace = g.step_trace; reads_limit = g.reads_limit ∙ sym reads; writes_limit = g.writes_limit ∙ sym writes; fenced = g.fenced };
     gate = b.gate;
     fence = b.fence;
     unfenced = b.unfenced;
@@ -137,8 +137,8 @@ module _ (good : List ℕ → Type 0) (c : Config) (n : ℕ) where
     pub found-gate : Found Gate gate (known_of v o) (known_of t o)
     found-gate = subst (λ (y : View). Found Gate gate (known_of v o) (known_of y o)) (sym (looked-at gate v s t a l)) (first_steps gate, refl, Load, (0, omega arith, refl))
 
-    pub trail-looked : (known_of t o).trail ≡ first_steps gate ++ (known_of v o).trail
-    trail-looked = same (λ y. y.steps.trail)
+    pub step_trace-looked : (known_of t o).step_trace ≡ first_steps gate ++ (known_of v o).step_trace
+    step_trace-looked = same (λ y. y.steps.step_trace)
 
     -- alone, it knew the algorithm
     knew : c.callers ≡ 1 → alg_of gate ≡ v.gate.algorithm
@@ -155,12 +155,12 @@ module _ (good : List ℕ → Type 0) (c : Config) (n : ℕ) where
           closing = ap is_closing i.phase;
           made = q.keeps.made ∙ same (λ y. (known_of y o).made);
           grows = grows-trans (known_of v o) (known_of t o) (known_of w o) grows-looked g;
-          gate = (gate, found-later Gate gate (known_of v o) (known_of t o) (known_of w o) found-gate g.more g.trail, zero, refl);
-          fence = (gate, found-later Gate gate (known_of v o) (known_of t o) (known_of w o) found-gate g.more g.trail, seen);
+          gate = (gate, found-later Gate gate (known_of v o) (known_of t o) (known_of w o) found-gate g.more g.step_trace, zero, refl);
+          fence = (gate, found-later Gate gate (known_of v o) (known_of t o) (known_of w o) found-gate g.more g.step_trace, seen);
           unfenced = λ off. seen ∙ l.1.unfenced off;
           named = i.named;
           sole = knew;
-          start = subst (λ x. Found (start_word (alg_of gate)) x (known_of v o) (known_of w o)) (sym q.is) (found-earlier (start_word (alg_of gate)) start (known_of v o) (known_of t o) (known_of w o) q.found (first_steps gate) trail-looked);
+          start = subst (λ x. Found (start_word (alg_of gate)) x (known_of v o) (known_of w o)) (sym q.is) (found-earlier (start_word (alg_of gate)) start (known_of v o) (known_of t o) (known_of w o) q.found (first_steps gate) step_trace-looked);
           fresh = (let f = q.fresh in let s = q.is in let e : t.history.front ≡ v.history.front = same (λ y. y.history.front) in omega arith);
           log = q.log;
           unmarked = (fresh.2, fresh.3);
@@ -172,13 +172,13 @@ module _ (good : List ℕ → Type 0) (c : Config) (n : ℕ) where
           base = sym b.rises ∙ (q.keeps.rises ∙ same (λ y. y.steps.rises));
           installs = q.keeps.installs ∙ same (λ y. reverse y.steps.installs);
           locked = q.locked;
-          took = λ takes. exchanged-earlier Lock 0 (taken_lock n) (known_of v o) (known_of t o) (known_of w o) (q.took takes) (first_steps gate) trail-looked;
+          took = λ takes. exchanged-earlier Lock 0 (taken_lock n) (known_of v o) (known_of t o) (known_of w o) (q.took takes) (first_steps gate) step_trace-looked;
         }
 
     -- a refusal, after the caller has departed
     module _ (u w : View) (d : Tells (depart n) Nothing u 0 w) where
       wider : (place : At) (x : ℕ) → Found place x (known_of t o) (known_of u o) → Found place x (known_of v o) (known_of w o)
-      wider place x f = found-later place x (known_of v o) (known_of u o) (known_of w o) (found-earlier place x (known_of v o) (known_of t o) (known_of u o) f (first_steps gate) trail-looked) (record { place = Status n; act = Store 0; found = None } ∷ []) (ap (λ (y : View). y.steps.trail) d.2)
+      wider place x f = found-later place x (known_of v o) (known_of u o) (known_of w o) (found-earlier place x (known_of v o) (known_of t o) (known_of u o) f (first_steps gate) step_trace-looked) (record { place = Status n; act = Store 0; found = None } ∷ []) (ap (λ (y : View). y.steps.step_trace) d.2)
 
       pub stays : Waits (alg_of gate) t u → Stays c (known_of v o) (known_of w o)
       stays b = let q = b.keeps o in subst (λ (y : View). Stays c (known_of v o) (known_of y o)) (sym d.2) (record {
@@ -193,7 +193,7 @@ module _ (good : List ℕ → Type 0) (c : Config) (n : ℕ) where
 
       finds-open : holder_of gate ≡ 0 → Waits (alg_of gate) t u → FindsOpen good c n (alg_of gate) (known_of v o) (known_of w o)
       finds-open zero b = let g = (b.keeps o).grows in
-          (gate, found-later Gate gate (known_of v o) (known_of u o) (known_of w o) (found-later Gate gate (known_of v o) (known_of t o) (known_of u o) found-gate g.more g.trail) (record { place = Status n; act = Store 0; found = None } ∷ []) (ap (λ (y : View). y.steps.trail) d.2), zero, refl)
+          (gate, found-later Gate gate (known_of v o) (known_of u o) (known_of w o) (found-later Gate gate (known_of v o) (known_of t o) (known_of u o) found-gate g.more g.step_trace) (record { place = Status n; act = Store 0; found = None } ∷ []) (ap (λ (y : View). y.steps.step_trace) d.2), zero, refl)
 
       held : (alg : Alg) (word : ℕ) → IsHeld good c n alg word (known_of t o) (known_of u o) → IsHeld good c n alg word (known_of v o) (known_of w o)
       held Cgl word h = (wider Lock word h.0, h.1)

@@ -10,11 +10,11 @@ use Rattle.rule_base.specs.declared.views.View.{View}
 use Rattle.rule_base.specs.Own.{Own}
 use Rattle.rule_base.specs.World.{World}
 use Rattle.rule_seq.specs.LockLemmas.{one-taker}
-use Rattle.rule_seq.specs.LockRule.{lock_scene}
+use Rattle.rule_seq.specs.LockRule.{lock_projection}
 use Rattle.stm_rule.specs.Irrevocable.{one-irrevocable}
-use Rattle.stm_rule.specs.Product.{Whole}
+use Rattle.stm_rule.specs.Product.{Invariant}
 use Rattle.stm_gate.specs.Standing.{in-of}
-use Rattle.tx_answers.specs.Known.{known_of, granted_under, locked_under, wrote}
+use Rattle.tx_answers.specs.CallerState.{known_of, granted_under, locked_under, wrote}
 use Rattle.stm_tx.specs.Resting.{IsFixed}
 
 -- by what an attempt is irrevocable: it closed the gate and was granted, it has the lock, or it is TML's writer
@@ -43,7 +43,7 @@ apart OrecEager e f = cc
 apart RingSw e f = cc
 apart Serial e f = cc
 
-module _ (rule : (ℕ → ℕ) → Type 0) (c : Config) (w : World) (g : Whole rule c w) where
+module _ (rule : (ℕ → ℕ) → Type 0) (c : Config) (w : World) (g : Invariant rule c w) where
   holds : (n : ℕ) (own : Own) → IsFixed (known_of (w.views n) own) → Holds (w.views n).gate.algorithm (w.views n)
   holds n own i = holds-by (w.views n).gate.algorithm (w.views n) (wrote (known_of (w.views n) own)) i.irrevocable
       (λ b e closes off. i.locked (λ j. (closes j) && ((e ∙ off) j)))
@@ -74,7 +74,7 @@ module _ (rule : (ℕ → ℕ) → Type 0) (c : Config) (w : World) (g : Whole r
       by (inl a) (inr (inr b)) = by-rule (inl a.1) (inr b)
       by (inr (inr a)) (inl b) = by-rule (inr a) (inl b.1)
       by (inr (inr a)) (inr (inr b)) = by-rule (inr a) (inr b)
-      by (inr (inl a)) (inr (inl b)) = one-taker (lock_scene w) m n g.core.lock a.1 b.1
+      by (inr (inl a)) (inr (inl b)) = one-taker (lock_projection w) m n g.core.lock a.1 b.1
       by (inl a) (inr (inl b)) = absurd (apart (w.views n).gate.algorithm (ap closes_gate (sym one_alg) ∙ a.0) b.0)
       by (inr (inl a)) (inl b) = absurd (apart (w.views m).gate.algorithm (ap closes_gate one_alg ∙ b.0) a.0)
       by (inr (inl a)) (inr (inr b)) = absurd (apart Tml refl (ap takes_lock (sym (one_alg ∙ b.0)) ∙ a.0))

@@ -12,7 +12,7 @@ use Rattle.stm_rule.specs.declared.local.Local.{Local}
 use Rattle.stm_rule.specs.Attempts.{own_of, IsInside, Keeps}
 use Rattle.stm_rule.specs.RecordsKept.{Buffers, HasMarks, IsWriteSet}
 use Rattle.tx_answers.specs.Answers.{IsMarked, Releases}
-use Rattle.tx_answers.specs.Known.{Known, known_of, written_under, is_irrevocable}
+use Rattle.tx_answers.specs.CallerState.{CallerState, known_of, written_under, is_irrevocable}
 use Rattle.stm_gate.specs.Cells.{items-cells}
 use Rattle.stm_gate.specs.Irrevocable.{irrevocable-of}
 use Rattle.stm_gate.specs.KeptLaws.{kept-same}
@@ -138,7 +138,7 @@ module _ (c : Config) (l : Local) (v : View) where
     rises = k.rises;
     limit = k.limit;
   }
-  keeps-marked Tml true ms d m k = record { granted = k.granted; calm = k.calm; holds = k.holds; clear = k.clear; clean = k.clean; dirty = k.dirty; rises = k.rises; limit = k.limit }
+  keeps-marked Tml true ms d m k = record { granted = k.granted; quiescent = k.quiescent; holds = k.holds; clear = k.clear; clean = k.clean; dirty = k.dirty; rises = k.rises; limit = k.limit }
   keeps-marked Tml false ms d m k = record {
     inside = k.inside;
     settled = k.settled;
@@ -150,14 +150,14 @@ module _ (c : Config) (l : Local) (v : View) where
     writer = k.writer;
     clean = k.clean;
     dirty = k.dirty;
-    uncalm = k.uncalm;
+    not_quiescent = k.not_quiescent;
     rises = k.rises;
     limit = k.limit;
     unbuffered = k.unbuffered;
     marked = m;
     sole = k.sole;
   }
-  keeps-marked OrecLazy true ms d m k = record { granted = k.granted; calm = k.calm; holds = k.holds; clear = k.clear; clean = k.clean; dirty = k.dirty; rises = k.rises; limit = k.limit }
+  keeps-marked OrecLazy true ms d m k = record { granted = k.granted; quiescent = k.quiescent; holds = k.holds; clear = k.clear; clean = k.clean; dirty = k.dirty; rises = k.rises; limit = k.limit }
   keeps-marked OrecLazy false ms d m k = record {
     optimistic = k.optimistic;
     buffers = record { wrote = k.buffers.wrote; once = k.buffers.once; inside = k.buffers.inside; small = k.buffers.small; apart = k.buffers.apart };
@@ -184,7 +184,7 @@ module _ (c : Config) (l : Local) (v : View) where
   }
   keeps-marked OrecEager true ms d m k = record {
     granted = k.granted;
-    calm = k.calm;
+    quiescent = k.quiescent;
     holds = k.holds;
     unlocked = k.unlocked;
     unfixed = k.unfixed;
@@ -227,7 +227,7 @@ module _ (c : Config) (l : Local) (v : View) where
     marked = m;
     sole = k.sole;
   }
-  keeps-marked RingSw true ms d m k = record { granted = k.granted; calm = k.calm; holds = k.holds; clear = k.clear; clean = k.clean; dirty = k.dirty; rises = k.rises; limit = k.limit }
+  keeps-marked RingSw true ms d m k = record { granted = k.granted; quiescent = k.quiescent; holds = k.holds; clear = k.clear; clean = k.clean; dirty = k.dirty; rises = k.rises; limit = k.limit }
   keeps-marked RingSw false ms d m k = record {
     optimistic = k.optimistic;
     buffers = record { wrote = k.buffers.wrote; once = k.buffers.once; inside = k.buffers.inside; small = k.buffers.small; apart = k.buffers.apart };
@@ -287,7 +287,7 @@ module _ (good : List ℕ → Type 0) (c : Config) (n : ℕ) (l : Local) (v : Vi
 
   -- what is known with other marks
   known-marked : (ms : Marks) (d : ℕ) → known_of v (own_of (marked c l v ms d)) ≡ record (known_of v (own_of l)) { depth = d; marks = ms }
-  known-marked ms d = λ j. let q : Known = record (known_of v (own_of (marked c l v ms d))) {
+  known-marked ms d = λ j. let q : CallerState = record (known_of v (own_of (marked c l v ms d))) {
     log = record { reads = items v.attempt.reads; writes = written-same v.gate.algorithm v.gate.granted v (own_of l) (own_of (marked c l v ms d)) refl j };
     kept = kept-same v.gate.algorithm v v (own_of l) (own_of (marked c l v ms d)) refl refl refl j;
   } in q

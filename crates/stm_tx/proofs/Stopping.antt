@@ -9,11 +9,11 @@ use Rattle.tx_answers.specs.declared.answers.Read.TheVariants as reads
 use Rattle.tx_answers.specs.declared.answers.Write.{Write}
 use Rattle.tx_answers.specs.declared.answers.Write.TheVariants as writes
 use Rattle.tx_answers.specs.Answers.{HasRead, HasWritten, Stops, Quits}
-use Rattle.tx_answers.specs.Known.{Known}
-use Rattle.tx_answers.specs.KnownLaws.{Carries, carries-refl, carries-quits}
+use Rattle.tx_answers.specs.CallerState.{CallerState}
+use Rattle.tx_answers.specs.CallerStateLaws.{Carries, carries-refl, carries-quits}
 use Rattle.stm_tx.specs.Descs.{as_read, as_write, Since}
 
-module _ (good : List ℕ → Type 0) (c : Config) (n a : ℕ) (v w : Known) where
+module _ (good : List ℕ → Type 0) (c : Config) (n a : ℕ) (v w : CallerState) where
   pub read-stopped : (r : Read) (stop : Stop) → as_read r ≡ Err stop → HasRead good c n a r v w → Stops good c n a stop v w
   read-stopped (reads.Value x) stop e h = absurd cc
   read-stopped (reads.Conflict cause) stop e h = let is : stops.Conflict cause ≡ stop = cc in subst (λ (s : Stop). Stops good c n a s v w) is (h.0, h.1, h.2)
@@ -53,8 +53,8 @@ module _ (good : List ℕ → Type 0) (c : Config) (n a : ℕ) (v w : Known) whe
   pub since-stopped : (stop : Stop) → v.running ≡ true → v.closing ≡ false → Stops good c n a stop v w → Since good c n None v (Some stop) w
   since-stopped stop running closing h = (carries-quits v w running closing (stops-quits stop h), record { before = v; carries = carries-refl v; running = running; address = a; stops = h })
 
-pub since-at : (good : List ℕ → Type 0) (c : Config) (n : ℕ) (p q : Option Stop) (v w : Known) → p ≡ None → Since good c n None v q w → Since good c n p v q w
+pub since-at : (good : List ℕ → Type 0) (c : Config) (n : ℕ) (p q : Option Stop) (v w : CallerState) → p ≡ None → Since good c n None v q w → Since good c n p v q w
 since-at good c n p q v w e h = subst (λ (o : Option Stop). Since good c n o v q w) (sym e) h
 
-pub since-going : (good : List ℕ → Type 0) (c : Config) (n : ℕ) (p : Option Stop) (v w : Known) → p ≡ None → Carries v w → Since good c n p v p w
+pub since-going : (good : List ℕ → Type 0) (c : Config) (n : ℕ) (p : Option Stop) (v w : CallerState) → p ≡ None → Carries v w → Since good c n p v p w
 since-going good c n p v w e h = subst (λ (o : Option Stop). Since good c n o v o w) (sym e) h

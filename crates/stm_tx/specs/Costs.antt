@@ -2,7 +2,7 @@
 use Rattle.std.specs.Prelude.{ℕ, ◌+◌, ◌*◌, ◌≤◌}
 use Rattle.stm_model.specs.declared.alg.Alg.{Alg}
 use Rattle.stm_model.specs.declared.config.Config.{Config}
-use Rattle.tx_answers.specs.Known.{Known}
+use Rattle.tx_answers.specs.CallerState.{CallerState}
 use Rattle.alg_calls.specs.Costs.{Costs, steps_of, costs_under}
 
 -- the same under whichever algorithm
@@ -10,7 +10,7 @@ abbrev pub steps_of_any : ℕ → ℕ → ℕ → ℕ → Costs
 steps_of_any r x n t = record { read = 8 + r + 2 * x + 16 * n; write = 8 + r + 2 * x + 16 * n; commit = 10 + r + 4 * x + 16 * n; cancel = 4 + 2 * x; irrevocable = 8 + t + r + 2 * x + 16 * n }
 
 -- what the calls of a caller's attempt cost
-abbrev pub costs : Config → Known → Costs
+abbrev pub costs : Config → CallerState → Costs
 costs c v = costs_under v.alg c v
 
 abbrev pub IsWithin : Costs → Costs → Type 0

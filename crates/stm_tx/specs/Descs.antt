@@ -19,8 +19,8 @@ use Rattle.stm_model.specs.declared.config.Config.{Config}
 use Rattle.stm_model.specs.declared.stop.Stop.{Stop}
 use Rattle.stm_rule.specs.Callers.{Handle, IsSameCaller}
 use Rattle.tx_answers.specs.Answers.{Stops}
-use Rattle.tx_answers.specs.Known.{Known, known_of, caller_of, written_under}
-use Rattle.tx_answers.specs.KnownLaws.{Carries, carries-refl, carries-trans}
+use Rattle.tx_answers.specs.CallerState.{CallerState, known_of, caller_of, written_under}
+use Rattle.tx_answers.specs.CallerStateLaws.{Carries, carries-refl, carries-trans}
 
 -- the answers of a read and of a write as an access gives them
 abbrev pub as_read : Read → Result ℕ Stop
@@ -35,39 +35,39 @@ as_write (writes.Full limit) = Err (stops.Full limit)
 as_write (writes.ClockFull clock) = Err (stops.ClockFull clock)
 
 module _ {K : Type 0} where
-  abbrev pub known : Handle K → Known
+  abbrev pub known : Handle K → CallerState
   known d = known_of d.view d.own
 
   abbrev pub number : Handle K → ℕ
   number d = caller_of d.who.role
 
 -- each log is as long as it was, or as was asked, if that is more
-abbrev pub Reserves : ℕ → ℕ → Known → Known → Type 0
+abbrev pub Reserves : ℕ → ℕ → CallerState → CallerState → Type 0
 Reserves reads writes v w = (w.reads_limit ≡ max v.reads_limit reads) × (w.writes_limit ≡ max v.writes_limit writes)
 
 module _ (good : List ℕ → Type 0) (c : Config) (n : ℕ) where
   -- an attempt was stopped so: what was known right before the refused call, and the address that it asked for
-  pub record StoppedAt (stop : Stop) (v w : Known) : Type 0 where
-    pub before : Known
+  pub record StoppedAt (stop : Stop) (v w : CallerState) : Type 0 where
+    pub before : CallerState
     pub carries : Carries v before
     pub running : before.running ≡ true
     pub address : ℕ
     pub stops : Stops good c n address stop before w
 
   -- what a caller knows since it knew v: an attempt that goes on carries it; one that was stopped says where; and after that nothing changes
-  abbrev pub Since : Option Stop → Known → Option Stop → Known → Type 0
+  abbrev pub Since : Option Stop → CallerState → Option Stop → CallerState → Type 0
   Since None v None w = Carries v w
   Since None v (Some stop) w = Carries v w × StoppedAt stop v w
   Since (Some stop) v after w = (after ≡ Some stop) × (w ≡ v)
 
-  pub since-refl : (p : Option Stop) (v : Known) → Since p v p v
+  pub since-refl : (p : Option Stop) (v : CallerState) → Since p v p v
   since-refl None v = carries-refl v
   since-refl (Some stop) v = (refl, refl)
 
-  pub since-trans : (p q r : Option Stop) (u v w : Known) → Since p u q v → Since q v r w → Since p u r w
+  pub since-trans : (p q r : Option Stop) (u v w : CallerState) → Since p u q v → Since q v r w → Since p u r w
   since-trans None None None u v w a b = carries-trans u v w a b
   since-trans None None (Some stop) u v w a b = (carries-trans u v w a b.0, record { before = b.1.before; carries = carries-trans u v b.1.before a b.1.carries; running = b.1.running; address = b.1.address; stops = b.1.stops })
-  since-trans None (Some stop) r u v w a b = subst (λ (o : Option Stop). Since None u o w) (sym b.0) (subst (λ (k : Known). Since None u (Some stop) k) (sym b.1) a)
+  since-trans None (Some stop) r u v w a b = subst (λ (o : Option Stop). Since None u o w) (sym b.0) (subst (λ (k : CallerState). Since None u (Some stop) k) (sym b.1) a)
   since-trans (Some stop) q r u v w a b = let c = subst (λ (o : Option Stop). Since o v r w) a.0 b in (c.0, c.1 ∙ a.1)
 
 module _ {K : Type 0} where

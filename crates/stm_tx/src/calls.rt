@@ -8,7 +8,7 @@ ghost use Rattle.std.specs.Prelude.{◌≡◌, ℕ, ◌<◌, ◌≤◌, ◌&&◌
 ghost use Rattle.stm_rule.specs.Callers.{IsOf, IsSameCaller, IsSeatOf};
 ghost use Rattle.stm_rule.specs.Kept.{IsSameSeat, view_of};
 ghost use Rattle.tx_answers.specs.Answers.{Begins, HasRead, HasWritten, KeepsRule, Commits, Cancels, Irrevs};
-ghost use Rattle.tx_answers.specs.Known.{IsIdle, IsRunning, is_irrevocable, state_of};
+ghost use Rattle.tx_answers.specs.CallerState.{IsIdle, IsRunning, is_irrevocable, state_of};
 ghost use Rattle.stm_gate.specs.Starts.{CanBegin, Starts};
 ghost use Rattle.rule_base.specs.Encodings.{fenced};
 ghost use Rattle.stm_tx.specs.Descs.{Reserves, known, number};
@@ -208,12 +208,12 @@ pub fn try_irrevocable<K: MemRule>(desc: &mut Desc<K>, stm: &Stm<K>) -> Irrev
     ensures steps { AddsAtMost (costs stm.now.config (known desc.old)).irrevocable (known desc.old) (known desc.new) }
 {
     match desc.local.algorithm {
-        Alg::Cgl => Cgl::become_irrevocable(desc, stm),
-        Alg::Tml => Tml::become_irrevocable(desc, stm),
-        Alg::Serial => Serial::become_irrevocable(desc, stm),
-        Alg::OrecLazy => OrecLazy::become_irrevocable(desc, stm),
-        Alg::OrecEager => OrecEager::become_irrevocable(desc, stm),
-        Alg::RingSw => RingSw::become_irrevocable(desc, stm),
+        Alg::Cgl => Cgl::try_irrevocable(desc, stm),
+        Alg::Tml => Tml::try_irrevocable(desc, stm),
+        Alg::Serial => Serial::try_irrevocable(desc, stm),
+        Alg::OrecLazy => OrecLazy::try_irrevocable(desc, stm),
+        Alg::OrecEager => OrecEager::try_irrevocable(desc, stm),
+        Alg::RingSw => RingSw::try_irrevocable(desc, stm),
     }
 }
 

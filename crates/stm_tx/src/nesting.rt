@@ -6,7 +6,7 @@ ghost use Rattle.std.specs.Prelude.{◌≡◌, ℕ, ◌≤◌, true, if◌then�
 ghost use Rattle.stm_rule.specs.Callers.{IsOf, IsSameCaller};
 ghost use Rattle.tx_answers.specs.Answers.{Checks, Rolls, Releases};
 ghost use Rattle.tx_answers.specs.Counting.{AddsAtMost};
-ghost use Rattle.tx_answers.specs.Known.{IsRunning};
+ghost use Rattle.tx_answers.specs.CallerState.{IsRunning};
 ghost use Rattle.stm_tx.specs.Descs.{known, number};
 ghost use Rattle.stm_tx.specs.Nesting.{live_marks, RollsToMark};
 

@@ -25,8 +25,8 @@ use Rattle.stm_script.specs.Structures.{list_in, hash_in, tree_in, queue_in, sum
 use Rattle.stm_script.specs.StructureLaws.{chain-insert-wrote, chain-remove-wrote, tree-insert-wrote, tree-remove-wrote}
 use Rattle.stm_script.specs.Scripts.{run, before_cancel, has_cancel, has_irrev}
 use Rattle.stm_script.specs.ScriptLaws.{Gave, GaveOver, GivesOn, ran_one, gives-step, gives-none}
-use Rattle.tx_answers.specs.Known.{Known, is_irrevocable}
-use Rattle.tx_answers.specs.Known as knows
+use Rattle.tx_answers.specs.CallerState.{CallerState, is_irrevocable}
+use Rattle.tx_answers.specs.CallerState as knows
 use Rattle.stm_trace.specs.Places.{writes}
 use Rattle.stm_trace.specs.Turns.{Next}
 use Rattle.stm_worker.specs.Goings.{Going, no_log, no_replies}
@@ -44,7 +44,7 @@ begun-on regions ops m l out log r e = λ j after h. again j after (subst (λ k.
       wrote = h.wrote;
     }
 
-pub going-begun : (good : List ℕ → Type 0) (words : ℕ) (regions : List Region) (script : List Op) (v : Known) (alg : Alg) (out : Output)
+pub going-begun : (good : List ℕ → Type 0) (words : ℕ) (regions : List Region) (script : List Op) (v : CallerState) (alg : Alg) (out : Output)
     → ScriptFits regions words script → ScriptKeeps good words regions script → length script ≤ out.room → out.replies ≡ [] → out.emits ≡ []
     → v.log ≡ no_log → IsExplained good words v.log → v.alg ≡ alg → v.granted ≡ false → Going good words regions script script v alg false out false
 going-begun good words regions script v alg out fits rule room r e log ex named ungranted = record {
@@ -136,7 +136,7 @@ cut-irrev : (op : Op) (rest : List Op) → is_irrev op ≡ false → is_cancel o
 cut-irrev op rest unasked plain = ap has_irrev (cut-plain op rest plain) ∙ ap (λ b. b || has_irrev (before_cancel rest)) unasked
 
 -- whether the attempt has written then
-pub wrote-one : (good : List ℕ → Type 0) (words : ℕ) (regions : List Region) (op : Op) (v w : Known) (out next : Output) (wrote : Bool) (reply : ℕ)
+pub wrote-one : (good : List ℕ → Type 0) (words : ℕ) (regions : List Region) (op : Op) (v w : CallerState) (out next : Output) (wrote : Bool) (reply : ℕ)
     → next ≡ record out { replies = out.replies ++ reply ∷ []; emits = out.emits ++ emits_of op reply } → wrote ≡ knows.wrote v → GaveOver good words (ran_one regions op) v.log out w.log next → IsExplained good words w.log → wrote || writes op reply ≡ knows.wrote w
 wrote-one good words regions op v w out next wrote reply told was gave ex =
     let m = ex.0 in
@@ -146,7 +146,7 @@ wrote-one good words regions op v w out next wrote reply told was gave ex =
     ap (λ b. b || writes op reply) was ∙ sym (here.wrote ∙ ap (λ b. not (is_empty v.log.writes) || b) (one-wrote regions op (overlay m v.log.writes) ∙ ap (writes op) same_reply))
 
 -- an operation that the memory did: it asked for nothing, or what it asked for was granted
-pub going-step : (good : List ℕ → Type 0) (words : ℕ) (regions : List Region) (script : List Op) (op : Op) (rest : List Op) (v w : Known) (alg : Alg) (was granted : Bool) (out next : Output) (wrote : Bool) (reply : ℕ)
+pub going-step : (good : List ℕ → Type 0) (words : ℕ) (regions : List Region) (script : List Op) (op : Op) (rest : List Op) (v w : CallerState) (alg : Alg) (was granted : Bool) (out next : Output) (wrote : Bool) (reply : ℕ)
     → is_cancel op ≡ false → (is_irrevocable w ≡ false → is_irrev op ≡ false) → next ≡ record out { replies = out.replies ++ reply ∷ []; emits = out.emits ++ emits_of op reply } → Going good words regions script (op ∷ rest) v alg was out wrote
     → GaveOver good words (ran_one regions op) v.log out w.log next → IsExplained good words w.log
     → w.alg ≡ v.alg → irrevocable_under alg granted (wrote || writes op reply) ≡ is_irrevocable w → (is_irrevocable v ≡ true → is_irrevocable w ≡ true) → HasRoom next (length rest)
@@ -179,7 +179,7 @@ going-step good words regions script op rest v w alg was granted out next wrote 
     }
 
 -- a cancel that is refused replies 0, and no later one will end the attempt
-pub going-refused : (good : List ℕ → Type 0) (words : ℕ) (regions : List Region) (script rest : List Op) (v : Known) (alg : Alg) (granted : Bool) (out next : Output) (wrote : Bool)
+pub going-refused : (good : List ℕ → Type 0) (words : ℕ) (regions : List Region) (script rest : List Op) (v : CallerState) (alg : Alg) (granted : Bool) (out next : Output) (wrote : Bool)
     → Going good words regions script (Cancel ∷ rest) v alg granted out wrote → is_irrevocable v ≡ true → next ≡ record out { replies = out.replies ++ 0 ∷ [] } → HasRoom next (length rest)
     → Going good words regions script rest v alg granted next wrote
 going-refused good words regions script rest v alg granted out next wrote g irrevocable told room =
@@ -208,7 +208,7 @@ going-refused good words regions script rest v alg granted out next wrote g irre
     }
 
 -- what was asked for by `irrev` is granted, which replies 1
-pub going-asked : (good : List ℕ → Type 0) (words : ℕ) (regions : List Region) (script rest : List Op) (v w : Known) (alg : Alg) (was granted : Bool) (out next : Output) (wrote : Bool)
+pub going-asked : (good : List ℕ → Type 0) (words : ℕ) (regions : List Region) (script rest : List Op) (v w : CallerState) (alg : Alg) (was granted : Bool) (out next : Output) (wrote : Bool)
     → Going good words regions script (Irrev ∷ rest) v alg was out wrote → w.log ≡ v.log → w.alg ≡ v.alg → IsExplained good words w.log → irrevocable_under alg granted wrote ≡ true → is_irrevocable w ≡ true
     → next ≡ record out { replies = out.replies ++ 1 ∷ [] } → HasRoom next (length rest) → Going good words regions script rest w alg granted next wrote
 going-asked good words regions script rest v w alg was granted out next wrote g log same ex irrevocable certain told room =
@@ -237,7 +237,7 @@ going-asked good words regions script rest v w alg was granted out next wrote g 
     }
 
 -- the attempt knows more, and its script is where it was
-pub going-later : (good : List ℕ → Type 0) (words : ℕ) (regions : List Region) (script rest : List Op) (v w : Known) (alg : Alg) (was granted : Bool) (out : Output) (wrote : Bool)
+pub going-later : (good : List ℕ → Type 0) (words : ℕ) (regions : List Region) (script rest : List Op) (v w : CallerState) (alg : Alg) (was granted : Bool) (out : Output) (wrote : Bool)
     → Going good words regions script rest v alg was out wrote → w.log ≡ v.log → w.alg ≡ v.alg → IsExplained good words w.log → irrevocable_under alg granted wrote ≡ is_irrevocable w → (is_irrevocable w ≡ false → is_irrevocable v ≡ false)
     → Going good words regions script rest w alg granted out wrote
 going-later good words regions script rest v w alg was granted out wrote g log same ex irrevocable down = record {
@@ -258,29 +258,29 @@ going-later good words regions script rest v w alg was granted out wrote g log s
 }
 
 -- what is done of the script
-pub gave-first : (good : List ℕ → Type 0) (words : ℕ) (regions : List Region) (script rest : List Op) (v : Known) (alg : Alg) (granted : Bool) (out : Output) (wrote : Bool) (g : Going good words regions script rest v alg granted out wrote)
+pub gave-first : (good : List ℕ → Type 0) (words : ℕ) (regions : List Region) (script rest : List Op) (v : CallerState) (alg : Alg) (granted : Bool) (out : Output) (wrote : Bool) (g : Going good words regions script rest v alg granted out wrote)
     → GaveOver good words (run regions g.first) no_log no_replies v.log out
 gave-first good words regions script rest v alg granted out wrote g = λ m fine len x.
     subst (λ ops. Gave (run regions ops) m no_log no_replies v.log out) (append-nil g.first) (g.on [] m fine len x v.log out (gives-none regions m v.log out x))
 
 -- the script is over
-pub gave-all : (good : List ℕ → Type 0) (words : ℕ) (regions : List Region) (script rest : List Op) (v : Known) (alg : Alg) (granted : Bool) (out : Output) (wrote : Bool)
+pub gave-all : (good : List ℕ → Type 0) (words : ℕ) (regions : List Region) (script rest : List Op) (v : CallerState) (alg : Alg) (granted : Bool) (out : Output) (wrote : Bool)
     → Going good words regions script rest v alg granted out wrote → rest ≡ [] → GaveOver good words (run regions script) no_log no_replies v.log out
 gave-all good words regions script rest v alg granted out wrote g none =
     let whole : g.first ≡ script = sym (append-nil g.first) ∙ (ap (λ ops. g.first ++ ops) (sym none) ∙ sym g.is) in
     subst (λ ops. GaveOver good words (run regions ops) no_log no_replies v.log out) whole (gave-first good words regions script rest v alg granted out wrote g)
 
--- it ends before a cancel, and no irrev is behind it
-pub gave-cut : (good : List ℕ → Type 0) (words : ℕ) (regions : List Region) (script rest : List Op) (v : Known) (alg : Alg) (granted : Bool) (out : Output) (wrote : Bool)
+-- it ends before a cancel, and no irrev is after it
+pub gave-cut : (good : List ℕ → Type 0) (words : ℕ) (regions : List Region) (script rest : List Op) (v : CallerState) (alg : Alg) (granted : Bool) (out : Output) (wrote : Bool)
     → Going good words regions script (Cancel ∷ rest) v alg granted out wrote → is_irrevocable v ≡ false → GaveOver good words (run regions (before_cancel script)) no_log no_replies v.log out
 gave-cut good words regions script rest v alg granted out wrote g off = λ m fine len x. g.cut off m fine len x v.log out (gives-none regions m v.log out x)
 
-pub cut-unasked : (good : List ℕ → Type 0) (words : ℕ) (regions : List Region) (script rest : List Op) (v : Known) (alg : Alg) (granted : Bool) (out : Output) (wrote : Bool)
+pub cut-unasked : (good : List ℕ → Type 0) (words : ℕ) (regions : List Region) (script rest : List Op) (v : CallerState) (alg : Alg) (granted : Bool) (out : Output) (wrote : Bool)
     → Going good words regions script (Cancel ∷ rest) v alg granted out wrote → is_irrevocable v ≡ false → has_irrev (before_cancel script) ≡ false
 cut-unasked good words regions script rest v alg granted out wrote g off = g.unasked off
 
 -- before its next operation each region is well formed in every memory that the attempt may be in
-pub going-well : (good : List ℕ → Type 0) (words : ℕ) (regions : List Region) (script ops : List Op) (op : Op) (v : Known) (alg : Alg) (granted : Bool) (out : Output) (wrote : Bool)
+pub going-well : (good : List ℕ → Type 0) (words : ℕ) (regions : List Region) (script ops : List Op) (op : Op) (v : CallerState) (alg : Alg) (granted : Bool) (out : Output) (wrote : Bool)
     → Next op ops → Going good words regions script ops v alg granted out wrote → Under good words v.log (AllWellFormed regions)
 going-well good words regions script [] op v alg granted out wrote next g = absurd next
 going-well good words regions script (o ∷ rest) op v alg granted out wrote next g = λ m fine len ex.

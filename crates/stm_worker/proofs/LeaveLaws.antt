@@ -16,7 +16,7 @@ use Rattle.stm_script.specs.Reports.{RowFits, counted, scripts_of, script_of, ze
 use Rattle.stm_rule.specs.Callers.{Handle, IsSameCaller}
 use Rattle.stm_rule.specs.declared.stm.Stm.{Stm}
 use Rattle.tx_answers.specs.Answers as answers
-use Rattle.tx_answers.specs.Known.{Known, IsIdle, caller_of, is_irrevocable, owed}
+use Rattle.tx_answers.specs.CallerState.{CallerState, IsIdle, caller_of, is_irrevocable, owed}
 use Rattle.stm_tx.specs.Descs.{known}
 use Rattle.stm_trace.specs.declared.said.Phase.{Phase}
 use Rattle.stm_trace.specs.declared.said.Phase.TheVariants.{Between, Inside, Closing, Quiet}
@@ -77,13 +77,13 @@ reworked good opening regions all items n made seen front rows same h = record {
     row r own lt at = subst (λ s. by_kind r.kind ((e : Entry) × Contains made e × RowOf good (length opening) regions s r e) ((r.place ≤ front) × RowFits regions s r (memory_at r.place seen opening))) (script r own lt) at
 
 -- what stands of the rows when nothing is made
-stands-over : (good : List ℕ → Type 0) (words : ℕ) (regions : List Region) (all : List Item) (n : ℕ) (v w : Known) (rows : List Row) (p : Phase) → w.made ≡ v.made → Grew v.seen v.front w.seen w.front → Stands good words regions all n v rows p → Works good words regions all n w rows
+stands-over : (good : List ℕ → Type 0) (words : ℕ) (regions : List Region) (all : List Item) (n : ℕ) (v w : CallerState) (rows : List Row) (p : Phase) → w.made ≡ v.made → Grew v.seen v.front w.seen w.front → Stands good words regions all n v rows p → Works good words regions all n w rows
 stands-over good words regions all n v w rows Between made grows h = works-later good words regions all n v w rows made grows h
 stands-over good words regions all n v w rows Inside made grows h = works-over good words regions all n v w rows made grows h
 stands-over good words regions all n v w rows Closing made grows h = works-later good words regions all n v w rows made grows h
 stands-over good words regions all n v w rows Quiet made grows h = works-later good words regions all n v w rows made grows h
 
--- the items that are done, and behind them the operations that are
+-- the items that are done, and after them the operations that are
 record DoneNext (n : ℕ) (first left : List Item) (ops : List Op) : Type 0 where
   did : List Item
   begins : BeginsNext first left did

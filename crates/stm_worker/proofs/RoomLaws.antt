@@ -10,7 +10,7 @@ use Rattle.stm_model.specs.declared.alg.Alg.{Alg}
 use Rattle.stm_script.specs.declared.report.Row.{Row}
 use Rattle.stm_trace.specs.Adapting.{no_profile}
 use Rattle.stm_trace.specs.declared.said.Phase.TheVariants.{Between}
-use Rattle.stm_trace.specs.Places.{Place, script_at, rest_of}
+use Rattle.stm_trace.specs.Places.{CallerProgress, script_at, rest_of}
 use Rattle.stm_trace.specs.Turns.{BeforeTx}
 use Rattle.stm_worker.specs.Workers.{cleared, blank, spares}
 
@@ -32,7 +32,7 @@ tx-spares (Tx caller script ∷ items) b = refl
 tx-spares (Switch caller alg ∷ items) b = absurd b
 tx-spares (Reserve caller reads writes ∷ items) b = absurd b
 
--- what is in use has the room of the next script, and what is spare that of those behind it
+-- what is in use has the room of the next script, and what is spare that of those after it
 pub spare-next : (left : List Item) (spare : List Output) (out : Output) → BeforeTx left → spare ++ cleared out ∷ [] ≡ spares left → (spare ≡ spares (rest_of left)) × (cleared out ≡ blank (length (script_at left)))
 spare-next left spare out b h = last-same spare (spares (rest_of left)) (cleared out) (blank (length (script_at left))) (h ∙ tx-spares left b)
 
@@ -46,7 +46,7 @@ some-spare (Tx caller script ∷ items) = let l = length-append (spares items) (
 some-spare (Switch caller alg ∷ items) = some-spare items
 some-spare (Reserve caller reads writes ∷ items) = some-spare items
 
--- so there is room behind an open transaction
+-- so there is room after an open transaction
 pub room-left : (left : List Item) (spare : List Output) (out : Output) → BeforeTx left → spare ++ cleared out ∷ [] ≡ spares left → 0 < length spare
 room-left left spare out b h = subst (λ l. 0 < length l) (sym (spare-next left spare out b h).0) (some-spare (rest_of left))
 
@@ -67,7 +67,7 @@ room-ended left spare less out fresh b h was =
 pub one-less : {A : Type 0} (xs ys : List A) (x : A) → xs ≡ ys ++ x ∷ [] → length xs ≡ length ys + 1
 one-less xs ys x e = ap length e ∙ length-append ys (x ∷ [])
 
-abbrev first_at : ℕ → List Item → Alg → Policy → ℕ → ℕ → Place
+abbrev first_at : ℕ → List Item → Alg → Policy → ℕ → ℕ → CallerProgress
 first_at n items alg policy reads writes = record { caller = n; left = items; failed = 0; must = false; phase = Between; alg = alg; rest = []; replies = []; emits = []; wrote = false; granted = false; rows = []; policy = policy; profile = no_profile; chosen = None; reads_limit = reads; writes_limit = writes }
 
 -- a worker's place at first, where what is in use is empty

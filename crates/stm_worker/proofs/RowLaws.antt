@@ -18,7 +18,7 @@ use Rattle.stm_script.specs.Reports.{RowFits, scripts_of, script_of, zeros}
 use Rattle.stm_script.specs.Scripts.{run, run_row, before_cancel, has_cancel, has_irrev}
 use Rattle.stm_script.specs.ScriptLaws.{GaveOver}
 use Rattle.stm_model.specs.declared.config.Config.{Config}
-use Rattle.tx_answers.specs.Known.{Known}
+use Rattle.tx_answers.specs.CallerState.{CallerState}
 use Rattle.stm_worker.proofs.Calls.{CommitsAt, QuitsAt}
 use Rattle.stm_worker.specs.Goings.{no_log, no_replies}
 use Rattle.stm_worker.specs.Workers.{Works, WorksSince}
@@ -35,7 +35,7 @@ wrote-some b c e h = sym h ∙ ap not e
 abbrev pub row_of : Kind → ℕ → ℕ → ℕ → Output → Row
 row_of kind time n seq out = record { kind = kind; place = time; caller = n; seq = seq; replies = out.replies; emits = out.emits }
 
-module _ (good : List ℕ → Type 0) (regions : List Region) (all : List Item) (config : Config) (n : ℕ) (v w : Known) (rows : List Row) (script : List Op) (out : Output)
+module _ (good : List ℕ → Type 0) (regions : List Region) (all : List Item) (config : Config) (n : ℕ) (v w : CallerState) (rows : List Row) (script : List Op) (out : Output)
     (is : slice_index_or (scripts_of n all) (length rows) [] ≡ script) (h : WorksSince good config.words regions all n v rows) where
   pub row-wrote : (t : ℕ) → GaveOver good config.words (run regions script) no_log no_replies v.log out → CommitsAt t v w
       → Works good config.words regions all n w (rows ++ row_of W t n (length rows) out ∷ [])

@@ -18,7 +18,7 @@ use Rattle.stm_script.specs.Parts.{Worked}
 use Rattle.stm_script.specs.Reports.{scripts_of, script_of, zeros}
 use Rattle.stm_rule.specs.Callers.{Handle, IsSameCaller}
 use Rattle.tx_answers.specs.Answers.{HoldsClosed}
-use Rattle.tx_answers.specs.Known.{Known, caller_of}
+use Rattle.tx_answers.specs.CallerState.{CallerState, caller_of}
 use Rattle.stm_trace.specs.declared.said.Phase.{Phase}
 use Rattle.stm_trace.specs.declared.said.Phase.TheVariants.{Between, Inside, Closing, Quiet}
 use Rattle.stm_trace.specs.Places.{script_at, rest_of}
@@ -142,11 +142,11 @@ cleared-told o p rs e = ap cleared e
 pub cleared-more : (o p : Output) (rs es : List ℕ) → p ≡ record o { replies = rs; emits = es } → cleared p ≡ cleared o
 cleared-more o p rs es e = ap cleared e
 
-pub works-later : (good : List ℕ → Type 0) (words : ℕ) (regions : List Region) (all : List Item) (n : ℕ) (v w : Known) (rows : List Row) → w.made ≡ v.made → Grew v.seen v.front w.seen w.front → Works good words regions all n v rows → Works good words regions all n w rows
+pub works-later : (good : List ℕ → Type 0) (words : ℕ) (regions : List Region) (all : List Item) (n : ℕ) (v w : CallerState) (rows : List Row) → w.made ≡ v.made → Grew v.seen v.front w.seen w.front → Works good words regions all n v rows → Works good words regions all n w rows
 works-later good words regions all n v w rows made grows h =
     subst (λ m. Worked good (zeros words) regions (script_of all) n m w.seen w.front rows) (sym made) (worked-grows good (zeros words) regions (script_of all) n v.made v.seen v.front w.seen w.front rows grows h)
 
-pub since-later : (good : List ℕ → Type 0) (words : ℕ) (regions : List Region) (all : List Item) (n : ℕ) (v w : Known) (rows : List Row) → w.made ≡ v.made → Grew v.seen v.front w.seen w.front → v.start ≤ w.start → WorksSince good words regions all n v rows → WorksSince good words regions all n w rows
+pub since-later : (good : List ℕ → Type 0) (words : ℕ) (regions : List Region) (all : List Item) (n : ℕ) (v w : CallerState) (rows : List Row) → w.made ≡ v.made → Grew v.seen v.front w.seen w.front → v.start ≤ w.start → WorksSince good words regions all n v rows → WorksSince good words regions all n w rows
 since-later good words regions all n v w rows made grows start h = record {
   seen = h.seen;
   front = h.front;
@@ -155,7 +155,7 @@ since-later good words regions all n v w rows made grows start h = record {
   fresh = (let f = h.fresh in omega arith);
 }
 
-pub since-begin : (good : List ℕ → Type 0) (words : ℕ) (regions : List Region) (all : List Item) (n : ℕ) (v w : Known) (rows : List Row) → w.made ≡ v.made → Grew v.seen v.front w.seen w.front → v.front ≤ w.start → Works good words regions all n v rows → WorksSince good words regions all n w rows
+pub since-begin : (good : List ℕ → Type 0) (words : ℕ) (regions : List Region) (all : List Item) (n : ℕ) (v w : CallerState) (rows : List Row) → w.made ≡ v.made → Grew v.seen v.front w.seen w.front → v.front ≤ w.start → Works good words regions all n v rows → WorksSince good words regions all n w rows
 since-begin good words regions all n v w rows made grows fresh h = record {
   seen = v.seen;
   front = v.front;
@@ -184,7 +184,7 @@ pub rest-closed : (p : Phase) → (p ≡ Closing) ⊎ (p ≡ Quiet) → Rest p
 rest-closed p (inl e) = rest-closing p e
 rest-closed p (inr e) = rest-quiet p e
 
-pub at-closed : (good : List ℕ → Type 0) (c : Config) (n : ℕ) (p : Phase) (v : Known) → (p ≡ Closing) ⊎ (p ≡ Quiet) → IsAt good c n p v → HoldsClosed v
+pub at-closed : (good : List ℕ → Type 0) (c : Config) (n : ℕ) (p : Phase) (v : CallerState) → (p ≡ Closing) ⊎ (p ≡ Quiet) → IsAt good c n p v → HoldsClosed v
 at-closed good c n p v (inl e) h = subst (λ q. IsAt good c n q v) e h
 at-closed good c n p v (inr e) h = (subst (λ q. IsAt good c n q v) e h).0
 
@@ -194,13 +194,13 @@ when-rest Inside r P = absurd r
 when-rest Closing r P = tt
 when-rest Quiet r P = tt
 
-pub rest-runs : (good : List ℕ → Type 0) (c : Config) (n : ℕ) (p : Phase) (v : Known) → Rest p → IsAt good c n p v → v.running ≡ false
+pub rest-runs : (good : List ℕ → Type 0) (c : Config) (n : ℕ) (p : Phase) (v : CallerState) → Rest p → IsAt good c n p v → v.running ≡ false
 rest-runs good c n Between v r h = h.1
 rest-runs good c n Inside v r h = absurd r
 rest-runs good c n Closing v r h = h.running
 rest-runs good c n Quiet v r h = h.0.running
 
-module _ (good : List ℕ → Type 0) (words : ℕ) (regions : List Region) (all : List Item) (n : ℕ) (v : Known) (rows : List Row) where
+module _ (good : List ℕ → Type 0) (words : ℕ) (regions : List Region) (all : List Item) (n : ℕ) (v : CallerState) (rows : List Row) where
   pub rest-stands : (p : Phase) → Rest p → Stands good words regions all n v rows p → Works good words regions all n v rows
   rest-stands Between r h = h
   rest-stands Inside r h = absurd r
@@ -214,7 +214,7 @@ module _ (good : List ℕ → Type 0) (words : ℕ) (regions : List Region) (all
   stands-rest Quiet r h = h
 
 -- an attempt that is over has left what was seen before and during it
-pub works-over : (good : List ℕ → Type 0) (words : ℕ) (regions : List Region) (all : List Item) (n : ℕ) (v w : Known) (rows : List Row) → w.made ≡ v.made → Grew v.seen v.front w.seen w.front → WorksSince good words regions all n v rows → Works good words regions all n w rows
+pub works-over : (good : List ℕ → Type 0) (words : ℕ) (regions : List Region) (all : List Item) (n : ℕ) (v w : CallerState) (rows : List Row) → w.made ≡ v.made → Grew v.seen v.front w.seen w.front → WorksSince good words regions all n v rows → Works good words regions all n w rows
 works-over good words regions all n v w rows made grows h =
     subst (λ m. Worked good (zeros words) regions (script_of all) n m w.seen w.front rows) (sym made)
     (worked-grows good (zeros words) regions (script_of all) n v.made h.seen h.front w.seen w.front rows (grew-trans h.seen h.front v.seen v.front w.seen w.front h.grew grows) h.works)

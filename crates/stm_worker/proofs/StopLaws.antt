@@ -8,7 +8,7 @@ use Rattle.stm_model.specs.declared.stop.Stop.TheVariants as stops
 use Rattle.stm_script.specs.declared.op.Op.{Op}
 use Rattle.stm_script.specs.declared.op.Op.TheVariants as ops
 use Rattle.stm_script.specs.Operations.{OnlyReads}
-use Rattle.tx_answers.specs.Known.{Known}
+use Rattle.tx_answers.specs.CallerState.{CallerState}
 use Rattle.stm_tx.specs.Descs.{Since}
 use Rattle.stm_trace.specs.Places.{may_write}
 use Rattle.stm_worker.specs.Tellings.{StoppedBy}
@@ -43,7 +43,7 @@ only-writers (ops.MapGet r key) clock h = absurd (h tt)
 only-writers (ops.MapSum r lo hi) clock h = absurd (h tt)
 
 -- an operation that an access stopped
-pub stopped-by : (good : List ℕ → Type 0) (c : Config) (n : ℕ) (op : Op) (result : Result ℕ Stop) (stopped : Option Stop) (v w : Known)
+pub stopped-by : (good : List ℕ → Type 0) (c : Config) (n : ℕ) (op : Op) (result : Result ℕ Stop) (stopped : Option Stop) (v w : CallerState)
     → IfErr result (λ stop. stopped ≡ Some stop) → Since good c n None v stopped w → (OnlyReads op → IfErr result IsReadStop) → IfErr result (λ stop. StoppedBy good c n op stop v w)
 stopped-by good c n op (Ok r) stopped v w is since cause = tt
 stopped-by good c n op (Err stop) stopped v w is since cause =

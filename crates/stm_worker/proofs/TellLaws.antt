@@ -15,12 +15,12 @@ use Rattle.stm_script.specs.declared.workload.Header.{Header}
 use Rattle.stm_trace.specs.declared.said.Said.{Said}
 use Rattle.stm_trace.specs.declared.said.Said.TheVariants.{TryBegin, Reply, Stopped, TryCancel, TryIrrevocable, TryCommit, TryClose, Looked, Installed, Reserved, Idle, Dropped, Reopened}
 use Rattle.stm_trace.specs.FairLaws.{IsPlaceOf, fair-begin, fair-close, fair-look, fair-cancel, fair-irrevocable, fair-commit, fair-stop}
-use Rattle.stm_trace.specs.Places.{Place, clock_of}
+use Rattle.stm_trace.specs.Places.{CallerProgress, clock_of}
 use Rattle.stm_trace.specs.Turns.{HasSizes, IsFair}
 use Rattle.tx_answers.specs.Answers.{Stays, Quits, Ends, Stops}
 use Rattle.tx_answers.specs.Causes.{FindsFull}
-use Rattle.tx_answers.specs.Known.{Known, is_irrevocable, owed, has_written}
-use Rattle.tx_answers.specs.KnownLaws.{Carries}
+use Rattle.tx_answers.specs.CallerState.{CallerState, is_irrevocable, owed, has_written}
+use Rattle.tx_answers.specs.CallerStateLaws.{Carries}
 use Rattle.tx_answers.specs.declared.answers.Begin.TheVariants as begins
 use Rattle.tx_answers.specs.declared.answers.Cancel.TheVariants as cancels
 use Rattle.tx_answers.specs.declared.answers.CloseGate.TheVariants as closes
@@ -31,14 +31,14 @@ use Rattle.stm_worker.specs.Tellings.{Tells}
 use Rattle.stm_worker.specs.Courses.{Knows, installed}
 use Rattle.stm_worker.specs.Workers.{Loaded}
 
-pub owed-in : (v : Known) → v.running ≡ true → owed v ≡ v.base + 2
+pub owed-in : (v : CallerState) → v.running ≡ true → owed v ≡ v.base + 2
 owed-in v e = ap (λ b. if b then v.base + 2 else v.rises) e
 
-pub owed-out : (v : Known) → v.running ≡ false → owed v ≡ v.rises
+pub owed-out : (v : CallerState) → v.running ≡ false → owed v ≡ v.rises
 owed-out v e = ap (λ b. if b then v.base + 2 else v.rises) e
 
 -- whether an attempt is open where it may be said
-abbrev pub Asks : Said → Known → Type 0
+abbrev pub Asks : Said → CallerState → Type 0
 Asks (TryBegin b) v = v.running ≡ false
 Asks (Reply op reply) v = v.running ≡ true
 Asks (Stopped op stop) v = v.running ≡ true
@@ -53,36 +53,36 @@ Asks Idle v = Unit {0}
 Asks Dropped v = v.running ≡ true
 Asks Reopened v = v.running ≡ false
 
-stays-owed : (c : Config) (v w : Known) → v.running ≡ false → Stays c v w → owed w ≤ owed v + 2
+stays-owed : (c : Config) (v w : CallerState) → v.running ≡ false → Stays c v w → owed w ≤ owed v + 2
 stays-owed c v w out h = let a = owed-out v out in let b = owed-out w h.idle.1 in let r = h.rises in omega arith
 
-pub quits-owed : (v w : Known) → v.running ≡ true → Quits v w → owed w ≤ owed v
+pub quits-owed : (v w : CallerState) → v.running ≡ true → Quits v w → owed w ≤ owed v
 quits-owed v w inside h = let a = owed-in v inside in let b = owed-out w h.ends.idle.1 in let r = h.rises.1 in let l = quit-low v.alg (has_written v) in omega arith
 
-ends-owed : (v w : Known) (by : ℕ) → v.running ≡ true → Ends v w → w.rises ≤ v.base + by → by ≤ 2 → owed w ≤ owed v + 2
+ends-owed : (v w : CallerState) (by : ℕ) → v.running ≡ true → Ends v w → w.rises ≤ v.base + by → by ≤ 2 → owed w ≤ owed v + 2
 ends-owed v w by inside h r l = let a = owed-in v inside in let b = owed-out w h.idle.1 in omega arith
 
-goes-owed : (v w : Known) → v.running ≡ true → w.running ≡ true → w.base ≡ v.base → owed w ≤ owed v + 2
+goes-owed : (v w : CallerState) → v.running ≡ true → w.running ≡ true → w.base ≡ v.base → owed w ≤ owed v + 2
 goes-owed v w inside still base = let a = owed-in v inside in let b = owed-in w still in omega arith
 
 le-two : (a b : ℕ) → a ≤ b → a ≤ b + 2
 le-two a b h = omega (arith, h)
 
-loaded : (clock : ℕ) (v w : Known) → FindsFull clock v w → (2 ^ 62 ≤ clock) × Loaded w clock
+loaded : (clock : ℕ) (v w : CallerState) → FindsFull clock v w → (2 ^ 62 ≤ clock) × Loaded w clock
 loaded clock v w h =
     let f = h.found in
-    (h.limit, (f.2, subst (λ t. Contains t (record { place = Clock; act = f.2; found = Some clock })) (sym f.1) (Contains-append_left f.0 v.trail (record { place = Clock; act = f.2; found = Some clock }) f.3)))
+    (h.limit, (f.2, subst (λ t. Contains t (record { place = Clock; act = f.2; found = Some clock })) (sym f.1) (Contains-append_left f.0 v.step_trace (record { place = Clock; act = f.2; found = Some clock }) f.3)))
 
 none : (xs ys : List Alg) → xs ≡ ys → xs ≡ ys ++ []
 none xs ys e = e ∙ sym (append-nil ys)
 
 module _ (good : List ℕ → Type 0) (c : Config) (n : ℕ) where
-  pub stops-quits : (a : ℕ) (stop : Stop) (v w : Known) → Stops good c n a stop v w → Quits v w
+  pub stops-quits : (a : ℕ) (stop : Stop) (v w : CallerState) → Stops good c n a stop v w → Quits v w
   stops-quits a (stops.Conflict cause) v w t = t.0
   stops-quits a (stops.Full limit) v w t = t.0
   stops-quits a (stops.ClockFull clock) v w t = t.0
 
-  pub tells-owed : (said : Said) (v w : Known) → Asks said v → Tells good c n said v w → owed w ≤ owed v + 2
+  pub tells-owed : (said : Said) (v w : CallerState) → Asks said v → Tells good c n said v w → owed w ≤ owed v + 2
   tells-owed (TryBegin (begins.Begun alg)) v w out t = let a = owed-out v out in let b = owed-in w t.running in let r = t.base in omega arith
   tells-owed (TryBegin (begins.Closed gate)) v w out t = stays-owed c v w out t.0
   tells-owed (TryBegin (begins.Held word)) v w out t = stays-owed c v w out t.0
@@ -111,12 +111,12 @@ module _ (good : List ℕ → Type 0) (c : Config) (n : ℕ) where
   tells-owed (Installed alg) v w out t =
       let a = owed-out v out in let b = owed-out w t.2.idle.1 in let r = t.2.rises in let i = t.1.rises.1 in let l = install-low alg in omega arith
   tells-owed (Reserved reads writes) v w out t =
-      let a = owed-out v out in let b = owed-out w (ap (λ (k : Known). k.running) t.1 ∙ out) in let r : w.rises ≡ v.rises = ap (λ (k : Known). k.rises) t.1 in omega arith
+      let a = owed-out v out in let b = owed-out w (ap (λ (k : CallerState). k.running) t.1 ∙ out) in let r : w.rises ≡ v.rises = ap (λ (k : CallerState). k.rises) t.1 in omega arith
   tells-owed Idle v w any t = (let e : owed w ≡ owed v = ap owed t in omega (arith, e))
   tells-owed Dropped v w inside t = let x = t.1 in ends-owed v w (quit_rise v.alg (has_written v)) inside x.0.ends x.2 (let l = quit-low v.alg (has_written v) in omega arith)
   tells-owed Reopened v w out t = stays-owed c v w out t
 
-  pub tells-found : (said : Said) (v w : Known) → Tells good c n said v w → MatchOption (clock_of said) (Unit {0}) (λ clock. (2 ^ 62 ≤ clock) × Loaded w clock)
+  pub tells-found : (said : Said) (v w : CallerState) → Tells good c n said v w → MatchOption (clock_of said) (Unit {0}) (λ clock. (2 ^ 62 ≤ clock) × Loaded w clock)
   tells-found (TryBegin (begins.Begun alg)) v w t = tt
   tells-found (TryBegin (begins.Closed gate)) v w t = tt
   tells-found (TryBegin (begins.Held word)) v w t = tt
@@ -144,7 +144,7 @@ module _ (good : List ℕ → Type 0) (c : Config) (n : ℕ) where
   tells-found Dropped v w t = tt
   tells-found Reopened v w t = tt
 
-  pub tells-installs : (said : Said) (v w : Known) → Tells good c n said v w → w.installs ≡ v.installs ++ installed said
+  pub tells-installs : (said : Said) (v w : CallerState) → Tells good c n said v w → w.installs ≡ v.installs ++ installed said
   tells-installs (TryBegin (begins.Begun alg)) v w t = none w.installs v.installs t.installs
   tells-installs (TryBegin (begins.Closed gate)) v w t = none w.installs v.installs t.0.installs
   tells-installs (TryBegin (begins.Held word)) v w t = none w.installs v.installs t.0.installs
@@ -152,7 +152,7 @@ module _ (good : List ℕ → Type 0) (c : Config) (n : ℕ) where
   tells-installs (Reply op reply) v w t = none w.installs v.installs t.0.installs
   tells-installs (Stopped op stop) v w t = none w.installs v.installs ((stops-quits t.address stop t.before w t.stops).ends.installs ∙ t.carries.installs)
   tells-installs (TryCancel (cancels.Cancelled time)) v w t = none w.installs v.installs t.0.ends.installs
-  tells-installs (TryCancel cancels.Irrevocable) v w t = none w.installs v.installs (ap (λ (k : Known). k.installs) t.0)
+  tells-installs (TryCancel cancels.Irrevocable) v w t = none w.installs v.installs (ap (λ (k : CallerState). k.installs) t.0)
   tells-installs (TryIrrevocable irrevs.Granted) v w t = none w.installs v.installs t.continues.installs
   tells-installs (TryIrrevocable (irrevs.Busy caller status)) v w t = none w.installs v.installs t.0.continues.installs
   tells-installs (TryIrrevocable (irrevs.Taken gate)) v w t = none w.installs v.installs (t.2.1.0.ends.installs ∙ t.1.0.continues.installs)
@@ -168,13 +168,13 @@ module _ (good : List ℕ → Type 0) (c : Config) (n : ℕ) where
   tells-installs (Looked looks.Quiet) v w t = none w.installs v.installs t.0.installs
   tells-installs (Looked (looks.Busy caller status)) v w t = none w.installs v.installs t.0.installs
   tells-installs (Installed alg) v w t = t.2.installs ∙ t.1.installs
-  tells-installs (Reserved reads writes) v w t = none w.installs v.installs (ap (λ (k : Known). k.installs) t.1)
-  tells-installs Idle v w t = none w.installs v.installs (ap (λ (k : Known). k.installs) t)
+  tells-installs (Reserved reads writes) v w t = none w.installs v.installs (ap (λ (k : CallerState). k.installs) t.1)
+  tells-installs Idle v w t = none w.installs v.installs (ap (λ (k : CallerState). k.installs) t)
   tells-installs Dropped v w t = none w.installs v.installs t.1.0.ends.installs
   tells-installs Reopened v w t = none w.installs v.installs t.installs
 
-  -- who is alone begins under what it knows, and knows behind a turn what it installed in it, or what it knew
-  pub tells-knows : (said : Said) (v w : Known) → c.callers ≡ 1 → Tells good c n said v w → Knows v.alg (said ∷ []) w.alg
+  -- who is alone begins under what it knows, and knows after a turn what it installed in it, or what it knew
+  pub tells-knows : (said : Said) (v w : CallerState) → c.callers ≡ 1 → Tells good c n said v w → Knows v.alg (said ∷ []) w.alg
   tells-knows (TryBegin (begins.Begun alg)) v w one t = (t.sole one, t.named ∙ t.sole one)
   tells-knows (TryBegin (begins.Closed gate)) v w one t = (tt, t.0.sole one)
   tells-knows (TryBegin (begins.Held word)) v w one t = (tt, t.0.sole one)
@@ -182,7 +182,7 @@ module _ (good : List ℕ → Type 0) (c : Config) (n : ℕ) where
   tells-knows (Reply op reply) v w one t = (tt, t.0.alg)
   tells-knows (Stopped op stop) v w one t = (tt, (stops-quits t.address stop t.before w t.stops).ends.alg ∙ t.carries.alg)
   tells-knows (TryCancel (cancels.Cancelled time)) v w one t = (tt, t.0.ends.alg)
-  tells-knows (TryCancel cancels.Irrevocable) v w one t = (tt, ap (λ (k : Known). k.alg) t.0)
+  tells-knows (TryCancel cancels.Irrevocable) v w one t = (tt, ap (λ (k : CallerState). k.alg) t.0)
   tells-knows (TryIrrevocable irrevs.Granted) v w one t = (tt, t.continues.alg)
   tells-knows (TryIrrevocable (irrevs.Busy caller status)) v w one t = (tt, t.0.continues.alg)
   tells-knows (TryIrrevocable (irrevs.Taken gate)) v w one t = (tt, t.2.1.0.ends.alg ∙ t.1.0.continues.alg)
@@ -198,21 +198,21 @@ module _ (good : List ℕ → Type 0) (c : Config) (n : ℕ) where
   tells-knows (Looked looks.Quiet) v w one t = (tt, t.0.alg)
   tells-knows (Looked (looks.Busy caller status)) v w one t = (tt, t.0.alg)
   tells-knows (Installed alg) v w one t = (tt, t.2.sole one ∙ t.1.named)
-  tells-knows (Reserved reads writes) v w one t = (tt, ap (λ (k : Known). k.alg) t.1)
-  tells-knows Idle v w one t = (tt, ap (λ (k : Known). k.alg) t)
+  tells-knows (Reserved reads writes) v w one t = (tt, ap (λ (k : CallerState). k.alg) t.1)
+  tells-knows Idle v w one t = (tt, ap (λ (k : CallerState). k.alg) t)
   tells-knows Dropped v w one t = (tt, t.1.0.ends.alg)
   tells-knows Reopened v w one t = (tt, t.sole one)
 
   -- the place is that of what the caller knows
-  module _ (h : Header) (at : Place) (ranges : IsConfig c) (sizes : HasSizes c h) (caller : at.caller ≡ n) where
-    not-irrevocable : (v : Known) (u : Known) → v.running ≡ true → Carries v u → is_irrevocable u ≡ false → is_irrevocable v ≡ false
+  module _ (h : Header) (at : CallerProgress) (ranges : IsConfig c) (sizes : HasSizes c h) (caller : at.caller ≡ n) where
+    not-irrevocable : (v : CallerState) (u : CallerState) → v.running ≡ true → Carries v u → is_irrevocable u ≡ false → is_irrevocable v ≡ false
     not-irrevocable v u inside k off = by (is_irrevocable v) refl
       where
         by : (b : Bool) → is_irrevocable v ≡ b → b ≡ false
         by true e = absurd (let t : true ≡ false = sym (k.irrevocable inside e).1 ∙ off in cc)
         by false e = refl
 
-    pub tells-fair : (said : Said) (v w : Known) → Asks said v → (v.running ≡ true → IsPlaceOf v at) → (v.reads_limit ≡ at.reads_limit) × (v.writes_limit ≡ at.writes_limit) → Tells good c n said v w → IsFair h at said
+    pub tells-fair : (said : Said) (v w : CallerState) → Asks said v → (v.running ≡ true → IsPlaceOf v at) → (v.reads_limit ≡ at.reads_limit) × (v.writes_limit ≡ at.writes_limit) → Tells good c n said v w → IsFair h at said
     tells-fair (TryBegin b) v w out is lengths t = fair-begin good c n h at ranges sizes caller b v w t
     tells-fair (Reply op reply) v w inside is lengths t = tt
     tells-fair (Stopped op stop) v w inside is lengths t =

@@ -33,9 +33,9 @@ use Rattle.rule_base.specs.declared.views.View.{View}
 use Rattle.tx_answers.specs.Answers.{BeginsAt, Continues, HoldsClosed, Quits, Stays}
 use Rattle.tx_answers.specs.Answers as answers
 use Rattle.tx_answers.specs.Causes.Asked.{ToCommit}
-use Rattle.tx_answers.specs.Known.{Known, Grows, IsIdle, IsUnrolled, IsRunning, caller_of, is_irrevocable, known_of}
-use Rattle.tx_answers.specs.Known as knows
-use Rattle.tx_answers.specs.KnownLaws.{Carries, IsStillIn, grows-same, grows-trans}
+use Rattle.tx_answers.specs.CallerState.{CallerState, Grows, IsIdle, IsUnrolled, IsRunning, caller_of, is_irrevocable, known_of}
+use Rattle.tx_answers.specs.CallerState as knows
+use Rattle.tx_answers.specs.CallerStateLaws.{Carries, IsStillIn, grows-same, grows-trans}
 use Rattle.tx_answers.specs.declared.answers.Begin.TheVariants.{Begun}
 use Rattle.tx_answers.specs.declared.answers.Cancel.TheVariants.{Cancelled, Irrevocable}
 use Rattle.tx_answers.specs.declared.answers.Commit.TheVariants.{Committed, ReadOnly, Again}
@@ -47,7 +47,7 @@ use Rattle.stm_trace.specs.declared.said.Phase.TheVariants.{Between, Inside, Clo
 use Rattle.stm_trace.specs.declared.said.Said.{Said}
 use Rattle.stm_trace.specs.declared.said.Said.TheVariants.{TryBegin, Reply, Stopped, TryCancel, TryIrrevocable, TryCommit, TryClose, Looked, Installed, Reserved, Idle, Dropped, Reopened}
 use Rattle.stm_trace.specs.FairLaws.{IsPlaceOf}
-use Rattle.stm_trace.specs.Places.{Place, script_at, rest_of, ended, after, failed_next, granted_at, is_forced, must_next, most_failed, irrevocable, writes}
+use Rattle.stm_trace.specs.Places.{CallerProgress, script_at, rest_of, ended, after, failed_next, granted_at, is_forced, must_next, most_failed, irrevocable, writes}
 use Rattle.stm_trace.specs.Places as places
 use Rattle.stm_trace.specs.Turns.{BeforeTx, Comes, HasSizes, IsFair, Lengthens, MaySay, MayWind, MustSwitchTo, Next, SwitchesTo, is_call}
 use Rattle.stm_worker.specs.declared.worker.Worker.{Worker}
@@ -63,11 +63,11 @@ use Rattle.stm_worker.proofs.RowLaws.{row-wrote, row-read, row-cancelled, row_of
 use Rattle.stm_worker.proofs.StandLaws.{callers-same, cleared-more, cleared-told, did-first, drop-head, drop-more, few-emits, head-fits, next-is, rest-between, rest-closed, rest-fits, rest-quiet, rest-runs, rest-stands, Rest, reserve-left, room-next, room-told, since-begin, since-later, stands-rest, switch-left, at-closed, tx-scripts, when-rest, works-later, works-over}
 use Rattle.stm_worker.proofs.TellLaws.{Asks, stops-quits, tells-fair, tells-found, tells-installs, tells-knows, tells-owed}
 
-began-at : (at : Place) (ops : List Op) (o : Output) (alg : Alg) → ops ≡ script_at at.left → o.replies ≡ [] → o.emits ≡ []
+began-at : (at : CallerProgress) (ops : List Op) (o : Output) (alg : Alg) → ops ≡ script_at at.left → o.replies ≡ [] → o.emits ≡ []
     → record at { phase = Inside; alg = alg; rest = ops; replies = o.replies; emits = o.emits; wrote = false; granted = false } ≡ after at (TryBegin (Begun alg))
 began-at at ops o alg r a b = cc
 
-operated-at : (at : Place) (ops : List Op) (o : Output) (wrote : Bool) (op : Op) (reply : ℕ) → ops ≡ rest_of at.rest → wrote ≡ at.wrote || writes op reply → o.replies ≡ at.replies ++ reply ∷ [] → o.emits ≡ at.emits ++ emits_of op reply
+operated-at : (at : CallerProgress) (ops : List Op) (o : Output) (wrote : Bool) (op : Op) (reply : ℕ) → ops ≡ rest_of at.rest → wrote ≡ at.wrote || writes op reply → o.replies ≡ at.replies ++ reply ∷ [] → o.emits ≡ at.emits ++ emits_of op reply
     → record at { rest = ops; replies = o.replies; emits = o.emits; wrote = wrote } ≡ after at (Reply op reply)
 operated-at at ops o wrote op reply r w a b = cc
 
@@ -79,21 +79,21 @@ append-none : (xs : List ℕ) → xs ≡ xs ++ []
 append-none [] = refl
 append-none (x ∷ xs) = ap (λ w. x ∷ w) (append-none xs)
 
-refused-at : (at : Place) (ops : List Op) (o : Output) → ops ≡ rest_of at.rest → o.replies ≡ at.replies ++ 0 ∷ [] → o.emits ≡ at.emits
+refused-at : (at : CallerProgress) (ops : List Op) (o : Output) → ops ≡ rest_of at.rest → o.replies ≡ at.replies ++ 0 ∷ [] → o.emits ≡ at.emits
     → record at { rest = ops; replies = o.replies; emits = o.emits } ≡ after at (TryCancel Irrevocable)
 refused-at at ops o r a b = let w = or-false at.wrote in let e = append-none at.emits in cc
 
-asked-at : (at : Place) (ops : List Op) (o : Output) → ops ≡ rest_of at.rest → o.replies ≡ at.replies ++ 1 ∷ [] → o.emits ≡ at.emits
+asked-at : (at : CallerProgress) (ops : List Op) (o : Output) → ops ≡ rest_of at.rest → o.replies ≡ at.replies ++ 1 ∷ [] → o.emits ≡ at.emits
     → record at { rest = ops; replies = o.replies; emits = o.emits; granted = true } ≡ granted_at false at
 asked-at at ops o r a b = let w = or-false at.wrote in let e = append-none at.emits in cc
 
-installed-at : (at : Place) (left : List Item) → at.chosen ≡ None → left ≡ rest_of at.left → record at { left = left; phase = Between } ≡ places.switched at.chosen at
+installed-at : (at : CallerProgress) (left : List Item) → at.chosen ≡ None → left ≡ rest_of at.left → record at { left = left; phase = Between } ≡ places.switched at.chosen at
 installed-at at left none l = ap (λ x. record at { left = x; phase = Between }) l ∙ sym (ap (λ (x : Option Alg). places.switched x at) none)
 
-besides-at : (at : Place) (chosen : Alg) → at.chosen ≡ Some chosen → record at { phase = Between; profile = no_profile; chosen = None } ≡ places.switched at.chosen at
+besides-at : (at : CallerProgress) (chosen : Alg) → at.chosen ≡ Some chosen → record at { phase = Between; profile = no_profile; chosen = None } ≡ places.switched at.chosen at
 besides-at at chosen some = sym (ap (λ (x : Option Alg). places.switched x at) some)
 
-cancelled-at : (at : Place) (o p : Output) (t : ℕ) → at.replies ≡ o.replies → at.emits ≡ o.emits → p ≡ record o { replies = o.replies ++ 1 ∷ [] }
+cancelled-at : (at : CallerProgress) (o p : Output) (t : ℕ) → at.replies ≡ o.replies → at.emits ≡ o.emits → p ≡ record o { replies = o.replies ++ 1 ∷ [] }
     → ended C t (record at { replies = p.replies; emits = p.emits }) ≡ after at (TryCancel (Cancelled t))
 cancelled-at at o p t r e told =
     let a : p.replies ≡ at.replies ++ 1 ∷ [] = ap (λ (x : Output). x.replies) told ∙ ap (λ s. s ++ 1 ∷ []) (sym r) in
@@ -133,7 +133,7 @@ self-same w = record { kept = self-kept w; course = []; went = λ h sizes. refl;
 -- the row is written, and then the policy asked
 pub ends-with : {K : Type 0} (kind : Kind) (time : ℕ) (v m w : Worker K) (outcome : Outcome) → outcome ≡ outcome_of kind → WroteRow kind time v m → w ≡ adapted outcome m → EndsWith kind time v w
 ends-with kind time v m w outcome is h e = subst (EndsWith kind time v) (sym e) (record {
-  at = ap (λ (p : Place). places.adapted outcome p) h.at ∙ ap (λ (o : Outcome). places.adapted o (places.recorded kind time (place_of v))) is;
+  at = ap (λ (p : CallerProgress). places.adapted outcome p) h.at ∙ ap (λ (o : Outcome). places.adapted o (places.recorded kind time (place_of v))) is;
   desc = h.desc;
   all = h.all;
   regions = h.regions;
@@ -194,7 +194,7 @@ module _ {K : Type 0} (good : List ℕ → Type 0) (stm : Stm K) (u : Worker K) 
   inside-of-running Closing h e = absurd (let f : true ≡ false = sym e ∙ h.running in cc)
   inside-of-running Quiet h e = absurd (let f : true ≡ false = sym e ∙ h.0.running in cc)
 
-  module _ (may : Place → Said → Type 0) (said : Said) (w : Worker K) (config : IsConfig stm.config) (goes : may (place_of u) said → MayTurn (place_of u) said) where
+  module _ (may : CallerProgress → Said → Type 0) (said : Said) (w : Worker K) (config : IsConfig stm.config) (goes : may (place_of u) said → MayTurn (place_of u) said) where
     fair-turn : Asks said (known u.desc) → Tells good stm.config (caller_of u.desc.who.role) said (known u.desc) (known w.desc) → (h : Header) → HasSizes stm.config h → IsFair h (place_of u) said
     fair-turn asks told h sizes = tells-fair good stm.config (caller_of u.desc.who.role) h (place_of u) config sizes refl said (known u.desc) (known w.desc) asks (λ e. place-is (inside-of-running u.phase s.at e)) (refl, refl) told
 
@@ -301,7 +301,7 @@ module _ {K : Type 0} (good : List ℕ → Type 0) (stm : Stm K) (u : Worker K) 
         })
 
     pub began-now : (alg : Alg) (r : Bor (List Op)) (o : Output) → r.now ≡ script_at u.items_left.now → o ≡ cleared u.out → place_of (record u { desc = d; phase = Inside; alg = alg; operations_left = r; out = o; wrote = false; granted = false; passed = false }) ≡ after (place_of u) (TryBegin (Begun alg))
-    began-now alg r o is clear = began-at (place_of (record u { desc = d })) r.now o alg is (ap (λ (x : Output). x.replies) clear) (ap (λ (x : Output). x.emits) clear) ∙ ap (λ (p : Place). after p (TryBegin (Begun alg))) place-now
+    began-now alg r o is clear = began-at (place_of (record u { desc = d })) r.now o alg is (ap (λ (x : Output). x.replies) clear) (ap (λ (x : Output). x.emits) clear) ∙ ap (λ (p : CallerProgress). after p (TryBegin (Begun alg))) place-now
 
     -- the attempt goes on, from where the script was
     stays-in : (alg : Alg) (r : Bor (List Op)) (o : Output) (wrote granted must b : Bool) (failed : ℕ) → u.phase ≡ Inside → (known d).running ≡ true → (known d).made ≡ (known u.desc).made → (known u.desc).start ≤ (known d).start → cleared o ≡ cleared u.out
@@ -363,7 +363,7 @@ module _ {K : Type 0} (good : List ℕ → Type 0) (stm : Stm K) (u : Worker K) 
 
     pub operated-now : (op : Op) (reply : ℕ) (r : Bor (List Op)) (o : Output) (wrote : Bool) → r.now ≡ rest_of u.operations_left.now → wrote ≡ u.wrote || writes op reply → o ≡ record u.out { replies = u.out.replies ++ reply ∷ []; emits = u.out.emits ++ emits_of op reply }
         → place_of (record u { desc = d; operations_left = r; out = o; wrote = wrote }) ≡ after (place_of u) (Reply op reply)
-    operated-now op reply r o wrote is was told = operated-at (place_of (record u { desc = d })) r.now o wrote op reply is was (ap (λ (x : Output). x.replies) told) (ap (λ (x : Output). x.emits) told) ∙ ap (λ (p : Place). after p (Reply op reply)) place-now
+    operated-now op reply r o wrote is was told = operated-at (place_of (record u { desc = d })) r.now o wrote op reply is was (ap (λ (x : Output). x.replies) told) (ap (λ (x : Output). x.emits) told) ∙ ap (λ (p : CallerProgress). after p (Reply op reply)) place-now
 
     -- the caller knows what it knew: the call changed nothing
     same-known : known d ≡ known u.desc → Stands good stm.config.words u.regions.now u.all.now (caller_of u.desc.who.role) (known d) u.rows.items u.phase
@@ -381,14 +381,14 @@ module _ {K : Type 0} (good : List ℕ → Type 0) (stm : Stm K) (u : Worker K) 
         (same-known knows) s.counted s.turning (subst (λ p. WhenInside p (IsUnderWay good stm.config.words (record u { desc = d; operations_left = r; out = o }))) (sym inside) (record {
           going = going;
           here = at.here;
-          unfenced = ap (λ (v : Known). v.fence) knows ∙ at.unfenced;
+          unfenced = ap (λ (v : CallerState). v.fence) knows ∙ at.unfenced;
           unrolled = subst IsUnrolled (sym knows) at.unrolled;
-          committing = λ e. absurd (let f = (at.committing (sym (ap (λ (v : Known). v.committing) knows) ∙ e)).0 in subst (Next Cancel) f comes.2);
+          committing = λ e. absurd (let f = (at.committing (sym (ap (λ (v : CallerState). v.committing) knows) ∙ e)).0 in subst (Next Cancel) f comes.2);
           waits = at.waits;
         }))
 
     pub refused-now : (r : Bor (List Op)) (o : Output) → r.now ≡ rest_of u.operations_left.now → o ≡ record u.out { replies = u.out.replies ++ 0 ∷ [] } → place_of (record u { desc = d; operations_left = r; out = o }) ≡ after (place_of u) (TryCancel Irrevocable)
-    refused-now r o is told = refused-at (place_of (record u { desc = d })) r.now o is (ap (λ (x : Output). x.replies) told) (ap (λ (x : Output). x.emits) told) ∙ ap (λ (p : Place). after p (TryCancel Irrevocable)) place-now
+    refused-now r o is told = refused-at (place_of (record u { desc = d })) r.now o is (ap (λ (x : Output). x.replies) told) (ap (λ (x : Output). x.emits) told) ∙ ap (λ (p : CallerProgress). after p (TryCancel Irrevocable)) place-now
 
     -- a cancel was refused outside the script
     pub refused-drop : u.phase ≡ Inside → known d ≡ known u.desc → is_irrevocable (known u.desc) ≡ true → Refused good stm u (record u { desc = d })
@@ -397,9 +397,9 @@ module _ {K : Type 0} (good : List ℕ → Type 0) (stm : Stm K) (u : Worker K) 
           (same-known knows) s.counted s.turning (subst (λ p. WhenInside p (IsUnderWay good stm.config.words (record u { desc = d }))) (sym inside) (let at = attempt-now inside in record {
             going = subst (λ v. Going good stm.config.words u.regions.now (script_at u.items_left.now) u.operations_left.now v u.alg u.granted u.out u.wrote) (sym knows) at.going;
             here = at.here;
-            unfenced = ap (λ (v : Known). v.fence) knows ∙ at.unfenced;
+            unfenced = ap (λ (v : CallerState). v.fence) knows ∙ at.unfenced;
             unrolled = subst IsUnrolled (sym knows) at.unrolled;
-            committing = λ e. at.committing (sym (ap (λ (v : Known). v.committing) knows) ∙ e);
+            committing = λ e. at.committing (sym (ap (λ (v : CallerState). v.committing) knows) ∙ e);
             waits = at.waits;
           }));
       irrevocable_now = irrevocable-place inside ∙ certain;
@@ -410,13 +410,13 @@ module _ {K : Type 0} (good : List ℕ → Type 0) (stm : Stm K) (u : Worker K) 
         course = [];
         went = λ h sizes. sym place-now;
         uncut = λ e. tt;
-        installs = ap (λ (v : Known). v.installs) knows ∙ sym (append-nil (known u.desc).installs);
-        alone = λ one. ap (λ (v : Known). v.alg) knows;
+        installs = ap (λ (v : CallerState). v.installs) knows ∙ sym (append-nil (known u.desc).installs);
+        alone = λ one. ap (λ (v : CallerState). v.alg) knows;
       };
     }
 
     -- granted because it must be: the script is where it was
-    pub granted-forced : u.phase ≡ Inside → answers.BecomesIrrevocable good stm.config (caller_of u.desc.who.role) (known u.desc) (known d) → Sound good stm (record u { desc = d; granted = true })
+    pub granted-forced : u.phase ≡ Inside → answers.TriesIrrevocable good stm.config (caller_of u.desc.who.role) (known u.desc) (known d) → Sound good stm (record u { desc = d; granted = true })
     granted-forced inside h =
         let at = attempt-now inside in
         let certain = granted-irrevocable u.alg u.wrote in
@@ -429,7 +429,7 @@ module _ {K : Type 0} (good : List ℕ → Type 0) (stm : Stm K) (u : Worker K) 
           waits = λ e off. absurd (let f : true ≡ false = sym certain ∙ off in cc);
         })
 
-    pub granted-asked : (r : Bor (List Op)) (o : Output) → Comes Irrev (place_of u) → r.now ≡ rest_of u.operations_left.now → o ≡ record u.out { replies = u.out.replies ++ 1 ∷ [] } → answers.BecomesIrrevocable good stm.config (caller_of u.desc.who.role) (known u.desc) (known d)
+    pub granted-asked : (r : Bor (List Op)) (o : Output) → Comes Irrev (place_of u) → r.now ≡ rest_of u.operations_left.now → o ≡ record u.out { replies = u.out.replies ++ 1 ∷ [] } → answers.TriesIrrevocable good stm.config (caller_of u.desc.who.role) (known u.desc) (known d)
         → Sound good stm (record u { desc = d; operations_left = r; out = o; granted = true })
     granted-asked r o comes is told h =
         let inside = comes.0 in
@@ -447,7 +447,7 @@ module _ {K : Type 0} (good : List ℕ → Type 0) (stm : Stm K) (u : Worker K) 
         })
 
     pub forced-now : is_forced (place_of u) ≡ true → place_of (record u { desc = d; granted = true }) ≡ after (place_of u) (TryIrrevocable Granted)
-    forced-now e = ap (λ (p : Place). record p { granted = true }) place-now ∙ sym (ap (λ b. granted_at b (place_of u)) e)
+    forced-now e = ap (λ (p : CallerProgress). record p { granted = true }) place-now ∙ sym (ap (λ b. granted_at b (place_of u)) e)
 
     pub asked-now : (r : Bor (List Op)) (o : Output) → is_forced (place_of u) ≡ false → r.now ≡ rest_of u.operations_left.now → o ≡ record u.out { replies = u.out.replies ++ 1 ∷ [] } → place_of (record u { desc = d; operations_left = r; out = o; granted = true }) ≡ after (place_of u) (TryIrrevocable Granted)
     asked-now r o e is told = asked-at (place_of (record u { desc = d })) r.now o is (ap (λ (x : Output). x.replies) told) (ap (λ (x : Output). x.emits) told) ∙ (ap (granted_at false) place-now ∙ sym (ap (λ b. granted_at b (place_of u)) e))
@@ -497,13 +497,13 @@ module _ {K : Type 0} (good : List ℕ → Type 0) (stm : Stm K) (u : Worker K) 
         let n = caller_of u.desc.who.role in
         let first = (attempt-now inside).here in
         let row = row_of kind time n (length u.rows.items) o in
-        let at : place_of w ≡ ended kind time (record (place_of u) { replies = o.replies; emits = o.emits }) = ends.at ∙ ap (λ (p : Place). ended kind time (record p { replies = o.replies; emits = o.emits })) place-now in
-        let caller : caller_of w.desc.who.role ≡ n = ap (λ (p : Place). p.caller) at in
-        let rows : w.rows.items ≡ u.rows.items ++ row ∷ [] = ap (λ (p : Place). p.rows) at in
-        let left : w.items_left.now ≡ rest_of u.items_left.now = ap (λ (p : Place). p.left) at in
-        let phase : w.phase ≡ Between = ap (λ (p : Place). p.phase) at in
-        let failed : w.failed ≡ 0 = ap (λ (p : Place). p.failed) at in
-        let policy : w.policy ≡ u.policy = ap (λ (p : Place). p.policy) at in
+        let at : place_of w ≡ ended kind time (record (place_of u) { replies = o.replies; emits = o.emits }) = ends.at ∙ ap (λ (p : CallerProgress). ended kind time (record p { replies = o.replies; emits = o.emits })) place-now in
+        let caller : caller_of w.desc.who.role ≡ n = ap (λ (p : CallerProgress). p.caller) at in
+        let rows : w.rows.items ≡ u.rows.items ++ row ∷ [] = ap (λ (p : CallerProgress). p.rows) at in
+        let left : w.items_left.now ≡ rest_of u.items_left.now = ap (λ (p : CallerProgress). p.left) at in
+        let phase : w.phase ≡ Between = ap (λ (p : CallerProgress). p.phase) at in
+        let failed : w.failed ≡ 0 = ap (λ (p : CallerProgress). p.failed) at in
+        let policy : w.policy ≡ u.policy = ap (λ (p : CallerProgress). p.policy) at in
         let long : length w.rows.items ≡ length u.rows.items + 1 = ap length rows ∙ length-append u.rows.items (row ∷ []) in
         let todo = sym (tx-scripts good stm.config.words u.regions.now n u.items_left.now first s.fits) ∙ s.todo in
         let next = (drop-head (length u.rows.items) [] (script_at u.items_left.now) (scripts_of n u.all.now) (scripts_of n (rest_of u.items_left.now)) todo).1 in
@@ -604,7 +604,7 @@ module _ {K : Type 0} (good : List ℕ → Type 0) (stm : Stm K) (u : Worker K) 
             regions = refl;
             policy = refl;
           },
-          installed-at (place_of (record u { desc = d })) r.now none is ∙ ap (λ (p : Place). places.switched p.chosen p) place-now,
+          installed-at (place_of (record u { desc = d })) r.now none is ∙ ap (λ (p : CallerProgress). places.switched p.chosen p) place-now,
         )
 
     -- the switch that the policy asked for is done
@@ -626,7 +626,7 @@ module _ {K : Type 0} (good : List ℕ → Type 0) (stm : Stm K) (u : Worker K) 
         under_way = tt;
       },
       record { same = same; all = refl; regions = refl; policy = refl },
-      besides-at (place_of (record u { desc = d })) chosen some ∙ ap (λ (p : Place). places.switched p.chosen p) place-now,
+      besides-at (place_of (record u { desc = d })) chosen some ∙ ap (λ (p : CallerProgress). places.switched p.chosen p) place-now,
     )
 
 -- whoever took the same steps is outside in the same way
@@ -659,7 +659,7 @@ module _ {K : Type 0} (good : List ℕ → Type 0) (stm : Stm K) (u : Worker K) 
   pub turned-closed : (said : Said) (p : Phase) → Rest u.phase → Rest p → MaySay (place_of u) said → Asks said (known u.desc) → Tells good stm.config (caller_of u.desc.who.role) said (known u.desc) (known d) → record (place_of u) { phase = p } ≡ after (place_of u) said
       → (grows : Grows (known u.desc) (known d)) → (known d).made ≡ (known u.desc).made → IsAt good stm.config (caller_of u.desc.who.role) p (known d) → ToSwitch p u.chosen u.items_left.now → Turned good stm MaySay u said (record u { desc = d; phase = p })
   turned-closed said p r q here asks told is grows made at turning =
-      turned-by good stm u s MaySay said _ stm.ranges (say-turn (place_of u) said) here asks told (ap (λ (q : Place). record q { phase = p }) (place-now good stm u s d same grows) ∙ is)
+      turned-by good stm u s MaySay said _ stm.ranges (say-turn (place_of u) said) here asks told (ap (λ (q : CallerProgress). record q { phase = p }) (place-now good stm u s d same grows) ∙ is)
       (record { same = same; all = refl; regions = refl; policy = refl })
       (rested good stm u s d same grows p r q made at turning)
 
@@ -667,7 +667,7 @@ module _ {K : Type 0} (good : List ℕ → Type 0) (stm : Stm K) (u : Worker K) 
   pub turned-reopened : (u.phase ≡ Closing) ⊎ (u.phase ≡ Quiet) → answers.Reopens good stm.config (caller_of u.desc.who.role) (known u.desc) (known d) → Turned good stm MayWind u Said.Reopened (record u { desc = d; phase = Between })
   turned-reopened closing h =
       let r = rest-closed u.phase closing in
-      turned-by good stm u s MayWind Said.Reopened _ stm.ranges (λ m. m) closing (is-between r) h (ap (λ (q : Place). record q { phase = Between }) (place-now good stm u s d same h.grows))
+      turned-by good stm u s MayWind Said.Reopened _ stm.ranges (λ m. m) closing (is-between r) h (ap (λ (q : CallerProgress). record q { phase = Between }) (place-now good stm u s d same h.grows))
       (record { same = same; all = refl; regions = refl; policy = refl })
       (rested good stm u s d same h.grows Between r tt h.made h.idle tt)
 
@@ -688,7 +688,7 @@ module _ {K : Type 0} (good : List ℕ → Type 0) (stm : Stm K) (u : Worker K) 
       or-none false b h = (refl, h)
 
   -- the attempt is over, without a row
-  pub turned-over : (may : Place → Said → Type 0) (said : Said) (q : Noted) (must b : Bool) (failed : ℕ) (o : Output) → (may (place_of u) said → MayTurn (place_of u) said) → u.phase ≡ Inside → may (place_of u) said → Asks said (known u.desc) → Tells good stm.config (caller_of u.desc.who.role) said (known u.desc) (known d)
+  pub turned-over : (may : CallerProgress → Said → Type 0) (said : Said) (q : Noted) (must b : Bool) (failed : ℕ) (o : Output) → (may (place_of u) said → MayTurn (place_of u) said) → u.phase ≡ Inside → may (place_of u) said → Asks said (known u.desc) → Tells good stm.config (caller_of u.desc.who.role) said (known u.desc) (known d)
       → record (place_of u) { phase = Between; replies = []; emits = []; failed = failed; must = must; profile = q } ≡ after (place_of u) said
       → (grows : Grows (known u.desc) (known d)) → IsIdle (known d) → (known d).made ≡ (known u.desc).made → o ≡ cleared u.out → IsCounted failed must
       → Turned good stm may u said (record u { desc = d; phase = Between; out = o; must = must; failed = failed; passed = b; profile = q })
@@ -718,13 +718,13 @@ module _ {K : Type 0} (good : List ℕ → Type 0) (stm : Stm K) (u : Worker K) 
   pub dropped-refused : u.phase ≡ Inside → known d ≡ known u.desc → is_irrevocable (known u.desc) ≡ true → Refused good stm u (record u { desc = d })
   dropped-refused inside knows certain = refused-drop good stm u s d same (subst (Grows (known u.desc)) (sym knows) (grows-same (known u.desc) (known u.desc) refl refl [] refl refl refl refl)) inside knows certain
 
-  pub turned-forced : u.phase ≡ Inside → is_forced (place_of u) ≡ true → answers.BecomesIrrevocable good stm.config (caller_of u.desc.who.role) (known u.desc) (known d) → Turned good stm MaySay u (TryIrrevocable Granted) (record u { desc = d; granted = true })
+  pub turned-forced : u.phase ≡ Inside → is_forced (place_of u) ≡ true → answers.TriesIrrevocable good stm.config (caller_of u.desc.who.role) (known u.desc) (known d) → Turned good stm MaySay u (TryIrrevocable Granted) (record u { desc = d; granted = true })
   turned-forced inside forced h =
       turned-by good stm u s MaySay (TryIrrevocable Granted) _ stm.ranges (λ m. m) (inl (inside, forced)) (runs-now good stm u s inside) h (forced-now good stm u s d same h.continues.grows forced)
       (record { same = same; all = refl; regions = refl; policy = refl })
       (granted-forced good stm u s d same h.continues.grows inside h)
 
-  pub turned-asked : (r : Bor (List Op)) (o : Output) → Comes Irrev (place_of u) → r.now ≡ rest_of u.operations_left.now → o ≡ record u.out { replies = u.out.replies ++ 1 ∷ [] } → answers.BecomesIrrevocable good stm.config (caller_of u.desc.who.role) (known u.desc) (known d)
+  pub turned-asked : (r : Bor (List Op)) (o : Output) → Comes Irrev (place_of u) → r.now ≡ rest_of u.operations_left.now → o ≡ record u.out { replies = u.out.replies ++ 1 ∷ [] } → answers.TriesIrrevocable good stm.config (caller_of u.desc.who.role) (known u.desc) (known d)
       → Turned good stm MaySay u (TryIrrevocable Granted) (record u { desc = d; operations_left = r; out = o; granted = true })
   turned-asked r o comes is told h =
       turned-by good stm u s MaySay (TryIrrevocable Granted) _ stm.ranges (λ m. m) (inr comes) (runs-now good stm u s comes.0) h (asked-now good stm u s d same h.continues.grows r o comes.1 is told)
@@ -762,14 +762,14 @@ module _ {K : Type 0} (good : List ℕ → Type 0) (stm : Stm K) (u : Worker K) 
       let e = cancelled good stm u s d same h.0.ends.grows t o w comes h.0 h.3 told ends in
       turned-by good stm u s MaySay (TryCancel (Cancelled t)) w stm.ranges (λ m. m) comes (runs-now good stm u s comes.0) (subst (λ (k : Handle K). answers.Cancels good stm.config (caller_of u.desc.who.role) (Cancelled t) (known u.desc) (known k)) (sym ends.desc) h) e.2 e.1 e.0
 
-  pub turned-switched : (alg : Alg) (r : Bor (List Item)) (x : Known) → u.phase ≡ Quiet → u.chosen ≡ None → MustSwitchTo alg u.chosen u.items_left.now → r.now ≡ rest_of u.items_left.now → answers.Installs good stm.config (caller_of u.desc.who.role) alg (known u.desc) x → answers.Reopens good stm.config (caller_of u.desc.who.role) x (known d)
+  pub turned-switched : (alg : Alg) (r : Bor (List Item)) (x : CallerState) → u.phase ≡ Quiet → u.chosen ≡ None → MustSwitchTo alg u.chosen u.items_left.now → r.now ≡ rest_of u.items_left.now → answers.Installs good stm.config (caller_of u.desc.who.role) alg (known u.desc) x → answers.Reopens good stm.config (caller_of u.desc.who.role) x (known d)
       → Turned good stm MaySay u (Installed alg) (record u { desc = d; items_left = r; phase = Between })
   turned-switched alg r x quiet none to is i h =
       let grows = grows-trans (known u.desc) x (known d) i.closed.grows h.grows in
       let e = switched good stm u s d same grows alg r quiet none (subst (λ (c : Option Alg). MustSwitchTo alg c u.items_left.now) none to) is h.idle (h.made ∙ i.closed.made) in
       turned-by good stm u s MaySay (Installed alg) _ stm.ranges (λ m. m) (quiet, to) (is-between (rest-quiet u.phase quiet)) (x, i, h) e.2 e.1 e.0
 
-  pub turned-besides : (alg chosen : Alg) (x : Known) → u.phase ≡ Quiet → u.chosen ≡ Some chosen → MustSwitchTo alg u.chosen u.items_left.now → answers.Installs good stm.config (caller_of u.desc.who.role) alg (known u.desc) x → answers.Reopens good stm.config (caller_of u.desc.who.role) x (known d)
+  pub turned-besides : (alg chosen : Alg) (x : CallerState) → u.phase ≡ Quiet → u.chosen ≡ Some chosen → MustSwitchTo alg u.chosen u.items_left.now → answers.Installs good stm.config (caller_of u.desc.who.role) alg (known u.desc) x → answers.Reopens good stm.config (caller_of u.desc.who.role) x (known d)
       → Turned good stm MaySay u (Installed alg) (record u { desc = d; phase = Between; profile = no_profile; chosen = None })
   turned-besides alg chosen x quiet some to i h =
       let grows = grows-trans (known u.desc) x (known d) i.closed.grows h.grows in
@@ -786,7 +786,7 @@ module _ {K : Type 0} (good : List ℕ → Type 0) (stm : Stm K) (u : Worker K) 
       let left = reserve-left n reads writes u.items_left.now here in
       let idle : IsIdle (known d) = subst IsIdle (sym outside) (idle-now good stm u s between) in
       let works : Works good stm.config.words u.regions.now u.all.now n (known d) u.rows.items =
-      subst (λ (v : Known). Works good stm.config.words u.regions.now u.all.now n v u.rows.items) (sym outside) (resting-now good stm u s rest) in
+      subst (λ (v : CallerState). Works good stm.config.words u.regions.now u.all.now n v u.rows.items) (sym outside) (resting-now good stm u s rest) in
       turned-by good stm u s MaySay (Reserved reads writes) _ stm.ranges (λ m. m) (between, here, none) (is-between rest) (sizes, outside)
       (λ i. record (place_of u) { caller = n_is i; left = is i; reads_limit = sizes.0 i; writes_limit = sizes.1 i })
       (record {

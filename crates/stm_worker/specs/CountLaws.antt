@@ -11,7 +11,7 @@ use Rattle.stm_script.specs.declared.op.Op.{Op}
 use Rattle.stm_script.specs.declared.workload.Item.{Item}
 use Rattle.stm_script.specs.declared.workload.Item.TheVariants.{Tx, Switch, Reserve}
 use Rattle.tx_answers.specs.Answers.{Stops}
-use Rattle.tx_answers.specs.Known.{Known}
+use Rattle.tx_answers.specs.CallerState.{CallerState}
 use Rattle.tx_answers.specs.declared.answers.Begin.TheVariants as begins
 use Rattle.tx_answers.specs.declared.answers.Cancel.TheVariants as cancels
 use Rattle.tx_answers.specs.declared.answers.CloseGate.TheVariants as closes
@@ -22,7 +22,7 @@ use Rattle.tx_answers.specs.declared.answers.Look.TheVariants as looks
 use Rattle.stm_trace.specs.declared.said.Phase.TheVariants.{Inside}
 use Rattle.stm_trace.specs.declared.said.Said.{Said}
 use Rattle.stm_trace.specs.declared.said.Said.TheVariants.{TryBegin, Reply, Stopped, TryCancel, TryIrrevocable, TryCommit, TryClose, Looked, Installed, Reserved, Idle, Dropped, Reopened}
-use Rattle.stm_trace.specs.Places.{Place, after, failed_next, granted_at, in_the_way, is_forced, must_next, rest_of, switched}
+use Rattle.stm_trace.specs.Places.{CallerProgress, after, failed_next, granted_at, in_the_way, is_forced, must_next, rest_of, switched}
 use Rattle.stm_trace.specs.Turns.{BeforeTx, Lengthens, MaySay, MustSwitchTo, SwitchesTo}
 use Rattle.stm_worker.specs.RiseCovers.{IsCountedFor}
 use Rattle.stm_worker.specs.Tellings.{Tells}
@@ -31,22 +31,22 @@ use Rattle.stm_worker.specs.Tellings.{Tells}
 not-alone : (c : Config) → c.callers ≡ 1 → 1 < c.callers → ⊥
 not-alone c one more = omega arith
 
-switched-failed : (c : Option Alg) (at : Place) → at.failed ≡ 0 → (switched c at).failed ≡ 0
+switched-failed : (c : Option Alg) (at : CallerProgress) → at.failed ≡ 0 → (switched c at).failed ≡ 0
 switched-failed None at e = e
 switched-failed (Some chosen) at e = e
 
-granted-failed : (b : Bool) (at : Place) → at.failed ≡ 0 → (granted_at b at).failed ≡ 0
+granted-failed : (b : Bool) (at : CallerProgress) → at.failed ≡ 0 → (granted_at b at).failed ≡ 0
 granted-failed true at e = e
 granted-failed false at e = e
 
 module _ (good : List ℕ → Type 0) (c : Config) (n : ℕ) (one : c.callers ≡ 1) where
-  stopped-alone : (op : Op) (stop : Stop) (at : Place) (v w : Known) → at.failed ≡ 0 → (a : ℕ) → Stops good c n a stop v w → (after at (Stopped op stop)).failed ≡ 0
+  stopped-alone : (op : Op) (stop : Stop) (at : CallerProgress) (v w : CallerState) → at.failed ≡ 0 → (a : ℕ) → Stops good c n a stop v w → (after at (Stopped op stop)).failed ≡ 0
   stopped-alone op (stops.Conflict cause) at v w e a t = absurd (not-alone c one t.2)
   stopped-alone op (stops.Full limit) at v w e a t = e
   stopped-alone op (stops.ClockFull clock) at v w e a t = e
 
   -- and so none of its attempts is counted
-  pub alone-failed : (said : Said) (at : Place) (v w : Known) → at.failed ≡ 0 → Tells good c n said v w → (after at said).failed ≡ 0
+  pub alone-failed : (said : Said) (at : CallerProgress) (v w : CallerState) → at.failed ≡ 0 → Tells good c n said v w → (after at said).failed ≡ 0
   alone-failed (TryBegin (begins.Begun alg)) at v w e t = e
   alone-failed (TryBegin (begins.Closed gate)) at v w e t = e
   alone-failed (TryBegin (begins.Held word)) at v w e t = e
@@ -102,26 +102,26 @@ counted-reserve reads writes (Switch caller alg ∷ items) failed must to h = ab
 counted-reserve reads writes (Reserve caller r w ∷ items) failed must to h =
     subst (λ m. IsCountedFor items failed m) (sym h.1) (subst (λ f. IsCountedFor items f false) (sym h.0) (counted-none items))
 
-abbrev pub CountsAt : Place → Type 0
+abbrev pub CountsAt : CallerProgress → Type 0
 CountsAt at = IsCountedFor at.left at.failed at.must
 
-switched-counts : (alg : Alg) (c : Option Alg) (at : Place) → MustSwitchTo alg c at.left → CountsAt at → CountsAt (switched c at)
+switched-counts : (alg : Alg) (c : Option Alg) (at : CallerProgress) → MustSwitchTo alg c at.left → CountsAt at → CountsAt (switched c at)
 switched-counts alg None at to h = counted-switch alg at.left at.failed at.must to h
 switched-counts alg (Some chosen) at to h = h
 
-granted-counts : (b : Bool) (at : Place) → CountsAt at → CountsAt (granted_at b at)
+granted-counts : (b : Bool) (at : CallerProgress) → CountsAt at → CountsAt (granted_at b at)
 granted-counts true at h = h
 granted-counts false at h = h
 
-stopped-counts : (op : Op) (stop : Stop) (at : Place) → BeforeTx at.left → CountsAt (after at (Stopped op stop))
+stopped-counts : (op : Op) (stop : Stop) (at : CallerProgress) → BeforeTx at.left → CountsAt (after at (Stopped op stop))
 stopped-counts op (stops.Conflict cause) at b = counted-tx at.left (failed_next at.must at.failed) (must_next at.must at.failed) b
 stopped-counts op (stops.Full limit) at b = counted-tx at.left at.failed true b
 stopped-counts op (stops.ClockFull clock) at b = counted-tx at.left at.failed at.must b
 
-way-counts : (outcome : Outcome) (at : Place) → BeforeTx at.left → CountsAt (in_the_way outcome at)
+way-counts : (outcome : Outcome) (at : CallerProgress) → BeforeTx at.left → CountsAt (in_the_way outcome at)
 way-counts outcome at b = counted-tx at.left (failed_next at.must at.failed) (must_next at.must at.failed) b
 
-irrevocable-counts : (r : Irrev) (at : Place) → BeforeTx at.left → CountsAt at → CountsAt (after at (TryIrrevocable r))
+irrevocable-counts : (r : Irrev) (at : CallerProgress) → BeforeTx at.left → CountsAt at → CountsAt (after at (TryIrrevocable r))
 irrevocable-counts irrevs.Granted at b h = granted-counts (is_forced at) at h
 irrevocable-counts (irrevs.Busy caller status) at b h = h
 irrevocable-counts (irrevs.Taken gate) at b h = way-counts outcomes.Cancelled at b
@@ -129,7 +129,7 @@ irrevocable-counts (irrevs.Conflict cause) at b h = way-counts outcomes.Conflict
 irrevocable-counts (irrevs.ClockFull clock) at b h = h
 
 -- what is counted is counted for the transaction that comes next, where one has begun or is open
-pub said-counts : (said : Said) (at : Place) → (at.phase ≡ Inside → BeforeTx at.left) → MaySay at said → CountsAt at → CountsAt (after at said)
+pub said-counts : (said : Said) (at : CallerProgress) → (at.phase ≡ Inside → BeforeTx at.left) → MaySay at said → CountsAt at → CountsAt (after at said)
 said-counts (TryBegin (begins.Begun alg)) at here may h = h
 said-counts (TryBegin (begins.Closed gate)) at here may h = h
 said-counts (TryBegin (begins.Held word)) at here may h = h

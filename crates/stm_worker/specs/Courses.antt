@@ -8,18 +8,18 @@ use Rattle.stm_trace.specs.Adapting.{no_profile}
 use Rattle.stm_trace.specs.declared.said.Phase.TheVariants.{Between}
 use Rattle.stm_trace.specs.declared.said.Said.{Said}
 use Rattle.stm_trace.specs.declared.said.Said.TheVariants.{TryBegin, Reply, Stopped, TryCancel, TryIrrevocable, TryCommit, TryClose, Looked, Installed, Reserved, Idle, Dropped, Reopened}
-use Rattle.stm_trace.specs.Places.{Place, after}
+use Rattle.stm_trace.specs.Places.{CallerProgress, after}
 use Rattle.stm_trace.specs.Turns.{MaySay, MayWind, IsFair, IsOver}
 use Rattle.stm_worker.specs.Installs.{InstallsBy, last_of}
 
--- what may be said in a schedule or behind it
-abbrev pub MayTurn : Place → Said → Type 0
+-- what may be said in a schedule or after it
+abbrev pub MayTurn : CallerProgress → Said → Type 0
 MayTurn at Dropped = MayWind at Dropped
 MayTurn at Reopened = MayWind at Reopened
 MayTurn at said = MaySay at said
 
 -- from one place to another, h being the workload's header: each turn says what may be said there, with fair numbers, and leads where that leads
-abbrev pub Went : Header → Place → List Said → Place → Type 0
+abbrev pub Went : Header → CallerProgress → List Said → CallerProgress → Type 0
 Went h at [] to = at ≡ to
 Went h at (said ∷ more) to = MayTurn at said × IsFair h at said × Went h (after at said) more to
 
@@ -91,7 +91,7 @@ IsUncut (Dropped ∷ more) = ⊥
 IsUncut (said ∷ more) = IsUncut more
 
 -- nothing is done
-pub record IsFresh (at : Place) : Type 0 where
+pub record IsFresh (at : CallerProgress) : Type 0 where
   pub between : at.phase ≡ Between
   pub unasked : at.chosen ≡ None
   pub noted : at.profile ≡ no_profile
@@ -99,5 +99,5 @@ pub record IsFresh (at : Place) : Type 0 where
 
 -- what a caller has installed when nothing is left to it; start: the algorithm at its first turn
 abbrev pub CoursesInstall : Type 0
-CoursesInstall = (cut : Bool) (h : Header) (at to : Place) (course : List Said) (start last : Alg) → IsFresh at → Went h at course to → (cut ≡ false → IsUncut course) → (h.callers ≡ 1 → Knows start course last) → IsOver to
+CoursesInstall = (cut : Bool) (h : Header) (at to : CallerProgress) (course : List Said) (start last : Alg) → IsFresh at → Went h at course to → (cut ≡ false → IsUncut course) → (h.callers ≡ 1 → Knows start course last) → IsOver to
     → InstallsBy cut h.callers true at.policy start at.left (map (λ (row : Row). row.kind) to.rows) (all_installed course)

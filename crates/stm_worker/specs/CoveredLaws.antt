@@ -20,7 +20,7 @@ use Rattle.stm_script.specs.declared.report.Kind.TheVariants.{W, R, C}
 use Rattle.stm_script.specs.declared.workload.Item.{Item}
 use Rattle.stm_script.specs.declared.workload.Item.TheVariants.{Tx, Switch, Reserve}
 use Rattle.tx_answers.specs.Answers.{Quits, Stays}
-use Rattle.tx_answers.specs.Known.{Known, caller_of, is_irrevocable, is_none, has_written}
+use Rattle.tx_answers.specs.CallerState.{CallerState, caller_of, is_irrevocable, is_none, has_written}
 use Rattle.tx_answers.specs.declared.answers.Begin.TheVariants as begins
 use Rattle.tx_answers.specs.declared.answers.Cancel.TheVariants as cancels
 use Rattle.tx_answers.specs.declared.answers.CloseGate.TheVariants as closes
@@ -114,7 +114,7 @@ module _ {K : Type 0} (good : List ℕ → Type 0) (stm : Stm K) (u : Worker K) 
   unwritten e must off = let a = under e in let clean = sym a.going.writer ∙ a.waits must (a.going.irrevocable ∙ off) in (λ j. clean j || not (is_none (a.unrolled clean j)))
 
   -- an operation stops no attempt that must not fail
-  unforced : (op : Op) (stop : Stop) (x : Known) → Comes op (place_of u) → StoppedBy good stm.config (caller_of u.desc.who.role) op stop (known u.desc) x → u.must ≡ false
+  unforced : (op : Op) (stop : Stop) (x : CallerState) → Comes op (place_of u) → StoppedBy good stm.config (caller_of u.desc.who.role) op stop (known u.desc) x → u.must ≡ false
   unforced op stop x comes t = by u.must refl
     where
       by : (b : Bool) → u.must ≡ b → b ≡ false
@@ -131,41 +131,41 @@ module _ {K : Type 0} (good : List ℕ → Type 0) (stm : Stm K) (u : Worker K) 
 
   module _ (uncovered each most all : ℕ) (few : u.must ≡ false → u.failed + 1 ≤ most) (wide : most + 3 ≤ each) (covers : Covered uncovered each most all (known u.desc) (place_of u)) where
     -- it raised nothing, and nothing is counted
-    same-covered : (x : Known) → raised x ≡ raised (known u.desc) → Covered (uncovered + 0) each most all x (place_of u)
+    same-covered : (x : CallerState) → raised x ≡ raised (known u.desc) → Covered (uncovered + 0) each most all x (place_of u)
     same-covered x e = omega (arith, e, covers)
 
-    stays-covered : (x : Known) → u.phase ≡ Between → Stays stm.config (known u.desc) x → Covered (uncovered + 0) each most all x (place_of u)
+    stays-covered : (x : CallerState) → u.phase ≡ Between → Stays stm.config (known u.desc) x → Covered (uncovered + 0) each most all x (place_of u)
     stays-covered x e t = same-covered x (raised-out x t.idle.1 ∙ (t.rises ∙ sym (raised-out (known u.desc) (idles e))))
 
-    goes-covered : (x : Known) → u.phase ≡ Inside → x.running ≡ true → x.base ≡ (known u.desc).base → Covered (uncovered + 0) each most all x (place_of u)
+    goes-covered : (x : CallerState) → u.phase ≡ Inside → x.running ≡ true → x.base ≡ (known u.desc).base → Covered (uncovered + 0) each most all x (place_of u)
     goes-covered x e now base = same-covered x (raised-in x now ∙ (base ∙ sym (raised-in (known u.desc) (runs e))))
 
-    granted-covered : (b : Bool) (x : Known) → Covered (uncovered + 0) each most all x (place_of u) → Covered (uncovered + 0) each most all x (granted_at b (place_of u))
+    granted-covered : (b : Bool) (x : CallerState) → Covered (uncovered + 0) each most all x (place_of u) → Covered (uncovered + 0) each most all x (granted_at b (place_of u))
     granted-covered true x h = h
     granted-covered false x h = h
 
     -- the attempt is over: it was counted, or it was not, or its log was too short, or the item is done
-    way-covered : (x : Known) (rise : ℕ) → u.phase ≡ Inside → x.running ≡ false → x.rises ≤ (known u.desc).base + rise → rise ≤ 1 → (u.must ≡ true → rise ≡ 0) → Covered (uncovered + 0) each most all x (in_the_way outcomes.Conflict (place_of u))
+    way-covered : (x : CallerState) (rise : ℕ) → u.phase ≡ Inside → x.running ≡ false → x.rises ≤ (known u.desc).base + rise → rise ≤ 1 → (u.must ≡ true → rise ≡ 0) → Covered (uncovered + 0) each most all x (in_the_way outcomes.Conflict (place_of u))
     way-covered x rise e out r low none =
         let a = raised-in (known u.desc) (runs e) in
         let b = raised-out x out in
         let m = way-covers most u.failed rise u.must few low none in
         omega (arith, a, b, m, r, covers)
 
-    quit-covered : (x : Known) (rise : ℕ) → u.phase ≡ Inside → x.running ≡ false → x.rises ≤ (known u.desc).base + rise → rise ≤ 1 → Covered (uncovered + 1) each most all x (given_up (place_of u))
+    quit-covered : (x : CallerState) (rise : ℕ) → u.phase ≡ Inside → x.running ≡ false → x.rises ≤ (known u.desc).base + rise → rise ≤ 1 → Covered (uncovered + 1) each most all x (given_up (place_of u))
     quit-covered x rise e out r low =
         let a = raised-in (known u.desc) (runs e) in
         let b = raised-out x out in
         omega (arith, a, b, r, covers)
 
-    full-covered : (x : Known) (rise : ℕ) → u.phase ≡ Inside → u.must ≡ false → x.running ≡ false → x.rises ≤ (known u.desc).base + rise → rise ≤ 1 → Covered (uncovered + 0) each most all x (record (given_up (place_of u)) { must = true })
+    full-covered : (x : CallerState) (rise : ℕ) → u.phase ≡ Inside → u.must ≡ false → x.running ≡ false → x.rises ≤ (known u.desc).base + rise → rise ≤ 1 → Covered (uncovered + 0) each most all x (record (given_up (place_of u)) { must = true })
     full-covered x rise e free out r low =
         let a = raised-in (known u.desc) (runs e) in
         let b = raised-out x out in
         let m = full-covers most u.failed rise u.must free few low in
         omega (arith, a, b, m, r, covers)
 
-    row-covered : (kind : Kind) (x : Known) (rise : ℕ) → u.phase ≡ Inside → x.running ≡ false → x.rises ≤ (known u.desc).base + rise → rise ≤ 2 → Covered (uncovered + 0) each most all x (ended kind 0 (place_of u))
+    row-covered : (kind : Kind) (x : CallerState) (rise : ℕ) → u.phase ≡ Inside → x.running ≡ false → x.rises ≤ (known u.desc).base + rise → rise ≤ 2 → Covered (uncovered + 0) each most all x (ended kind 0 (place_of u))
     row-covered kind x rise e out r low =
         let a = raised-in (known u.desc) (runs e) in
         let b = raised-out x out in
@@ -174,7 +174,7 @@ module _ {K : Type 0} (good : List ℕ → Type 0) (stm : Stm K) (u : Worker K) 
         let due = due-low (ended kind 0 (place_of u)).chosen in
         omega (arith, a, b, m, one, due, r, covers)
 
-    stopped-covered : (op : Op) (stop : Stop) (x : Known) → Comes op (place_of u) → StoppedBy good stm.config (caller_of u.desc.who.role) op stop (known u.desc) x → Covered (uncovered + uncovered_by (Stopped op stop)) each most all x (after (place_of u) (Stopped op stop))
+    stopped-covered : (op : Op) (stop : Stop) (x : CallerState) → Comes op (place_of u) → StoppedBy good stm.config (caller_of u.desc.who.role) op stop (known u.desc) x → Covered (uncovered + uncovered_by (Stopped op stop)) each most all x (after (place_of u) (Stopped op stop))
     stopped-covered op stop x comes t = by stop (unforced op stop x comes t) (stops-quits good stm.config (caller_of u.desc.who.role) t.address stop t.before x t.stops)
       where
         by : (stop : Stop) → u.must ≡ false → Quits t.before x → Covered (uncovered + uncovered_by (Stopped op stop)) each most all x (after (place_of u) (Stopped op stop))
@@ -186,11 +186,11 @@ module _ {K : Type 0} (good : List ℕ → Type 0) (stm : Stm K) (u : Worker K) 
             quit-covered x (quit_rise t.before.alg (has_written t.before)) comes.0 q.ends.idle.1 (let r = q.rises.1 in let e = t.carries.base in omega arith) (quit-low t.before.alg (has_written t.before))
 
     -- it was refused where it could have been cancelled
-    refused-covered : (x : Known) → u.phase ≡ Inside → Quits (known u.desc) x → Covered (uncovered + 0) each most all x (in_the_way outcomes.Conflict (place_of u))
+    refused-covered : (x : CallerState) → u.phase ≡ Inside → Quits (known u.desc) x → Covered (uncovered + 0) each most all x (in_the_way outcomes.Conflict (place_of u))
     refused-covered x e q = way-covered x (quit_rise (known u.desc).alg (has_written (known u.desc))) e q.ends.idle.1 q.rises.1 (quit-low (known u.desc).alg (has_written (known u.desc)))
         (λ must. quit-none (known u.desc).alg (has_written (known u.desc)) (unwritten e must q.revocable))
 
-    irrevocable-covered : (r : Irrev) (x : Known) → u.phase ≡ Inside → Tells good stm.config (caller_of u.desc.who.role) (TryIrrevocable r) (known u.desc) x → Covered (uncovered + uncovered_by (TryIrrevocable r)) each most all x (after (place_of u) (TryIrrevocable r))
+    irrevocable-covered : (r : Irrev) (x : CallerState) → u.phase ≡ Inside → Tells good stm.config (caller_of u.desc.who.role) (TryIrrevocable r) (known u.desc) x → Covered (uncovered + uncovered_by (TryIrrevocable r)) each most all x (after (place_of u) (TryIrrevocable r))
     irrevocable-covered irrevs.Granted x e t = granted-covered (is_forced (place_of u)) x (goes-covered x e t.continues.running t.continues.base)
     irrevocable-covered (irrevs.Busy caller status) x e t = goes-covered x e t.0.continues.running t.0.continues.base
     irrevocable-covered (irrevs.Taken gate) x e t =
@@ -203,11 +203,11 @@ module _ {K : Type 0} (good : List ℕ → Type 0) (stm : Stm K) (u : Worker K) 
     irrevocable-covered (irrevs.ClockFull clock) x e t = quit-covered x (quit_rise (known u.desc).alg (has_written (known u.desc))) e t.0.ends.idle.1 t.0.rises.1 (quit-low (known u.desc).alg (has_written (known u.desc)))
 
     -- a switch is an item that is done, or it was due
-    switched-covered : (alg : Alg) (x : Known) (c : Option Alg) → u.chosen ≡ c → MustSwitchTo alg c u.items_left.now → raised x ≤ raised (known u.desc) + 1 → Covered (uncovered + 0) each most all x (switched c (place_of u))
+    switched-covered : (alg : Alg) (x : CallerState) (c : Option Alg) → u.chosen ≡ c → MustSwitchTo alg c u.items_left.now → raised x ≤ raised (known u.desc) + 1 → Covered (uncovered + 0) each most all x (switched c (place_of u))
     switched-covered alg x None e to r = let one = each-item each u.items_left.now (switch-less alg u.items_left.now to) in omega (arith, r, one, covers)
     switched-covered alg x (Some chosen) e to r = let due : due_of u.chosen ≡ 1 = ap due_of e in omega (arith, r, due, covers)
 
-    pub said-covered : (said : Said) (x : Known) → MaySay (place_of u) said → Tells good stm.config (caller_of u.desc.who.role) said (known u.desc) x → Covered (uncovered + uncovered_by said) each most all x (after (place_of u) said)
+    pub said-covered : (said : Said) (x : CallerState) → MaySay (place_of u) said → Tells good stm.config (caller_of u.desc.who.role) said (known u.desc) x → Covered (uncovered + uncovered_by said) each most all x (after (place_of u) said)
     said-covered (TryBegin (begins.Begun alg)) x may t = same-covered x (raised-in x t.running ∙ (t.base ∙ sym (raised-out (known u.desc) (idles may.0))))
     said-covered (TryBegin (begins.Closed gate)) x may t = stays-covered x may.0 t.0
     said-covered (TryBegin (begins.Held word)) x may t = stays-covered x may.0 t.0
@@ -242,8 +242,8 @@ module _ {K : Type 0} (good : List ℕ → Type 0) (stm : Stm K) (u : Worker K) 
     said-covered Dropped x may t = absurd may
     said-covered Reopened x may t = absurd may
 
-    -- and behind the schedule, where an attempt is dropped that nothing counts
-    pub wound-covered : (said : Said) (x : Known) → MayWind (place_of u) said → Tells good stm.config (caller_of u.desc.who.role) said (known u.desc) x → Covered (uncovered + uncovered_by said) each most all x (after (place_of u) said)
+    -- and after the schedule, where an attempt is dropped that nothing counts
+    pub wound-covered : (said : Said) (x : CallerState) → MayWind (place_of u) said → Tells good stm.config (caller_of u.desc.who.role) said (known u.desc) x → Covered (uncovered + uncovered_by said) each most all x (after (place_of u) said)
     wound-covered (TryBegin b) x may t = said-covered (TryBegin b) x may.2 t
     wound-covered (Reply op reply) x may t = said-covered (Reply op reply) x may.2 t
     wound-covered (Stopped op stop) x may t = said-covered (Stopped op stop) x may.2 t
@@ -291,14 +291,14 @@ dropped-reserve reads writes (Reserve caller r w ∷ items) b = refl
 -- an item that is done covers an attempt of it that was dropped, too
 module _ {K : Type 0} (good : List ℕ → Type 0) (stm : Stm K) (u : Worker K) (s : Sound good stm u) (fixed : u.policy ≡ Fixed) (each most all : ℕ) (few : u.must ≡ false → u.failed + 1 ≤ most) (wide : most + 3 ≤ each)
     (covers : Covered (dropped_of u.items_left.now) each most all (known u.desc) (place_of u)) where
-  as-said : (said : Said) (x : Known) → MaySay (place_of u) said → Tells good stm.config (caller_of u.desc.who.role) said (known u.desc) x → Covered (dropped_of u.items_left.now + uncovered_by said) each most all x (after (place_of u) said)
+  as-said : (said : Said) (x : CallerState) → MaySay (place_of u) said → Tells good stm.config (caller_of u.desc.who.role) said (known u.desc) x → Covered (dropped_of u.items_left.now + uncovered_by said) each most all x (after (place_of u) said)
   as-said said x may t = said-covered good stm u s (dropped_of u.items_left.now) each most all few wide covers said x may t
 
   -- no switch is due then
   no-due : (kind : Kind) → due_of (ended kind 0 (place_of u)).chosen ≡ 0
   no-due kind = ap (λ (p : Policy). due_of (asked_by p (with_outcome u.profile (outcome_of kind)) u.alg)) fixed
 
-  row-settles : (kind : Kind) (x : Known) (rise : ℕ) → u.phase ≡ Inside → x.running ≡ false → x.rises ≤ (known u.desc).base + rise → rise ≤ 2 → Covered (dropped_of (rest_of u.items_left.now) + 0) each most all x (ended kind 0 (place_of u))
+  row-settles : (kind : Kind) (x : CallerState) (rise : ℕ) → u.phase ≡ Inside → x.running ≡ false → x.rises ≤ (known u.desc).base + rise → rise ≤ 2 → Covered (dropped_of (rest_of u.items_left.now) + 0) each most all x (ended kind 0 (place_of u))
   row-settles kind x rise e out r low =
       let a = raised-in (known u.desc) (runs good stm u s e) in
       let b = raised-out x out in
@@ -308,15 +308,15 @@ module _ {K : Type 0} (good : List ℕ → Type 0) (stm : Stm K) (u : Worker K) 
       let due = no-due kind in
       omega (arith, a, b, m, one, d, due, r, covers)
 
-  granted-left : (b : Bool) (x : Known) → Covered (dropped_of u.items_left.now + 0) each most all x (granted_at b (place_of u)) → Covered (dropped_of (granted_at b (place_of u)).left + 0) each most all x (granted_at b (place_of u))
+  granted-left : (b : Bool) (x : CallerState) → Covered (dropped_of u.items_left.now + 0) each most all x (granted_at b (place_of u)) → Covered (dropped_of (granted_at b (place_of u)).left + 0) each most all x (granted_at b (place_of u))
   granted-left true x h = h
   granted-left false x h = h
 
-  switched-left : (alg : Alg) (x : Known) (c : Option Alg) → MustSwitchTo alg c u.items_left.now → Covered (dropped_of u.items_left.now + 0) each most all x (switched c (place_of u)) → Covered (dropped_of (switched c (place_of u)).left + 0) each most all x (switched c (place_of u))
+  switched-left : (alg : Alg) (x : CallerState) (c : Option Alg) → MustSwitchTo alg c u.items_left.now → Covered (dropped_of u.items_left.now + 0) each most all x (switched c (place_of u)) → Covered (dropped_of (switched c (place_of u)).left + 0) each most all x (switched c (place_of u))
   switched-left alg x None to h = let none = dropped-switch alg u.items_left.now to in omega (arith, h, none)
   switched-left alg x (Some chosen) to h = h
 
-  pub settles : (said : Said) (x : Known) → MaySay (place_of u) said → Tells good stm.config (caller_of u.desc.who.role) said (known u.desc) x → Covered (dropped_of (after (place_of u) said).left + uncovered_by said) each most all x (after (place_of u) said)
+  pub settles : (said : Said) (x : CallerState) → MaySay (place_of u) said → Tells good stm.config (caller_of u.desc.who.role) said (known u.desc) x → Covered (dropped_of (after (place_of u) said).left + uncovered_by said) each most all x (after (place_of u) said)
   settles (TryBegin (begins.Begun alg)) x may t = as-said (TryBegin (begins.Begun alg)) x may t
   settles (TryBegin (begins.Closed gate)) x may t = as-said (TryBegin (begins.Closed gate)) x may t
   settles (TryBegin (begins.Held word)) x may t = as-said (TryBegin (begins.Held word)) x may t

@@ -35,13 +35,13 @@ use Rattle.stm_trace.specs.declared.said.Phase.{Phase}
 use Rattle.stm_trace.specs.declared.said.Phase.TheVariants.{Between, Inside}
 use Rattle.stm_trace.specs.declared.said.Said.{Said}
 use Rattle.stm_trace.specs.declared.said.Said.TheVariants.{TryBegin, Reply, Stopped, TryCancel, TryIrrevocable, TryCommit, TryClose, Looked, Installed, Reserved, Idle, Dropped, Reopened}
-use Rattle.stm_trace.specs.Places.{Place, after, granted_at, irrevocable, is_forced, must_next, rest_of, row_at, switched}
+use Rattle.stm_trace.specs.Places.{CallerProgress, after, granted_at, irrevocable, is_forced, must_next, rest_of, row_at, switched}
 use Rattle.stm_trace.specs.Turns.{BeforeTx, Comes, IsFair, Lengthens, MaySay, MustSwitchTo, SwitchesTo}
 use Rattle.stm_worker.specs.Courses.{BeginsUnder, CoursesInstall, IsFresh, IsUncut, Knows, MayTurn, Went, all_installed, installed}
 use Rattle.stm_worker.specs.Installs.{Adapts, InstallsBy, IsFailure, IsTried, Tried, asked_for, at_most_one, came_to, fulls, installs_by, last_of, ran_under, since_then, switches_of}
 
--- what may be said in a schedule, or behind it, is what may be said
-pub say-turn : (at : Place) (said : Said) → MaySay at said → MayTurn at said
+-- what may be said in a schedule, or after it, is what may be said
+pub say-turn : (at : CallerProgress) (said : Said) → MaySay at said → MayTurn at said
 say-turn at (TryBegin b) m = m
 say-turn at (Reply op reply) m = m
 say-turn at (Stopped op stop) m = m
@@ -56,8 +56,8 @@ say-turn at Idle m = m
 say-turn at Dropped m = absurd m
 say-turn at Reopened m = absurd m
 
--- one course behind another
-pub went-append : (h : Header) (at mid to : Place) (first second : List Said) → Went h at first mid → Went h mid second to → Went h at (first ++ second) to
+-- one course after another
+pub went-append : (h : Header) (at mid to : CallerProgress) (first second : List Said) → Went h at first mid → Went h mid second to → Went h at (first ++ second) to
 went-append h at mid to [] second a b = subst (λ p. Went h p second to) (sym a) b
 went-append h at mid to (said ∷ first) second a b = (a.0, a.1, went-append h (after at said) mid to first second a.2 b)
 
@@ -111,7 +111,7 @@ pub record IsNoted (callers : ℕ) (policy : Policy) (knows : Alg) (since : List
   -- who is alone runs under the algorithm that it knows
   pub under : callers ≡ 1 → phase ≡ Inside → alg ≡ knows
 
-abbrev pub IsNotedAt : ℕ → Policy → Alg → List Outcome → Place → Type 0
+abbrev pub IsNotedAt : ℕ → Policy → Alg → List Outcome → CallerProgress → Type 0
 IsNotedAt callers policy knows since at = IsNoted callers policy knows since at.policy at.phase at.left at.chosen at.profile at.alg
 
 abbrev kinds_in : List Tried → List Kind
@@ -203,7 +203,7 @@ uncut-on Idle course u = u
 uncut-on Dropped course u = absurd u
 uncut-on Reopened course u = u
 
--- one uncut course behind another
+-- one uncut course after another
 pub uncut-append : (first second : List Said) → IsUncut first → IsUncut second → IsUncut (first ++ second)
 uncut-append [] second a b = b
 uncut-append (TryBegin x ∷ first) second a b = uncut-append first second a b
@@ -220,7 +220,7 @@ uncut-append (Idle ∷ first) second a b = uncut-append first second a b
 uncut-append (Dropped ∷ first) second a b = absurd a
 uncut-append (Reopened ∷ first) second a b = uncut-append first second a b
 
--- what is known behind one course is what the next one begins with
+-- what is known after one course is what the next one begins with
 pub knows-append : (start mid last : Alg) (first second : List Said) → Knows start first mid → Knows mid second last → Knows start (first ++ second) last
 knows-append start mid last [] second a b = subst (λ k. Knows k second last) a b
 knows-append start mid last (said ∷ first) second a b = (a.0, knows-append (last_of start (installed said)) mid last first second a.1 b)
@@ -265,8 +265,8 @@ reserve-first reads writes (Tx caller script ∷ items) b = absurd b
 reserve-first reads writes (Switch caller alg ∷ items) b = absurd b
 reserve-first reads writes (Reserve caller r w ∷ items) b = (caller, λ i. Reserve caller (b.0 i) (b.1 i) ∷ items)
 
--- behind its course the caller stands at `to`; of what it had begun there these items are counted as done, with rows of these kinds
-module _ (h : Header) (cut done : Bool) (policy : Policy) (to : Place) (items : List Item) (kinds : List Kind) where
+-- after its course the caller stands at `to`; of what it had begun there these items are counted as done, with rows of these kinds
+module _ (h : Header) (cut done : Bool) (policy : Policy) (to : CallerProgress) (items : List Item) (kinds : List Kind) where
   -- what a course to there installs, where these items and this switch come first, under this algorithm; must: whether the next attempts must become irrevocable
   record Tells (knows : Alg) (since : List Outcome) (left : List Item) (rows : List Row) (chosen : Option Alg) (must : Bool) (course : List Said) : Type 0 where
     did : List Item
@@ -277,13 +277,13 @@ module _ (h : Header) (cut done : Bool) (policy : Policy) (to : Place) (items : 
     adapts : Adapts cut h.callers done policy knows since (at_most_one chosen) (did ++ items) (more ++ kinds) (all_installed course)
     first : must ≡ true → fulls_next adapts.0 ≡ 0
 
-  abbrev TellsAt : Alg → List Outcome → Place → List Said → Type 0
+  abbrev TellsAt : Alg → List Outcome → CallerProgress → List Said → Type 0
   TellsAt knows since at course = Tells knows since at.left at.rows at.chosen at.must course
 
-  abbrev Further : Alg → Place → List Said → Type 0
+  abbrev Further : Alg → CallerProgress → List Said → Type 0
   Further knows at course = (since : List Outcome) → IsNotedAt h.callers policy knows since at → TellsAt knows since at course
 
-  module _ (said : Said) (course : List Said) (at : Place) (knows : Alg) (since : List Outcome) (n : IsNotedAt h.callers policy knows since at) where
+  module _ (said : Said) (course : List Said) (at : CallerProgress) (knows : Alg) (since : List Outcome) (n : IsNotedAt h.callers policy knows since at) where
     -- nothing is done that counts
     still : installed said ≡ [] → TellsAt knows since at course → TellsAt knows since at (said ∷ course)
     still none t = let a = t.adapts in record { did = t.did; more = t.more; all = t.all; told = t.told; enough = t.enough; adapts = (a.0, a.1, a.2, ap (λ l. l ++ all_installed course) none ∙ a.3); first = t.first }
@@ -345,7 +345,7 @@ module _ (h : Header) (cut done : Bool) (policy : Policy) (to : Place) (items : 
         })
 
   -- the switch is done
-  installed-told : (alg : Alg) (course : List Said) (at : Place) (knows : Alg) (since : List Outcome) (chosen : Option Alg) → at.chosen ≡ chosen → at.policy ≡ policy → NotedWith chosen since at.profile → MustSwitchTo alg chosen at.left → ((other : List Outcome) → IsNotedAt h.callers policy alg other (switched chosen at) → TellsAt alg other (switched chosen at) course) → Tells knows since at.left at.rows chosen at.must (Installed alg ∷ course)
+  installed-told : (alg : Alg) (course : List Said) (at : CallerProgress) (knows : Alg) (since : List Outcome) (chosen : Option Alg) → at.chosen ≡ chosen → at.policy ≡ policy → NotedWith chosen since at.profile → MustSwitchTo alg chosen at.left → ((other : List Outcome) → IsNotedAt h.callers policy alg other (switched chosen at) → TellsAt alg other (switched chosen at) course) → Tells knows since at.left at.rows chosen at.must (Installed alg ∷ course)
   installed-told alg course at knows since None is by noted may next =
       let first = switch-first alg at.left may in
       let t = next since (record { by = by; ready = λ e. absurd cc; noted = subst (λ c. NotedWith c since at.profile) (sym is) noted; under = λ one e. absurd cc }) in
@@ -373,7 +373,7 @@ module _ (h : Header) (cut done : Bool) (policy : Policy) (to : Place) (items : 
       }
 
   -- longer logs are made
-  lengthened-told : (reads writes : ℕ) (course : List Said) (at : Place) (knows : Alg) (since : List Outcome) → at.chosen ≡ None → Lengthens reads writes at.left → Tells knows since (rest_of at.left) at.rows at.chosen at.must course → TellsAt knows since at (Reserved reads writes ∷ course)
+  lengthened-told : (reads writes : ℕ) (course : List Said) (at : CallerProgress) (knows : Alg) (since : List Outcome) → at.chosen ≡ None → Lengthens reads writes at.left → Tells knows since (rest_of at.left) at.rows at.chosen at.must course → TellsAt knows since at (Reserved reads writes ∷ course)
   lengthened-told reads writes course at knows since unasked may t =
       let first = reserve-first reads writes at.left may in
       let a = t.adapts in
@@ -388,7 +388,7 @@ module _ (h : Header) (cut done : Bool) (policy : Policy) (to : Place) (items : 
       }
 
   -- a turn, by what it says
-  module _ (course : List Said) (at : Place) (knows : Alg) (since : List Outcome) (n : IsNotedAt h.callers policy knows since at) where
+  module _ (course : List Said) (at : CallerProgress) (knows : Alg) (since : List Outcome) (n : IsNotedAt h.callers policy knows since at) where
     -- once an attempt must become irrevocable, the next ones must too
     forced-on : at.must ≡ true → must_next at.must at.failed ≡ true
     forced-on e = ap (λ m. must_next m at.failed) e
@@ -446,9 +446,9 @@ module _ (h : Header) (cut done : Bool) (policy : Policy) (to : Place) (items : 
     by-said Dropped may fair uncut under next = failed Dropped course at knows since n outcomes.Cancelled at.must (inr (cut-by cut uncut)) (λ e. (refl, e)) (inl refl) refl may.0 next
     by-said Reopened may fair uncut under next = still Reopened course at knows since n refl (next since (record { by = n.by; ready = λ e. absurd cc; noted = n.noted; under = λ one e. absurd cc }))
 
-  -- the whole course, where the items that are counted as done behind it install nothing
+  -- the whole course, where the items that are counted as done after it install nothing
   module _ (last : (knows : Alg) (since : List Outcome) → IsNotedAt h.callers policy knows since to → (a : Adapts cut h.callers done policy knows since (at_most_one to.chosen) items kinds []) × (fulls_next a.0 ≡ 0)) (enough : to.chosen ≡ None → (done ≡ true) ⊎ (items ≢ [])) (end : Alg) where
-    all-told : (course : List Said) (at : Place) (knows : Alg) (since : List Outcome) → IsNotedAt h.callers policy knows since at → Went h at course to → (cut ≡ false → IsUncut course) → (h.callers ≡ 1 → Knows knows course end) → TellsAt knows since at course
+    all-told : (course : List Said) (at : CallerProgress) (knows : Alg) (since : List Outcome) → IsNotedAt h.callers policy knows since at → Went h at course to → (cut ≡ false → IsUncut course) → (h.callers ≡ 1 → Knows knows course end) → TellsAt knows since at course
     all-told [] at knows since n went uncut alone = let a = last knows since (subst (IsNotedAt h.callers policy knows since) went n) in subst (λ p. TellsAt knows since p []) (sym went) (record {
       did = [];
       more = [];
@@ -461,7 +461,7 @@ module _ (h : Header) (cut done : Bool) (policy : Policy) (to : Place) (items : 
     all-told (said ∷ course) at knows since n went uncut alone =
         by-said course at knows since n said went.0 went.1 uncut (λ one. (alone one).0) (λ other m. all-told course (after at said) (last_of knows (installed said)) other m went.2 (λ e. uncut-on said course (uncut e)) (λ one. (alone one).1))
 
-fresh-noted : (callers : ℕ) (knows : Alg) (at : Place) → IsFresh at → IsNotedAt callers at.policy knows [] at
+fresh-noted : (callers : ℕ) (knows : Alg) (at : CallerProgress) → IsFresh at → IsNotedAt callers at.policy knows [] at
 fresh-noted callers knows at f = record {
   by = refl;
   ready = λ e. absurd (let x = sym f.between ∙ e in cc);
@@ -484,7 +484,7 @@ by-policy cut callers done Expert start items kinds installs a = a
 by-policy cut callers done (State n) start items kinds installs a = a
 
 -- of a caller that had done nothing, where these are the first of its items, or these and the first operations of an attempt
-module _ (cut : Bool) (h : Header) (at to : Place) (course : List Said) (start end : Alg) (fresh : IsFresh at) (went : Went h at course to) (uncut : cut ≡ false → IsUncut course) (alone : h.callers ≡ 1 → Knows start course end) (first : List Item) (is : at.left ≡ first ++ to.left) where
+module _ (cut : Bool) (h : Header) (at to : CallerProgress) (course : List Said) (start end : Alg) (fresh : IsFresh at) (went : Went h at course to) (uncut : cut ≡ false → IsUncut course) (alone : h.callers ≡ 1 → Knows start course end) (first : List Item) (is : at.left ≡ first ++ to.left) where
   from-start : (done : Bool) (items : List Item) (kinds : List Kind) → TellsAt h cut done at.policy to items kinds start [] at course → InstallsBy cut h.callers done at.policy start (first ++ items) (map (λ (r : Row). r.kind) to.rows ++ kinds) (all_installed course)
   from-start done items kinds t =
       let did : t.did ≡ first = append_cancel_right t.did first to.left (sym t.all ∙ is) in

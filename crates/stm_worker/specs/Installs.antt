@@ -1,4 +1,4 @@
--- WHICH INSTALLS ARE A CALLER'S: the switches of its items, and behind a transaction the switch that its policy asks for. With one caller alone these are determined but for one thing: whether a transaction's first attempt met a log that was too short.
+-- WHICH INSTALLS ARE A CALLER'S: the switches of its items, and after a transaction the switch that its policy asks for. With one caller alone these are determined but for one thing: whether a transaction's first attempt met a log that was too short.
 use Rattle.std.specs.Prelude.{ℕ, suc, ◌≡◌, ◌<◌, ◌≤◌, ◌⊎◌, ◌==◌, Bool, true, List, [], ◌∷◌, ◌++◌, map, All, Option, Some, None, if◌then◌else◌}
 use Rattle.stm_model.specs.declared.alg.Alg.{Alg}
 use Rattle.stm_profile.specs.declared.outcome.Outcome.{Outcome}
@@ -41,7 +41,7 @@ fulls (Cancelled ∷ more) = fulls more
 fulls (Conflict ∷ more) = fulls more
 fulls (Full ∷ more) = suc (fulls more)
 
--- how the attempts of a transaction fail: behind a log that was too short they are irrevocable, and need none. So with one caller, and no schedule, at most one fails
+-- how the attempts of a transaction fail: after a log that was too short they are irrevocable, and need none. So with one caller, and no schedule, at most one fails
 pub record IsTried (cut : Bool) (callers : ℕ) (t : Tried) : Type 0 where
   pub failures : All (IsFailure cut callers) t.failed
   pub once : fulls t.failed ≤ 1

@@ -9,21 +9,21 @@ use Rattle.stm_script.specs.Reports.{scripts_of}
 use Rattle.stm_rule.specs.declared.stm.Stm.{Stm}
 use Rattle.stm_rule.specs.Callers.{IsOf, IsSameCaller}
 use Rattle.tx_answers.specs.Answers.{CommitsAt}
-use Rattle.tx_answers.specs.Known.{Known, Grows, IsIdle, caller_of, is_irrevocable, owed}
+use Rattle.tx_answers.specs.CallerState.{CallerState, Grows, IsIdle, caller_of, is_irrevocable, owed}
 use Rattle.stm_tx.specs.Descs.{known}
 use Rattle.stm_trace.specs.declared.said.Phase.TheVariants.{Between, Inside}
 use Rattle.stm_trace.specs.declared.said.Said.{Said}
-use Rattle.stm_trace.specs.Places.{Place, clock_of, irrevocable}
+use Rattle.stm_trace.specs.Places.{CallerProgress, clock_of, irrevocable}
 use Rattle.stm_trace.specs.Turns.{MayWind}
 use Rattle.stm_worker.specs.declared.worker.Worker.{Worker}
 use Rattle.stm_worker.specs.Workers.{place_of, IsSame, Sound, Turned, Works}
 
 -- no attempt and no closing is open
-abbrev pub HasNothingOpen : Place → Type 0
+abbrev pub HasNothingOpen : CallerProgress → Type 0
 HasNothingOpen at = at.phase ≡ Between
 
 -- nothing is open but an attempt that can't be cancelled
-abbrev pub HasOnlyIrrevocableOpen : Place → Type 0
+abbrev pub HasOnlyIrrevocableOpen : CallerProgress → Type 0
 HasOnlyIrrevocableOpen at = (at.phase ≡ Between) ⊎ ((at.phase ≡ Inside) × (irrevocable at ≡ true))
 
 module _ {K : Type 0} (good : List ℕ → Type 0) (stm : Stm K) where
@@ -42,19 +42,19 @@ module _ {K : Type 0} (good : List ℕ → Type 0) (stm : Stm K) where
     pub nothing_open : HasNothingOpen (place_of w)
 
 -- what the caller made and installed when its descriptor was left idle: an attempt that can be cancelled makes no entry, and another at most the one of its log
-pub record KeepsMade (good : List ℕ → Type 0) (c : Config) (n : ℕ) (v w : Known) : Type 0 where
+pub record KeepsMade (good : List ℕ → Type 0) (c : Config) (n : ℕ) (v w : CallerState) : Type 0 where
   pub grows : Grows v w
   pub made : (w.made ≡ v.made) ⊎ ((v.running ≡ true) × (is_irrevocable v ≡ true) × ((time : ℕ) × CommitsAt good c n time v w))
   pub installs : w.installs ≡ v.installs
 
--- behind the first items the first operations of the transaction that comes next
+-- after the first items the first operations of the transaction that comes next
 abbrev pub BeginsNext : List Item → List Item → List Item → Type 0
 BeginsNext first [] did = ⊥
 BeginsNext first (Tx caller script ∷ left) did = (ops rest : List Op) × (script ≡ ops ++ rest) × (did ≡ first ++ Tx caller ops ∷ [])
 BeginsNext first (Switch caller alg ∷ left) did = ⊥
 BeginsNext first (Reserve caller reads writes ∷ left) did = ⊥
 
--- of all items the first ones, behind which these are left, and maybe the first operations of the transaction that comes next
+-- of all items the first ones, after which these are left, and maybe the first operations of the transaction that comes next
 abbrev pub IsPart : List Item → List Item → List Item → Type 0
 IsPart all left did = (first : List Item) × (all ≡ first ++ left) × ((did ≡ first) ⊎ BeginsNext first left did)
 

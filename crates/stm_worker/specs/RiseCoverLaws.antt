@@ -8,13 +8,13 @@ use Rattle.stm_profile.specs.declared.policy.Policy.TheVariants.{Fixed}
 use Rattle.stm_rule.specs.declared.stm.Stm.{Stm}
 use Rattle.stm_script.specs.declared.workload.Item.{Item}
 use Rattle.stm_script.specs.declared.workload.Item.TheVariants.{Tx, Switch, Reserve}
-use Rattle.tx_answers.specs.Known.{owed, caller_of}
+use Rattle.tx_answers.specs.CallerState.{owed, caller_of}
 use Rattle.stm_tx.specs.Descs.{known}
 use Rattle.stm_trace.specs.declared.said.Phase.{Phase}
 use Rattle.stm_trace.specs.declared.said.Phase.TheVariants.{Between, Inside, Closing, Quiet}
 use Rattle.stm_trace.specs.declared.said.Said.{Said}
 use Rattle.stm_trace.specs.declared.said.Said.TheVariants.{TryBegin, Reply, Stopped, TryCancel, TryIrrevocable, TryCommit, TryClose, Looked, Installed, Reserved, Idle, Dropped, Reopened}
-use Rattle.stm_trace.specs.Places.{Place, after, clock_of, most_failed}
+use Rattle.stm_trace.specs.Places.{CallerProgress, after, clock_of, most_failed}
 use Rattle.stm_trace.specs.Turns.{MaySay, MayWind, MayFinish}
 use Rattle.stm_worker.specs.declared.worker.Worker.{Worker}
 use Rattle.stm_worker.specs.RiseCovers.{raised, failed_rises, Covers, CoversBut, CoversAfter, CoversOnceDone, CoversOnceDoneAfter, CoversWinding, CoversWindingAfter, AllowsOneMore, Covered, dropped_of, uncovered_at, uncovered_by, IsCountedFor, CountsNext}
@@ -24,7 +24,7 @@ use Rattle.stm_worker.specs.CoveredLaws.{failed_rises-low, each-item, under, tx-
 use Rattle.stm_worker.specs.CountLaws.{CountsAt, alone-failed, counted-none, said-counts}
 
 -- a turn leads to its place, with the same items in all
-covered-there : {K : Type 0} (good : List ℕ → Type 0) (stm : Stm K) (may : Place → Said → Type 0) (u : Worker K) (said : Said) (w : Worker K) (uncovered each most : ℕ) → Turned good stm may u said w
+covered-there : {K : Type 0} (good : List ℕ → Type 0) (stm : Stm K) (may : CallerProgress → Said → Type 0) (u : Worker K) (said : Said) (w : Worker K) (uncovered each most : ℕ) → Turned good stm may u said w
     → Covered uncovered each most (length u.all.now) (known w.desc) (after (place_of u) said) → CoversBut uncovered each most w
 covered-there good stm may u said w uncovered each most t h =
     subst (λ items. Covered uncovered each most (length items) (known w.desc) (place_of w)) (sym t.same.kept.all)
@@ -36,7 +36,7 @@ all-covered w each most None h = omega (arith, h)
 all-covered w each most (Some clock) h = omega (arith, h)
 
 -- while the schedule goes on no attempt is dropped
-pub same-uncovered : (at : Place) (said : Said) → MaySay at said → uncovered_by said ≡ uncovered_at (clock_of said)
+pub same-uncovered : (at : CallerProgress) (said : Said) → MaySay at said → uncovered_by said ≡ uncovered_at (clock_of said)
 same-uncovered at (TryBegin b) may = refl
 same-uncovered at (Reply op reply) may = refl
 same-uncovered at (Stopped op stop) may = refl
@@ -71,8 +71,8 @@ module _ {K : Type 0} (good : List ℕ → Type 0) (stm : Stm K) (u : Worker K) 
   pub turned-covers : (each most : ℕ) → Turned good stm MaySay u said w → 17 ≤ most → most + 3 ≤ each → Covers each most u → CoversAfter each most (clock_of said) w
   turned-covers each most t much wide covers = after-turn each most t (turned-covers-but 0 each most t (omega arith) wide (omega (arith, covers)))
 
--- behind the schedule, once nothing is open, no more may be said than before
-finish-says : (at : Place) (said : Said) → MayFinish at said → MaySay at said
+-- after the schedule, once nothing is open, no more may be said than before
+finish-says : (at : CallerProgress) (said : Said) → MayFinish at said → MaySay at said
 finish-says at (TryBegin b) may = may
 finish-says at (Reply op reply) may = may
 finish-says at (Stopped op stop) may = may
@@ -89,8 +89,8 @@ finish-says at Reopened may = may
 
 module _ {K : Type 0} (good : List ℕ → Type 0) (stm : Stm K) (u : Worker K) (said : Said) (w : Worker K) (s : Sound good stm u) where
   -- with one caller no attempt is counted, whatever may be said
-  pub none-failed : (may : Place → Said → Type 0) → Turned good stm may u said w → stm.config.callers ≡ 1 → u.failed ≡ 0 → w.failed ≡ 0
-  none-failed may t one none = ap (λ (p : Place). p.failed) t.now ∙ alone-failed good stm.config (caller_of u.desc.who.role) one said (place_of u) (known u.desc) (known w.desc) none t.told
+  pub none-failed : (may : CallerProgress → Said → Type 0) → Turned good stm may u said w → stm.config.callers ≡ 1 → u.failed ≡ 0 → w.failed ≡ 0
+  none-failed may t one none = ap (λ (p : CallerProgress). p.failed) t.now ∙ alone-failed good stm.config (caller_of u.desc.who.role) one said (place_of u) (known u.desc) (known w.desc) none t.told
 
   -- and so one that must be irrevocable follows only on one whose log was too short
   pub turned-covers-alone : (each most : ℕ) → Turned good stm MaySay u said w → stm.config.callers ≡ 1 → u.failed ≡ 0 → 1 ≤ most → most + 3 ≤ each → Covers each most u → CoversAfter each most (clock_of said) w × (w.failed ≡ 0)
@@ -141,17 +141,17 @@ done-covered w each most None h = omega (arith, h)
 done-covered w each most (Some clock) h = h
 
 module _ {K : Type 0} (good : List ℕ → Type 0) (stm : Stm K) (u : Worker K) (said : Said) (w : Worker K) (s : Sound good stm u) where
-  settled-there : (may : Place → Said → Type 0) (each most : ℕ) → Turned good stm may u said w → MaySay (place_of u) said → u.policy ≡ Fixed → AllowsOneMore most u → most + 3 ≤ each → CoversOnceDone each most u → CoversOnceDoneAfter each most (clock_of said) w
+  settled-there : (may : CallerProgress → Said → Type 0) (each most : ℕ) → Turned good stm may u said w → MaySay (place_of u) said → u.policy ≡ Fixed → AllowsOneMore most u → most + 3 ≤ each → CoversOnceDone each most u → CoversOnceDoneAfter each most (clock_of said) w
   settled-there may each most t says fixed few wide covers =
       done-covered w each most (clock_of said) (subst (λ n. CoversBut (dropped_of w.items_left.now + n) each most w) (same-uncovered (place_of u) said says)
-      (subst (λ (at : Place). CoversBut (dropped_of at.left + uncovered_by said) each most w) (sym t.now)
+      (subst (λ (at : CallerProgress). CoversBut (dropped_of at.left + uncovered_by said) each most w) (sym t.now)
       (covered-there good stm may u said w (dropped_of (after (place_of u) said).left + uncovered_by said) each most t
       (settles good stm u s fixed each most (length u.all.now) few wide covers said (known w.desc) says t.told))))
 
   pub finished-covers : (each most : ℕ) → Turned good stm MayFinish u said w → u.policy ≡ Fixed → AllowsOneMore most u → most + 3 ≤ each → CoversOnceDone each most u → CoversOnceDoneAfter each most (clock_of said) w
   finished-covers each most t fixed few wide covers = settled-there MayFinish each most t (finish-says (place_of u) said t.here) fixed few wide covers
 
--- an attempt that goes on behind the schedule was not dropped
+-- an attempt that goes on after the schedule was not dropped
 winds : {K : Type 0} (w : Worker K) (each most : ℕ) (clock : Option ℕ) → CoversBut (0 + uncovered_at clock) each most w → CoversWindingAfter each most clock w
 winds w each most None h = (omega (arith, h), λ e. omega (arith, h))
 winds w each most (Some clock) h = omega (arith, h)
@@ -165,10 +165,10 @@ module _ {K : Type 0} (good : List ℕ → Type 0) (stm : Stm K) (u : Worker K) 
       (said-covered good stm u s 0 each most (length u.all.now) few wide (omega (arith, now)) said (known w.desc) says t.told)))
 
   -- it has nothing open any more
-  outside : (at : Place) → at.phase ≡ Between → place_of w ≡ at → w.phase ≡ Inside → Covers each most w
-  outside at between now e = absurd (let f : Between ≡ Inside = sym between ∙ (sym (ap (λ (p : Place). p.phase) now) ∙ e) in cc)
+  outside : (at : CallerProgress) → at.phase ≡ Between → place_of w ≡ at → w.phase ≡ Inside → Covers each most w
+  outside at between now e = absurd (let f : Between ≡ Inside = sym between ∙ (sym (ap (λ (p : CallerProgress). p.phase) now) ∙ e) in cc)
 
-  -- behind the schedule: an attempt is dropped, or a closing given up, or an attempt that can't be cancelled goes on
+  -- after the schedule: an attempt is dropped, or a closing given up, or an attempt that can't be cancelled goes on
   pub wound-covers : (said : Said) → Turned good stm MayWind u said w → CoversWindingAfter each most (clock_of said) w
   wound-covers (TryBegin b) t = goes-on (TryBegin b) t t.here.0 t.here.2
   wound-covers (Reply op reply) t = goes-on (Reply op reply) t t.here.0 t.here.2
@@ -183,12 +183,12 @@ module _ {K : Type 0} (good : List ℕ → Type 0) (stm : Stm K) (u : Worker K) 
   wound-covers Idle t = goes-on Idle t t.here.0 t.here.2
   wound-covers Dropped t =
       let now : Covers each most u = covers.1 t.here.0 in
-      let one : dropped_of w.items_left.now ≡ 1 = ap (λ (p : Place). dropped_of p.left) t.now ∙ dropped-tx u.items_left.now (under good stm u s t.here.0).here in
+      let one : dropped_of w.items_left.now ≡ 1 = ap (λ (p : CallerProgress). dropped_of p.left) t.now ∙ dropped-tx u.items_left.now (under good stm u s t.here.0).here in
       let h : CoversBut 1 each most w = covered-there good stm MayWind u Dropped w 1 each most t
       (wound-covered good stm u s 0 each most (length u.all.now) few wide (omega (arith, now)) Dropped (known w.desc) t.here t.told) in
       (omega (arith, h, one), outside (after (place_of u) Dropped) refl t.now)
   wound-covers Reopened t =
-      let same : dropped_of w.items_left.now ≡ dropped_of u.items_left.now = ap (λ (p : Place). dropped_of p.left) t.now in
+      let same : dropped_of w.items_left.now ≡ dropped_of u.items_left.now = ap (λ (p : CallerProgress). dropped_of p.left) t.now in
       let h : CoversBut (dropped_of u.items_left.now + 0) each most w = covered-there good stm MayWind u Reopened w (dropped_of u.items_left.now + 0) each most t
       (wound-covered good stm u s (dropped_of u.items_left.now) each most (length u.all.now) few wide covers.0 Reopened (known w.desc) t.here t.told) in
       (omega (arith, h, same), outside (record (place_of u) { phase = Between }) refl t.now)

@@ -4,19 +4,19 @@ use Rattle.stm_model.specs.declared.alg.Alg.{Alg}
 use Rattle.stm_profile.specs.declared.policy.Policy.TheVariants.{Fixed}
 use Rattle.stm_script.specs.declared.workload.Item.{Item}
 use Rattle.stm_script.specs.declared.workload.Item.TheVariants.{Tx, Switch, Reserve}
-use Rattle.tx_answers.specs.Known.{Known, owed}
+use Rattle.tx_answers.specs.CallerState.{CallerState, owed}
 use Rattle.stm_tx.specs.Descs.{known}
 use Rattle.stm_trace.specs.declared.said.Phase.TheVariants.{Inside}
 use Rattle.stm_trace.specs.declared.said.Said.{Said}
 use Rattle.stm_trace.specs.declared.said.Said.TheVariants.{TryBegin, Reply, Stopped, TryCancel, TryIrrevocable, TryCommit, TryClose, Looked, Installed, Reserved, Idle, Dropped, Reopened}
-use Rattle.stm_trace.specs.Places.{Place, clock_of}
+use Rattle.stm_trace.specs.Places.{CallerProgress, clock_of}
 use Rattle.stm_trace.specs.Turns.{MaySay, MayWind, MayFinish}
 use Rattle.stm_rule.specs.declared.stm.Stm.{Stm}
 use Rattle.stm_worker.specs.declared.worker.Worker.{Worker}
 use Rattle.stm_worker.specs.Workers.{Sound, Turned}
 
 -- what its steps raised the clock by, an open attempt's own left out
-abbrev pub raised : Known → ℕ
+abbrev pub raised : CallerState → ℕ
 raised v = if v.running then v.base else v.rises
 
 -- the attempts of the next transaction that failed raised it by at most one each, until one has failed that must not again
@@ -24,7 +24,7 @@ abbrev pub failed_rises : ℕ → ℕ → Bool → ℕ
 failed_rises most failed true = most
 failed_rises most failed false = failed
 
--- the switch that the policy asks for behind a transaction may raise it by one
+-- the switch that the policy asks for after a transaction may raise it by one
 abbrev pub due_of : Option Alg → ℕ
 due_of None = 0
 due_of (Some alg) = 1
@@ -42,7 +42,7 @@ abbrev pub CoversAfter : {K : Type 0} → ℕ → ℕ → Option ℕ → Worker 
 CoversAfter each most None w = Covers each most w
 CoversAfter each most (Some clock) w = CoversBut 1 each most w
 
--- one rise of a transaction that comes next may be that of an attempt that was dropped behind the schedule
+-- one rise of a transaction that comes next may be that of an attempt that was dropped after the schedule
 abbrev pub dropped_of : List Item → ℕ
 dropped_of [] = 0
 dropped_of (Tx caller script ∷ items) = 1
@@ -69,7 +69,7 @@ CoversWindingAfter each most (Some clock) w = CoversBut (dropped_of w.items_left
 abbrev pub AllowsOneMore : {K : Type 0} → ℕ → Worker K → Type 0
 AllowsOneMore most w = w.must ≡ false → w.failed + 1 ≤ most
 
--- the rises of a turn that nothing covers: those of an attempt that found the clock full, or was dropped behind the schedule
+-- the rises of a turn that nothing covers: those of an attempt that found the clock full, or was dropped after the schedule
 abbrev pub uncovered_at : Option ℕ → ℕ
 uncovered_at None = 0
 uncovered_at (Some clock) = 1
@@ -90,7 +90,7 @@ uncovered_by Dropped = 1
 uncovered_by Reopened = 0
 
 -- the same of what a caller knows at a place, with so many items in all
-abbrev pub Covered : ℕ → ℕ → ℕ → ℕ → Known → Place → Type 0
+abbrev pub Covered : ℕ → ℕ → ℕ → ℕ → CallerState → CallerProgress → Type 0
 Covered uncovered each most all v at = raised v + each * length at.left + due_of at.chosen ≤ each * all + failed_rises most at.failed at.must + uncovered
 
 -- only attempts of the transaction that comes next are counted
@@ -113,7 +113,7 @@ module _ (K : Type 0) (good : List ℕ → Type 0) where
   TurnsCoverAlone = (stm : Stm K) (u : Worker K) (said : Said) (w : Worker K) (each most : ℕ) → Sound good stm u → Turned good stm MaySay u said w → stm.config.callers ≡ 1 → u.failed ≡ 0 → 1 ≤ most → most + 3 ≤ each → Covers each most u
       → CoversAfter each most (clock_of said) w × (w.failed ≡ 0)
 
-  -- behind the schedule an attempt may be dropped, which its item covers later
+  -- after the schedule an attempt may be dropped, which its item covers later
   abbrev pub TurnsCoverWinding : Type 0
   TurnsCoverWinding = (stm : Stm K) (u : Worker K) (said : Said) (w : Worker K) (each most : ℕ) → Sound good stm u → Turned good stm MayWind u said w → AllowsOneMore most u → most + 3 ≤ each → CoversWinding each most u → CoversWindingAfter each most (clock_of said) w
 

@@ -5,22 +5,22 @@ use Rattle.stm_model.specs.declared.config.Config.{Config}
 use Rattle.stm_model.specs.declared.stop.Stop.{Stop}
 use Rattle.stm_model.specs.declared.stop.Stop.TheVariants as stops
 use Rattle.tx_answers.specs.Answers.{Quits, Stops}
-use Rattle.tx_answers.specs.Known.{Known, owed}
+use Rattle.tx_answers.specs.CallerState.{CallerState, owed}
 use Rattle.stm_worker.specs.RiseCovers.{raised}
 
-pub raised-in : (v : Known) → v.running ≡ true → raised v ≡ v.base
+pub raised-in : (v : CallerState) → v.running ≡ true → raised v ≡ v.base
 raised-in v e = ap (λ b. if b then v.base else v.rises) e
 
-pub raised-out : (v : Known) → v.running ≡ false → raised v ≡ v.rises
+pub raised-out : (v : CallerState) → v.running ≡ false → raised v ≡ v.rises
 raised-out v e = ap (λ b. if b then v.base else v.rises) e
 
-pub owed-in : (v : Known) → v.running ≡ true → owed v ≡ v.base + 2
+pub owed-in : (v : CallerState) → v.running ≡ true → owed v ≡ v.base + 2
 owed-in v e = ap (λ b. if b then v.base + 2 else v.rises) e
 
-pub owed-out : (v : Known) → v.running ≡ false → owed v ≡ v.rises
+pub owed-out : (v : CallerState) → v.running ≡ false → owed v ≡ v.rises
 owed-out v e = ap (λ b. if b then v.base + 2 else v.rises) e
 
-pub stops-quits : (good : List ℕ → Type 0) (c : Config) (n a : ℕ) (stop : Stop) (v w : Known) → Stops good c n a stop v w → Quits v w
+pub stops-quits : (good : List ℕ → Type 0) (c : Config) (n a : ℕ) (stop : Stop) (v w : CallerState) → Stops good c n a stop v w → Quits v w
 stops-quits good c n a (stops.Conflict cause) v w t = t.0
 stops-quits good c n a (stops.Full limit) v w t = t.0
 stops-quits good c n a (stops.ClockFull clock) v w t = t.0

@@ -27,32 +27,32 @@ use Rattle.stm_script.specs.Reports.{scripts_of, script_of, zeros}
 use Rattle.stm_rule.specs.Callers.{Handle, IsOf, IsSameCaller}
 use Rattle.stm_rule.specs.declared.stm.Stm.{Stm}
 use Rattle.tx_answers.specs.Answers.{HoldsClosed, SeesQuiet}
-use Rattle.tx_answers.specs.Known.{Known, IsIdle, IsUnrolled, caller_of, owed}
+use Rattle.tx_answers.specs.CallerState.{CallerState, IsIdle, IsUnrolled, caller_of, owed}
 use Rattle.stm_tx.specs.Descs.{known}
 use Rattle.stm_trace.specs.declared.said.Phase.{Phase}
 use Rattle.stm_trace.specs.declared.said.Phase.TheVariants.{Between, Inside, Closing, Quiet}
 use Rattle.stm_trace.specs.declared.said.Said.{Said}
 use Rattle.stm_trace.specs.Adapting.{asked_by, no_profile}
-use Rattle.stm_trace.specs.Places.{Place, after, clock_of, ended, failed_next, must_next, most_failed, recorded, rest_of, script_at, irrevocable}
+use Rattle.stm_trace.specs.Places.{CallerProgress, after, clock_of, ended, failed_next, must_next, most_failed, recorded, rest_of, script_at, irrevocable}
 use Rattle.stm_trace.specs.Turns.{BeforeTx, Lengthens, MustSwitch, HasSizes, IsFair}
 use Rattle.stm_worker.specs.declared.worker.Worker.{Worker}
 use Rattle.stm_worker.specs.Goings.{Going}
 use Rattle.stm_worker.specs.Courses.{IsUncut, Knows, Went, all_installed, installed, is_cut}
 use Rattle.stm_worker.specs.Tellings.{Tells}
 
-abbrev pub place_of : {K : Type 0} → Worker K → Place
+abbrev pub place_of : {K : Type 0} → Worker K → CallerProgress
 place_of w = record { caller = caller_of w.desc.who.role; left = w.items_left.now; failed = w.failed; must = w.must; phase = w.phase; alg = w.alg; rest = w.operations_left.now; replies = w.out.replies; emits = w.out.emits; wrote = w.wrote; granted = w.granted; rows = w.rows.items; policy = w.policy; profile = w.profile; chosen = w.chosen; reads_limit = (known w.desc).reads_limit; writes_limit = (known w.desc).writes_limit }
 
 -- the descriptor of caller n is idle, in an attempt, or holds the gate
-abbrev pub IsAt : (List ℕ → Type 0) → Config → ℕ → Phase → Known → Type 0
+abbrev pub IsAt : (List ℕ → Type 0) → Config → ℕ → Phase → CallerState → Type 0
 IsAt good c n Between v = IsIdle v
 IsAt good c n Inside v = v.running ≡ true
 IsAt good c n Closing v = HoldsClosed v
 IsAt good c n Quiet v = HoldsClosed v × SeesQuiet good c n v
 
 -- a step found the clock to be this
-abbrev pub Loaded : Known → ℕ → Type 0
-Loaded v clock = (act : Act) × Contains v.trail (record { place = Clock; act = act; found = Some clock })
+abbrev pub Loaded : CallerState → ℕ → Type 0
+Loaded v clock = (act : Act) × Contains v.step_trace (record { place = Clock; act = act; found = Some clock })
 
 abbrev pub WhenInside : Phase → Type 0 → Type 0
 WhenInside Between P = Unit {0}
@@ -83,25 +83,25 @@ abbrev pub DidFirst : List Item → List Item → Type 0
 DidFirst all left = (first : List Item) × (all ≡ first ++ left)
 
 -- the caller's rows and what it knows: each row is what its script does
-abbrev pub Works : (List ℕ → Type 0) → ℕ → List Region → List Item → ℕ → Known → List Row → Type 0
+abbrev pub Works : (List ℕ → Type 0) → ℕ → List Region → List Item → ℕ → CallerState → List Row → Type 0
 Works good words regions all n v rows = Worked good (zeros words) regions (script_of all) n v.made v.seen v.front rows
 
 -- the same in an open attempt, from what the caller knew when it began
-pub record WorksSince (good : List ℕ → Type 0) (words : ℕ) (regions : List Region) (all : List Item) (n : ℕ) (v : Known) (rows : List Row) : Type 0 where
+pub record WorksSince (good : List ℕ → Type 0) (words : ℕ) (regions : List Region) (all : List Item) (n : ℕ) (v : CallerState) (rows : List Row) : Type 0 where
   pub seen : List Entry
   pub front : ℕ
   pub works : Worked good (zeros words) regions (script_of all) n v.made seen front rows
   pub grew : Grew seen front v.seen v.front
   pub fresh : front ≤ v.start
 
-abbrev pub Stands : (List ℕ → Type 0) → ℕ → List Region → List Item → ℕ → Known → List Row → Phase → Type 0
+abbrev pub Stands : (List ℕ → Type 0) → ℕ → List Region → List Item → ℕ → CallerState → List Row → Phase → Type 0
 Stands good words regions all n v rows Between = Works good words regions all n v rows
 Stands good words regions all n v rows Inside = WorksSince good words regions all n v rows
 Stands good words regions all n v rows Closing = Works good words regions all n v rows
 Stands good words regions all n v rows Quiet = Works good words regions all n v rows
 
 -- the logs have the lengths of the memory's configuration
-abbrev pub HasLengths : Config → Known → Type 0
+abbrev pub HasLengths : Config → CallerState → Type 0
 HasLengths c v = (v.reads_limit ≡ c.reads) × (v.writes_limit ≡ c.writes)
 
 -- attempts are counted until the next one must become irrevocable
@@ -114,7 +114,7 @@ cleared o = record o { replies = []; emits = [] }
 abbrev pub blank : ℕ → Output
 blank room = record { replies = []; emits = []; room = room }
 
--- empty room for each script to come, the next one's last, and nothing behind the last script
+-- empty room for each script to come, the next one's last, and nothing after the last script
 abbrev pub spares : List Item → List Output
 spares [] = blank 0 ∷ []
 spares (Tx caller script ∷ items) = spares items ++ blank (length script) ∷ []
@@ -144,7 +144,7 @@ pub record IsSame {K : Type 0} (cut : Bool) (v w : Worker K) : Type 0 where
   pub alone : v.desc.who.config.callers ≡ 1 → Knows (known v.desc).alg course (known w.desc).alg
 
 -- nothing is done, and there is room for all; alg is the memory's algorithm at the start
-pub record Starts {K : Type 0} (desc : Handle K) (items : List Item) (regions : List Region) (alg : Alg) (policy : Policy) (w : Worker K) : Type 0 where
+pub record IsFreshWorker {K : Type 0} (desc : Handle K) (items : List Item) (regions : List Region) (alg : Alg) (policy : Policy) (w : Worker K) : Type 0 where
   pub is_desc : w.desc ≡ desc
   pub all : w.all.now ≡ items
   pub at : place_of w ≡ record { caller = caller_of desc.who.role; left = items; failed = 0; must = false; phase = Between; alg = alg; rest = []; replies = []; emits = []; wrote = false; granted = false; rows = []; policy = policy; profile = no_profile; chosen = None; reads_limit = (known desc).reads_limit; writes_limit = (known desc).writes_limit }
@@ -223,7 +223,7 @@ module _ {K : Type 0} (good : List ℕ → Type 0) (stm : Stm K) where
     pub under_way : WhenInside w.phase (IsUnderWay good stm.config.words w)
 
   -- a turn says what may come at its place, tells what its call found, by the numbers that its cause allows, and leads where that leads
-  pub record Turned (may : Place → Said → Type 0) (v : Worker K) (said : Said) (w : Worker K) : Type 0 where
+  pub record Turned (may : CallerProgress → Said → Type 0) (v : Worker K) (said : Said) (w : Worker K) : Type 0 where
     pub sound : Sound w
     pub here : may (place_of v) said
     pub told : Tells good stm.config (caller_of v.desc.who.role) said (known v.desc) (known w.desc)

@@ -2,7 +2,7 @@
 ghost use Rattle.std.specs.Prelude.{◌≡◌, ◌≤◌, [], true, MatchBool, MatchOption};
 ghost use Rattle.stm_rule.specs.Callers.{IsOf, IsSameCaller};
 ghost use Rattle.tx_answers.specs.Answers.{KeepsRule};
-ghost use Rattle.tx_answers.specs.Known.{IsIdle, caller_of, owed};
+ghost use Rattle.tx_answers.specs.CallerState.{IsIdle, caller_of, owed};
 ghost use Rattle.stm_tx.specs.Descs.{known};
 ghost use Rattle.stm_trace.specs.Turns.{IsOver};
 ghost use Rattle.stm_worker.specs.Leavings.{HasNothingOpen, NothingToGiveUp, GaveUp, KeepsMade, MadeIdle};

@@ -9,13 +9,13 @@ ghost use Rattle.stm_script.specs.Outputs.{HasRoom};
 ghost use Rattle.stm_script.specs.ScriptLaws.{GaveOver, ran_one};
 ghost use Rattle.stm_rule.specs.Callers.{IsOf, IsSameCaller};
 ghost use Rattle.stm_tx.specs.Descs.{known};
-ghost use Rattle.tx_answers.specs.Known.{IsRunning, caller_of, is_irrevocable};
-ghost use Rattle.tx_answers.specs.KnownLaws.{Carries};
+ghost use Rattle.tx_answers.specs.CallerState.{IsRunning, caller_of, is_irrevocable};
+ghost use Rattle.tx_answers.specs.CallerStateLaws.{Carries};
 ghost use Rattle.stm_trace.specs.Adapting.{asked_by, no_profile, other_than, outcome_of};
 ghost use Rattle.stm_trace.specs.Places.{script_at, rest_of, writes, is_forced, irrevocable};
 ghost use Rattle.stm_trace.specs.Turns.{BeforeTx, BeforeSwitch, MustSwitch, MustSwitchTo, SwitchesTo, Next, Comes, Lengthens, MaySay, MayWind, is_call};
 ghost use Rattle.stm_worker.specs.Tellings.{StoppedBy, OnlyCalls};
-ghost use Rattle.stm_worker.specs.Workers.{Sound, Starved, Turned, Refused, Roomy, WroteRow, EndsWith, IsCounted, Starts, DoneIrrev, adapted, gave_up, gave_up_as, made_way, stopped_by, place_of};
+ghost use Rattle.stm_worker.specs.Workers.{Sound, Starved, Turned, Refused, Roomy, WroteRow, EndsWith, IsCounted, IsFreshWorker, DoneIrrev, adapted, gave_up, gave_up_as, made_way, stopped_by, place_of};
 
 use crate::room::Room;
 use crate::turnstile::Turnstile;
@@ -222,7 +222,7 @@ impl<'a, K: MemRule> Worker<'a, K> {
         alg: Alg,
         policy: Policy,
     ) -> Result<Worker<'a, K>, Memory>
-        ensures { IfOk result (Starts desc items.now regions.now alg policy) }
+        ensures { IfOk result (IsFreshWorker desc items.now regions.now alg policy) }
     {
         // made apart, so that the descriptor is there at one early exit alone
         let room = Room::new(alloc, items)?;
@@ -392,13 +392,13 @@ impl<'a, K: MemRule> Worker<'a, K> {
         ensures turned { Turned (K.good stm.now.rule) stm.now MaySay self.old result self.new }
     {
         if self.is_forced() {
-            return Said::TryIrrevocable(self.become_irrevocable(stm, true));
+            return Said::TryIrrevocable(self.try_irrevocable(stm, true));
         }
         let operations = self.operations_left;
         match operations.first() {
             None => Said::TryCommit(self.commit(stm, turnstile)),
             Some(Op::Cancel) => Said::TryCancel(self.cancel(stm)),
-            Some(Op::Irrev) => Said::TryIrrevocable(self.become_irrevocable(stm, false)),
+            Some(Op::Irrev) => Said::TryIrrevocable(self.try_irrevocable(stm, false)),
             Some(_) => unreachable!(),
         }
     }
@@ -483,7 +483,7 @@ impl<'a, K: MemRule> Worker<'a, K> {
 
     /// Asks that the open attempt becomes irrevocable: because it must (`forced`), or by the operation `irrev`,
     /// which then is done. Where another caller has the gate the attempt is cancelled, to begin anew.
-    fn become_irrevocable(&mut self, stm: &Stm<K>, forced: bool) -> Irrev
+    fn try_irrevocable(&mut self, stm: &Stm<K>, forced: bool) -> Irrev
         requires sound { Sound (K.good stm.now.rule) stm.now self.old }
         requires inside { self.old.phase ≡ Phase.Inside }
         requires forced { forced ≡ is_forced (place_of self.old) }

@@ -251,7 +251,7 @@ fn under(alloc: Global, name: &str) -> Result<String, AllocError> {
 }
 
 /// The algorithm that a text names.
-fn algorithm_of(alloc: Global, text: &[u8]) -> Result<Alg, ParseError> {
+fn header_algorithm(alloc: Global, text: &[u8]) -> Result<Alg, ParseError> {
     match parse(alloc, text, Mode::Run) {
         Ok(read) => Ok(read.header.alg),
         Err(error) => Err(error),
@@ -263,7 +263,7 @@ fn takes_each_algorithm(rt: HostRuntime) -> Result<(), Fail> {
     for alg in ALGORITHMS {
         let text = under(rt.alloc(), alg.name())?;
         assert_eq!(rt;
-            algorithm_of(rt.alloc(), text.as_bytes()),
+            header_algorithm(rt.alloc(), text.as_bytes()),
             Ok(alg),
             "{alg:?}"
         );

@@ -45,14 +45,14 @@ impl Wish {
 impl Transaction<Limiter> for Wish {
     ghost use Rattle.std.specs.Prelude.{◌<◌, ◌≡◌};
     ghost use Rattle.nekchhaul.specs.Effects.{DoesOver};
-    ghost use Rattle.nekchhaul.specs.Known.{no_log};
+    ghost use Rattle.nekchhaul.specs.CallerState.{no_log};
     ghost use Rattle.token_bucket.specs.Buckets.{IsFair, wished_in};
 
     type Output = u64;
 
-    ghost fits = { λ it limiter words. (words ≡ 33) × (it.client < 16) };
+    ghost precondition = { λ it limiter words. (words ≡ 33) × (it.client < 16) };
 
-    ghost tells = { λ it limiter words given log. DoesOver (IsFair limiter) words (wished_in limiter it) no_log given log };
+    ghost postcondition = { λ it limiter words given log. DoesOver (IsFair limiter) words (wished_in limiter it) no_log given log };
 
     fn run<A: Access>(&self, limiter: &Limiter, memory: &mut A) -> Result<u64, Stop> {
         let (found, handed, counted) = read_three(memory, 16 + self.client, self.client, 32)?;

@@ -9,7 +9,7 @@ ghost use Rattle.token_bucket.specs.Buckets.{IsFair};
 mod bucket;
 
 use crate::bucket::{Limiter, Wish};
-use nekchhaul::{Alg, Caller, Job, NewError, Outcome, sizes, with_memory};
+use nekchhaul::{Alg, Caller, ClosedMemory, Job, NewError, sizes, with_memory};
 use std::alloc::Global;
 use std::process::ExitCode;
 use std::sync::Wait;
@@ -27,9 +27,9 @@ impl<R: Wait> Job<R, Limiter> for Serve {
 
     type Output = usize;
 
-    ghost needs = { λ job limiter words. words ≡ 33 };
+    ghost precondition = { λ job limiter words. words ≡ 33 };
 
-    ghost tells = { λ job limiter words caller served before after. caller ≡ 0 → after.installs ≡ before.installs ++ Tml ∷ [] };
+    ghost postcondition = { λ job limiter words caller served before after. caller ≡ 0 → after.installs ≡ before.installs ++ Tml ∷ [] };
 
     fn work(&self, caller: &mut Caller<'_, R, Limiter>) -> usize {
         if caller.number() != 0 {
@@ -60,7 +60,7 @@ fn wish(round: usize) -> Wish
 ///
 /// # Errors
 /// Memory, where it is refused.
-fn run<R: Threads + Wait + Sync>(rt: &R, alloc: Global) -> Result<Outcome<usize>, NewError>
+fn run<R: Threads + Wait + Sync>(rt: &R, alloc: Global) -> Result<ClosedMemory<usize>, NewError>
     ensures fair { IfOk result (λ came. IsFair LIMITER came.words.items) }
     ensures count { IfOk result (λ came. length came.words.items ≡ 33) }
     ensures installs { IfOk result (λ came. slice_index_or came.closed.installs 0 [] ≡ OrecLazy ∷ Tml ∷ []) }

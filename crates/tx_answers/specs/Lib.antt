@@ -1,9 +1,9 @@
-pub mod Known
+pub mod CallerState
 pub mod Counting
 pub mod Evidence
 pub mod SlotEvidence
 pub mod Causes
 pub mod Answers
-pub mod KnownLaws
+pub mod CallerStateLaws
 pub mod Fences
 pub mod Limits

@@ -5,22 +5,22 @@ use Rattle.rule_base.specs.declared.layout.At.TheVariants.{Clock, Slot}
 use Rattle.rule_base.specs.declared.layout.TheConstants.{SLOT_WORDS}
 use Rattle.rule_base.specs.declared.views.Act.{Act}
 use Rattle.rule_base.specs.declared.views.Act.TheVariants.{Load}
-use Rattle.rule_base.specs.declared.views.TrailItem.{TrailItem}
+use Rattle.rule_base.specs.declared.views.TracedStep.{TracedStep}
 use Rattle.tx_logs.specs.Filters.{part_meets, meets, lowest_common}
-use Rattle.tx_answers.specs.Known.{Known}
+use Rattle.tx_answers.specs.CallerState.{CallerState}
 
 -- a step of these found this number at this place
-abbrev pub InTrail : List TrailItem → At → ℕ → Type 0
-InTrail steps place n = (act : Act) × Contains steps (record { place = place; act = act; found = Some n })
+abbrev pub InStepTrace : List TracedStep → At → ℕ → Type 0
+InStepTrace steps place n = (act : Act) × Contains steps (record { place = place; act = act; found = Some n })
 
 -- a load of the clock
-abbrev pub clock_load : ℕ → TrailItem
+abbrev pub clock_load : ℕ → TracedStep
 clock_load n = record { place = Clock; act = Load; found = Some n }
 
-module _ (ring : ℕ) (filter : ℕ → ℕ) (loads : List TrailItem) where
+module _ (ring : ℕ) (filter : ℕ → ℕ) (loads : List TracedStep) where
   -- word i of the slot of a time was loaded
   abbrev pub LoadsWord : ℕ → ℕ → ℕ → Type 0
-  LoadsWord time i x = InTrail loads (Slot (time % ring * SLOT_WORDS + i)) x
+  LoadsWord time i x = InStepTrace loads (Slot (time % ring * SLOT_WORDS + i)) x
 
   -- all words of a part of the slot were loaded, and none has a bit of the filter: whatever its other words are, it doesn't meet the filter
   pub record Misses (time : ℕ) : Type 0 where
@@ -43,19 +43,19 @@ module _ (ring : ℕ) (filter : ℕ → ℕ) (loads : List TrailItem) where
     pub upto : (i : ℕ) → i ≤ index → LoadsWord time i (slot i)
 
 -- of the times after the start and up to the clock, this is the first whose slot meets the filter
-pub record FirstMet (ring start clock : ℕ) (filter : ℕ → ℕ) (time bits : ℕ) (loads : List TrailItem) : Type 0 where
+pub record FirstMet (ring start clock : ℕ) (filter : ℕ → ℕ) (time bits : ℕ) (loads : List TracedStep) : Type 0 where
   pub since : start < time
   pub upto : time ≤ clock
   pub meets : Meets ring filter loads time bits
   pub least : (e : ℕ) → start < e → e < time → Misses ring filter loads e
 
 -- the slots were loaded between two loads of the clock: none of a time past the first, none that a later entry had taken by the second
-pub record FindsFirst (ring start : ℕ) (filter : ℕ → ℕ) (time bits : ℕ) (v w : Known) : Type 0 where
-  pub early : List TrailItem
+pub record FindsFirst (ring start : ℕ) (filter : ℕ → ℕ) (time bits : ℕ) (v w : CallerState) : Type 0 where
+  pub early : List TracedStep
   pub clock : ℕ
-  pub loads : List TrailItem
+  pub loads : List TracedStep
   pub later : ℕ
-  pub late : List TrailItem
-  pub trail : w.trail ≡ late ++ clock_load later ∷ (loads ++ clock_load clock ∷ (early ++ v.trail))
+  pub late : List TracedStep
+  pub step_trace : w.step_trace ≡ late ++ clock_load later ∷ (loads ++ clock_load clock ∷ (early ++ v.step_trace))
   pub near : later < start + ring
   pub first : FirstMet ring start clock filter time bits loads

@@ -6,16 +6,16 @@ use Rattle.stm_model.specs.declared.stop.Stop.TheVariants as stops
 use Rattle.stm_model.specs.Logs.{Log, Keeps}
 use Rattle.tx_answers.specs.declared.answers.Commit.TheVariants.{Committed, ReadOnly}
 use Rattle.tx_answers.specs.Answers.{Commits}
-use Rattle.tx_answers.specs.Known.{Known, Grows, IsRunning, no_log}
+use Rattle.tx_answers.specs.CallerState.{CallerState, Grows, IsRunning, no_log}
 use Rattle.tx_atomic.specs.declared.tally.Ended.{Ended}
 use Rattle.tx_atomic.specs.declared.tally.Ended.TheVariants as ends
 
 -- it has done nothing, and may read and write everywhere
-abbrev pub IsFresh : Known → Type 0
+abbrev pub IsFresh : CallerState → Type 0
 IsFresh v = IsRunning v × (v.log ≡ no_log) × (v.fence ≡ 0)
 
 -- its log keeps the rule
-abbrev pub MayCommit : (List ℕ → Type 0) → Config → Known → Type 0
+abbrev pub MayCommit : (List ℕ → Type 0) → Config → CallerState → Type 0
 MayCommit good c v = IsRunning v × Keeps good c.words v.log
 
 -- how it ended that was stopped so
@@ -25,8 +25,8 @@ ended_by (stops.Full limit) = ends.Full
 ended_by (stops.ClockFull clock) = ends.ClockFull
 
 -- from u to w one attempt took effect, and its commit was the last call: what it had read and written is such a log, and no attempt before it left an entry; it knew all that u had seen, and its start is no earlier than this
-pub record TookEffect (good : List ℕ → Type 0) (c : Config) (n : ℕ) (tells : Log → Type 0) (from : ℕ) (u w : Known) : Type 0 where
-  pub before : Known
+pub record TookEffect (good : List ℕ → Type 0) (c : Config) (n : ℕ) (tells : Log → Type 0) (from : ℕ) (u w : CallerState) : Type 0 where
+  pub before : CallerState
   pub told : tells before.log
   pub made : before.made ≡ u.made
   pub grows : Grows u before

@@ -8,8 +8,8 @@ use Rattle.stm_model.specs.Histories.{made_by}
 use Rattle.stm_rule.specs.Callers.{Handle, IsOf, AllOpened, AllIdle, BeginsHistory}
 use Rattle.stm_rule.specs.Closings.{AllTold, Ended}
 use Rattle.stm_tx.specs.Descs.{known}
-use Rattle.tx_answers.specs.Known.{Grows, IsIdle, known_of}
-use Rattle.tx_answers.specs.KnownLaws.{carries-refl, grows-trans}
+use Rattle.tx_answers.specs.CallerState.{Grows, IsIdle, known_of}
+use Rattle.tx_answers.specs.CallerStateLaws.{carries-refl, grows-trans}
 use Rattle.tx_atomic.specs.Callers.{IsReady, IsThrough, HasWorked, AllReady}
 
 -- what a slice that was lent whole left

@@ -10,13 +10,13 @@ use Rattle.stm_model.specs.Memories.{overlay, Explains, is_empty}
 use Rattle.stm_rule.specs.Callers.{BeginsHistory}
 use Rattle.tx_answers.specs.declared.answers.Commit.TheVariants.{Committed, ReadOnly}
 use Rattle.tx_answers.specs.Answers.{Commits, CommitsAt, EndsAt, entry}
-use Rattle.tx_answers.specs.Known.{Known, Grows, wrote, zeros}
-use Rattle.tx_answers.specs.KnownLaws.{ascending-append}
+use Rattle.tx_answers.specs.CallerState.{CallerState, Grows, wrote, zeros}
+use Rattle.tx_answers.specs.CallerStateLaws.{ascending-append}
 use Rattle.tx_atomic.specs.Attempts.{TookEffect}
 use Rattle.tx_atomic.specs.Moments.{Happened}
 
 -- what was seen before begins the history too
-pub begun-before : (w k : Known) (history : List Entry) → Grows w k → BeginsHistory k.seen k.front history → BeginsHistory w.seen w.front history
+pub begun-before : (w k : CallerState) (history : List Entry) → Grows w k → BeginsHistory k.seen k.front history → BeginsHistory w.seen w.front history
 begun-before w k history grows begun = (
   grows.later ++ begun.0,
   begun.1 ∙ (ap (λ l. l ++ begun.0) grows.is ∙ append_assoc w.seen grows.later begun.0),
@@ -36,11 +36,11 @@ is-empty : (b : Bool) → not b ≡ false → b ≡ true
 is-empty true e = refl
 is-empty false e = absurd cc
 
-module _ (good : List ℕ → Type 0) (c : Config) (n : ℕ) (tells : Log → Type 0) (u w : Known) (history : List Entry) where
+module _ (good : List ℕ → Type 0) (c : Config) (n : ℕ) (tells : Log → Type 0) (u w : CallerState) (history : List Entry) where
   abbrev zero_words : List ℕ
   zero_words = zeros c.words
 
-  committed : (time : ℕ) (v : Known) → tells v.log → u.front ≤ v.start → v.made ≡ u.made → BeginsHistory w.seen w.front history → CommitsAt good c n time v w → Happened good c tells u w history
+  committed : (time : ℕ) (v : CallerState) → tells v.log → u.front ≤ v.start → v.made ≡ u.made → BeginsHistory w.seen w.front history → CommitsAt good c n time v w → Happened good c tells u w history
   committed time v told later made begun h =
       let e = entry time n (length v.made) v.log in
       let k = length h.before in
@@ -70,7 +70,7 @@ module _ (good : List ℕ → Type 0) (c : Config) (n : ℕ) (tells : Log → Ty
         made = longer ∙ ap (λ b. length u.made + (if b then 0 else 1)) (sym some);
       }
 
-  ended : (time : ℕ) (v : Known) → tells v.log → u.front ≤ v.start → v.made ≡ u.made → BeginsHistory w.seen w.front history → EndsAt good c n time v w → wrote v ≡ false → Happened good c tells u w history
+  ended : (time : ℕ) (v : CallerState) → tells v.log → u.front ≤ v.start → v.made ≡ u.made → BeginsHistory w.seen w.front history → EndsAt good c n time v w → wrote v ≡ false → Happened good c tells u w history
   ended time v told later made begun h none =
       let held : memory_at time history zero_words ≡ memory_at time w.seen zero_words = same-memory time w.front w.seen history zero_words begun h.seen in
       let empty : is_empty v.log.writes ≡ true = is-empty (is_empty v.log.writes) none in
@@ -87,7 +87,7 @@ module _ (good : List ℕ → Type 0) (c : Config) (n : ℕ) (tells : Log → Ty
         made = same ∙ ap (λ b. length u.made + (if b then 0 else 1)) (sym empty);
       }
 
-  pub happened : (k : Known) → TookEffect good c n tells u.front u w → Grows w k → BeginsHistory k.seen k.front history → Happened good c tells u w history
+  pub happened : (k : CallerState) → TookEffect good c n tells u.front u w → Grows w k → BeginsHistory k.seen k.front history → Happened good c tells u w history
   happened k t grows begun = by t.commits where
     start : BeginsHistory w.seen w.front history
     start = begun-before w k history grows begun

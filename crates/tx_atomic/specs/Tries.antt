@@ -7,7 +7,7 @@ use Rattle.tx_answers.specs.declared.answers.Begin.TheVariants as begins
 use Rattle.tx_answers.specs.declared.answers.Commit.TheVariants as commits
 use Rattle.tx_answers.specs.declared.answers.Irrev.TheVariants as grants
 use Rattle.tx_answers.specs.Answers.{Begins, Commits, Irrevs, Stops}
-use Rattle.tx_answers.specs.Known.{Known, Grows}
+use Rattle.tx_answers.specs.CallerState.{CallerState, Grows}
 use Rattle.tx_atomic.specs.declared.tally.Ended.{Ended}
 use Rattle.tx_atomic.specs.declared.tally.Ended.TheVariants as ends
 use Rattle.tx_atomic.specs.declared.tally.Tally.{Tally}
@@ -24,7 +24,7 @@ abbrev pub has_committed : Option Ended → Bool
 has_committed None = true
 has_committed (Some e) = false
 
--- the tally behind its calls, and behind it; who was to be irrevocable and committed was promoted
+-- the tally after its calls, and after it; who was to be irrevocable and committed was promoted
 abbrev pub waited : Try → Tally → Tally
 waited x t = noted_times x.again ends.Again (if x.irrevocable && has_committed x.ended then with_promotion (noted_times x.busy ends.Busy t) else noted_times x.busy ends.Busy t)
 
@@ -35,7 +35,7 @@ counted_end (Some e) t = noted e t
 abbrev pub counted : Try → Tally → Tally
 counted x t = counted_end x.ended (waited x t)
 
--- the tally behind attempts, of which the latest stands first
+-- the tally after attempts, of which the latest stands first
 abbrev pub counted_all : List Try → Tally → Tally
 counted_all [] t = t
 counted_all (x ∷ xs) t = counted x (counted_all xs t)
@@ -80,10 +80,10 @@ is_due xs = any_full xs || leb 16 (crossed xs)
 -- good is what the user keeps true of memory; c is the memory's configuration, and n the caller
 module _ (good : List ℕ → Type 0) (c : Config) (n : ℕ) where
   -- the attempt that was to begin didn't
-  abbrev pub EndsBegin : Ended → Known → Known → Type 0
+  abbrev pub EndsBegin : Ended → CallerState → CallerState → Type 0
   EndsBegin ends.Closed v w = (gate : ℕ) × Begins good c n (begins.Closed gate) v w
   EndsBegin ends.Held v w = (word : ℕ) × Begins good c n (begins.Held word) v w
-  EndsBegin ends.Fenced v w = (begun : Known) × (alg : Alg) × Begins good c n (begins.Begun alg) v begun × (begun.fence ≢ 0) × Grows begun w
+  EndsBegin ends.Fenced v w = (begun : CallerState) × (alg : Alg) × Begins good c n (begins.Begun alg) v begun × (begun.fence ≢ 0) × Grows begun w
   EndsBegin (ends.Conflict cause) v w = ⊥
   EndsBegin ends.Full v w = ⊥
   EndsBegin ends.Busy v w = ⊥
@@ -92,19 +92,19 @@ module _ (good : List ℕ → Type 0) (c : Config) (n : ℕ) where
   EndsBegin ends.ClockFull v w = (clock : ℕ) × Begins good c n (begins.ClockFull clock) v w
 
   -- a call to be irrevocable was refused, and with it the attempt
-  abbrev pub EndsPromotion : Ended → Known → Known → Type 0
+  abbrev pub EndsPromotion : Ended → CallerState → CallerState → Type 0
   EndsPromotion ends.Closed v w = ⊥
   EndsPromotion ends.Held v w = ⊥
   EndsPromotion ends.Fenced v w = ⊥
   EndsPromotion (ends.Conflict cause) v w = Irrevs good c n (grants.Conflict cause) v w
   EndsPromotion ends.Full v w = ⊥
   EndsPromotion ends.Busy v w = ⊥
-  EndsPromotion ends.Taken v w = (asked : Known) × (gate : ℕ) × Irrevs good c n (grants.Taken gate) v asked × Grows asked w
+  EndsPromotion ends.Taken v w = (asked : CallerState) × (gate : ℕ) × Irrevs good c n (grants.Taken gate) v asked × Grows asked w
   EndsPromotion ends.Again v w = ⊥
   EndsPromotion ends.ClockFull v w = (clock : ℕ) × Irrevs good c n (grants.ClockFull clock) v w
 
   -- a read or a write was
-  abbrev pub EndsAccess : Ended → Known → Known → Type 0
+  abbrev pub EndsAccess : Ended → CallerState → CallerState → Type 0
   EndsAccess ends.Closed v w = ⊥
   EndsAccess ends.Held v w = ⊥
   EndsAccess ends.Fenced v w = ⊥
@@ -116,7 +116,7 @@ module _ (good : List ℕ → Type 0) (c : Config) (n : ℕ) where
   EndsAccess ends.ClockFull v w = (a : ℕ) × (clock : ℕ) × Stops good c n a (stops.ClockFull clock) v w
 
   -- a commit was
-  abbrev pub EndsCommit : Ended → Known → Known → Type 0
+  abbrev pub EndsCommit : Ended → CallerState → CallerState → Type 0
   EndsCommit ends.Closed v w = ⊥
   EndsCommit ends.Held v w = ⊥
   EndsCommit ends.Fenced v w = ⊥
@@ -128,30 +128,30 @@ module _ (good : List ℕ → Type 0) (c : Config) (n : ℕ) where
   EndsCommit ends.ClockFull v w = (clock : ℕ) × Commits good c n (commits.ClockFull clock) v w
 
   -- the last call of an attempt that ran: it committed, or it was refused
-  abbrev pub EndsRun : Option Ended → Known → Known → Type 0
+  abbrev pub EndsRun : Option Ended → CallerState → CallerState → Type 0
   EndsRun None v w = (time : ℕ) × (Commits good c n (commits.Committed time) v w ⊎ Commits good c n (commits.ReadOnly time) v w)
   EndsRun (Some e) v w = EndsAccess e v w ⊎ EndsCommit e v w
 
-  -- so many calls, one behind the other: each asked to be irrevocable and found another in an attempt; each asked to commit and another was faster
-  abbrev pub FindsBusy : ℕ → Known → Known → Type 0
+  -- so many calls, one after the other: each asked to be irrevocable and found another in an attempt; each asked to commit and another was faster
+  abbrev pub FindsBusy : ℕ → CallerState → CallerState → Type 0
   FindsBusy zero u w = w ≡ u
-  FindsBusy (suc k) u w = (v : Known) × FindsBusy k u v × (caller : ℕ) × (status : ℕ) × Irrevs good c n (grants.Busy caller status) v w
+  FindsBusy (suc k) u w = (v : CallerState) × FindsBusy k u v × (caller : ℕ) × (status : ℕ) × Irrevs good c n (grants.Busy caller status) v w
 
-  abbrev pub FindsAgain : ℕ → Known → Known → Type 0
+  abbrev pub FindsAgain : ℕ → CallerState → CallerState → Type 0
   FindsAgain zero u w = w ≡ u
-  FindsAgain (suc k) u w = (v : Known) × FindsAgain k u v × (word : ℕ) × (had : ℕ) × (now : ℕ) × Commits good c n (commits.Again word had now) v w
+  FindsAgain (suc k) u w = (v : CallerState) × FindsAgain k u v × (word : ℕ) × (had : ℕ) × (now : ℕ) × Commits good c n (commits.Again word had now) v w
 
   -- an attempt began
-  abbrev pub HasBegun : Known → Known → Type 0
+  abbrev pub HasBegun : CallerState → CallerState → Type 0
   HasBegun v w = (alg : Alg) × Begins good c n (begins.Begun alg) v w
 
   -- where it was to be irrevocable, that was granted by the last of its calls for it; else it made none
-  abbrev pub IsGranted : Bool → ℕ → Known → Known → Type 0
-  IsGranted true busy v w = (asked : Known) × FindsBusy busy v asked × Irrevs good c n grants.Granted asked w
+  abbrev pub IsGranted : Bool → ℕ → CallerState → CallerState → Type 0
+  IsGranted true busy v w = (asked : CallerState) × FindsBusy busy v asked × Irrevs good c n grants.Granted asked w
   IsGranted false busy v w = (busy ≡ 0) × (w ≡ v)
 
   -- the attempt from u to w did not begin
-  pub record WasUnbegun (x : Try) (u w : Known) : Type 0 where
+  pub record WasUnbegun (x : Try) (u w : CallerState) : Type 0 where
     pub busy : x.busy ≡ 0
     pub again : x.again ≡ 0
     pub ended : Ended
@@ -159,11 +159,11 @@ module _ (good : List ℕ → Type 0) (c : Config) (n : ℕ) where
     pub last : EndsBegin ended u w
 
   -- it began, asked to be irrevocable before it did anything, and was refused
-  pub record WasUngranted (x : Try) (u w : Known) : Type 0 where
+  pub record WasUngranted (x : Try) (u w : CallerState) : Type 0 where
     pub irrevocable : x.irrevocable ≡ true
-    pub begun : Known
+    pub begun : CallerState
     pub begins : HasBegun u begun
-    pub asked : Known
+    pub asked : CallerState
     pub busy : FindsBusy x.busy begun asked
     pub again : x.again ≡ 0
     pub ended : Ended
@@ -171,25 +171,25 @@ module _ (good : List ℕ → Type 0) (c : Config) (n : ℕ) where
     pub last : EndsPromotion ended asked w
 
   -- it began, was made irrevocable where it was to be, went on, asked to commit, and ended by its last call: by a commit where it was irrevocable
-  pub record HasRun (x : Try) (u w : Known) : Type 0 where
-    pub begun : Known
+  pub record HasRun (x : Try) (u w : CallerState) : Type 0 where
+    pub begun : CallerState
     pub begins : HasBegun u begun
-    pub opened : Known
+    pub opened : CallerState
     pub granted : IsGranted x.irrevocable x.busy begun opened
-    pub acted : Known
+    pub acted : CallerState
     pub acts : Grows opened acted
-    pub before : Known
+    pub before : CallerState
     pub again : FindsAgain x.again acted before
     pub last : EndsRun x.ended before w
     pub irrevocable : x.irrevocable ≡ true → has_committed x.ended ≡ true
 
-  abbrev pub WasTried : Try → Known → Known → Type 0
+  abbrev pub WasTried : Try → CallerState → CallerState → Type 0
   WasTried x u w = WasUnbegun x u w ⊎ (WasUngranted x u w ⊎ HasRun x u w)
 
-  -- attempts from u to w, one behind the other, the latest first: each was to be irrevocable where those before it say so
-  abbrev pub WereTried : List Try → Known → Known → Type 0
+  -- attempts from u to w, one after the other, the latest first: each was to be irrevocable where those before it say so
+  abbrev pub WereTried : List Try → CallerState → CallerState → Type 0
   WereTried [] u w = w ≡ u
-  WereTried (x ∷ xs) u w = (v : Known) × WereTried xs u v × WasTried x v w × (x.irrevocable ≡ is_due xs)
+  WereTried (x ∷ xs) u w = (v : CallerState) × WereTried xs u v × WasTried x v w × (x.irrevocable ≡ is_due xs)
 
   -- all failed, and none for the clock
   abbrev pub AllFailed : List Try → Type 0
@@ -201,22 +201,22 @@ module _ (good : List ℕ → Type 0) (c : Config) (n : ℕ) where
   LastEnded last [] = ⊥
   LastEnded last (x ∷ xs) = (x.ended ≡ last) × AllFailed xs
 
-  -- one attempt, and the tally behind its calls
-  pub record Tried (irrevocable : Bool) (ended : Option Ended) (u w : Known) (s t : Tally) : Type 0 where
+  -- one attempt, and the tally after its calls
+  pub record Tried (irrevocable : Bool) (ended : Option Ended) (u w : CallerState) (s t : Tally) : Type 0 where
     pub busy : ℕ
     pub again : ℕ
     pub was : WasTried (record { irrevocable = irrevocable; busy = busy; again = again; ended = ended }) u w
     pub counted : t ≡ waited (record { irrevocable = irrevocable; busy = busy; again = again; ended = ended }) s
 
-  -- a run of attempts from u to w of which the last ended so, and the tally behind it: each call that was refused is counted once
-  pub record Ran (last : Option Ended) (u w : Known) (s t : Tally) : Type 0 where
+  -- a run of attempts from u to w of which the last ended so, and the tally after it: each call that was refused is counted once
+  pub record Ran (last : Option Ended) (u w : CallerState) (s t : Tally) : Type 0 where
     pub tries : List Try
     pub were : WereTried tries u w
     pub ended : LastEnded last tries
     pub counted : t ≡ counted_all tries s
 
   -- attempts that failed, with the count of those that another was in the way of
-  pub record Failing (failed : ℕ) (u w : Known) (s t : Tally) : Type 0 where
+  pub record Failing (failed : ℕ) (u w : CallerState) (s t : Tally) : Type 0 where
     pub tries : List Try
     pub were : WereTried tries u w
     pub all : AllFailed tries
@@ -224,63 +224,63 @@ module _ (good : List ℕ → Type 0) (c : Config) (n : ℕ) where
     pub due : leb 16 failed ≡ is_due tries
     pub low : is_due tries ≡ false → failed ≡ crossed tries
 
-  -- so many runs from u to w, one behind the other, each of which committed, and the tally behind them
-  abbrev pub HaveRun : ℕ → Known → Known → Tally → Tally → Type 0
+  -- so many runs from u to w, one after the other, each of which committed, and the tally after them
+  abbrev pub HaveRun : ℕ → CallerState → CallerState → Tally → Tally → Type 0
   HaveRun zero u w s t = (w ≡ u) × (t ≡ s)
-  HaveRun (suc k) u w s t = (v : Known) × (r : Tally) × HaveRun k u v s r × Ran None v w r t
+  HaveRun (suc k) u w s t = (v : CallerState) × (r : Tally) × HaveRun k u v s r × Ran None v w r t
 
-  -- so many runs that committed, and behind them one of which the last attempt ended so
-  pub record RanAgain (last : Option Ended) (u w : Known) (s t : Tally) : Type 0 where
+  -- so many runs that committed, and after them one of which the last attempt ended so
+  pub record RanAgain (last : Option Ended) (u w : CallerState) (s t : Tally) : Type 0 where
     pub before : ℕ
-    pub since : Known
+    pub since : CallerState
     pub tally : Tally
     pub runs : HaveRun before u since s tally
     pub ran : Ran last since w tally t
 
   -- an attempt began, and was made irrevocable where it was to be
-  pub record Opens (irrevocable : Bool) (u w : Known) (s t : Tally) : Type 0 where
+  pub record Opens (irrevocable : Bool) (u w : CallerState) (s t : Tally) : Type 0 where
     pub busy : ℕ
-    pub begun : Known
+    pub begun : CallerState
     pub begins : HasBegun u begun
     pub granted : IsGranted irrevocable busy begun w
     pub counted : t ≡ (if irrevocable then with_promotion (noted_times busy ends.Busy s) else noted_times busy ends.Busy s)
 
   -- it asked to be irrevocable, and the last such call granted that or ended it
-  abbrev pub AsksBy : Option Ended → Known → Known → Type 0
+  abbrev pub AsksBy : Option Ended → CallerState → CallerState → Type 0
   AsksBy None v w = Irrevs good c n grants.Granted v w
   AsksBy (Some e) v w = EndsPromotion e v w
 
-  pub record Asks (ended : Option Ended) (u w : Known) (s t : Tally) : Type 0 where
+  pub record Asks (ended : Option Ended) (u w : CallerState) (s t : Tally) : Type 0 where
     pub busy : ℕ
-    pub asked : Known
+    pub asked : CallerState
     pub waits : FindsBusy busy u asked
     pub last : AsksBy ended asked w
     pub counted : t ≡ (if has_committed ended then with_promotion (noted_times busy ends.Busy s) else noted_times busy ends.Busy s)
 
   -- what it did was refused
-  pub record IsStopped (e : Ended) (u w : Known) : Type 0 where
-    pub before : Known
+  pub record IsStopped (e : Ended) (u w : CallerState) : Type 0 where
+    pub before : CallerState
     pub goes : Grows u before
     pub last : EndsAccess e before w
 
   -- it asked to commit, and the last such call did or ended it
-  abbrev pub FinishesBy : Option Ended → Known → Known → Type 0
+  abbrev pub FinishesBy : Option Ended → CallerState → CallerState → Type 0
   FinishesBy None v w = EndsRun None v w
   FinishesBy (Some e) v w = EndsCommit e v w
 
-  pub record Finishes (ended : Option Ended) (u w : Known) (s t : Tally) : Type 0 where
+  pub record Finishes (ended : Option Ended) (u w : CallerState) (s t : Tally) : Type 0 where
     pub again : ℕ
-    pub before : Known
+    pub before : CallerState
     pub waits : FindsAgain again u before
     pub last : FinishesBy ended before w
     pub counted : t ≡ noted_times again ends.Again s
 
   -- it did what it does, and asked to commit; or what it did was refused
-  pub record Runs (ended : Option Ended) (u w : Known) (s t : Tally) : Type 0 where
-    pub acted : Known
+  pub record Runs (ended : Option Ended) (u w : CallerState) (s t : Tally) : Type 0 where
+    pub acted : CallerState
     pub acts : Grows u acted
     pub again : ℕ
-    pub before : Known
+    pub before : CallerState
     pub waits : FindsAgain again acted before
     pub last : EndsRun ended before w
     pub counted : t ≡ noted_times again ends.Again s

@@ -19,8 +19,8 @@ use Rattle.tx_answers.specs.declared.answers.Irrev.TheVariants as grants
 use Rattle.tx_answers.specs.Answers.{Begins, Commits, Irrevs, Stops}
 use Rattle.tx_answers.specs.Causes.{FindsFull}
 use Rattle.tx_answers.specs.Evidence.{Found}
-use Rattle.tx_answers.specs.Known.{Known, Grows, is_irrevocable}
-use Rattle.tx_answers.specs.KnownLaws.{carries-refl, grows-trans}
+use Rattle.tx_answers.specs.CallerState.{CallerState, Grows, is_irrevocable}
+use Rattle.tx_answers.specs.CallerStateLaws.{carries-refl, grows-trans}
 use Rattle.stm_tx.specs.Descs.{Since}
 use Rattle.tx_atomic.specs.declared.tally.Ended.{Ended}
 use Rattle.tx_atomic.specs.declared.tally.Ended.TheVariants as ends
@@ -30,13 +30,13 @@ use Rattle.tx_atomic.specs.AttemptLaws.{irrevs-grow, commits-grow}
 use Rattle.tx_atomic.specs.Tallies.{failed_next, noted, noted_times, with_promotion}
 use Rattle.tx_atomic.specs.Tries.{Try, EndsBegin, EndsPromotion, EndsAccess, EndsCommit, EndsRun, FinishesBy, IsGranted, FindsBusy, FindsAgain, HasBegun, WasTried, Tried, Ran, RanAgain, HaveRun, Failing, Opens, Asks, IsStopped, Finishes, Runs, has_committed, counted_end, waited, ran_full, was_crossed, any_full, crossed}
 
-pub grows-refl : (v : Known) → Grows v v
+pub grows-refl : (v : CallerState) → Grows v v
 grows-refl v = (carries-refl v).grows
 
-pub found-earlier : (p : At) (x : ℕ) (u v w : Known) → Grows u v → Found p x v w → Found p x u w
-found-earlier p x u v w g f = (f.0 ++ g.more, f.1 ∙ (ap (λ t. f.0 ++ t) g.trail ∙ sym (append_assoc f.0 g.more u.trail)), f.2, Contains-append_left f.0 g.more _ f.3)
+pub found-earlier : (p : At) (x : ℕ) (u v w : CallerState) → Grows u v → Found p x v w → Found p x u w
+found-earlier p x u v w g f = (f.0 ++ g.more, f.1 ∙ (ap (λ t. f.0 ++ t) g.step_trace ∙ sym (append_assoc f.0 g.more u.step_trace)), f.2, Contains-append_left f.0 g.more _ f.3)
 
-pub full-earlier : (clock : ℕ) (u v w : Known) → Grows u v → FindsFull clock v w → FindsFull clock u w
+pub full-earlier : (clock : ℕ) (u v w : CallerState) → Grows u v → FindsFull clock v w → FindsFull clock u w
 full-earlier clock u v w g f = record { limit = f.limit; found = found-earlier Clock clock u v w g f.found; top = f.top }
 
 some-same : {d e : Ended} → Some d ≡ Some e → d ≡ e
@@ -54,31 +54,31 @@ due-full s false k due low = by (leb 16 k) refl
 
 module _ (good : List ℕ → Type 0) (c : Config) (n : ℕ) where
   -- the calls that left an attempt going
-  pub busy-grows : (k : ℕ) (u v : Known) → FindsBusy good c n k u v → Grows u v
-  busy-grows zero u v h = subst (λ (w : Known). Grows u w) (sym h) (grows-refl u)
+  pub busy-grows : (k : ℕ) (u v : CallerState) → FindsBusy good c n k u v → Grows u v
+  busy-grows zero u v h = subst (λ (w : CallerState). Grows u w) (sym h) (grows-refl u)
   busy-grows (suc k) u v h = irrevs-grow good c n (grants.Busy h.2 h.3) u h.0 v (busy-grows k u h.0 h.1) h.4
 
-  pub again-grows : (k : ℕ) (u v : Known) → FindsAgain good c n k u v → Grows u v
-  again-grows zero u v h = subst (λ (w : Known). Grows u w) (sym h) (grows-refl u)
+  pub again-grows : (k : ℕ) (u v : CallerState) → FindsAgain good c n k u v → Grows u v
+  again-grows zero u v h = subst (λ (w : CallerState). Grows u w) (sym h) (grows-refl u)
   again-grows (suc k) u v h = commits-grow good c n (commits.Again h.2 h.3 h.4) u h.0 v (again-grows k u h.0 h.1) h.5
 
-  granted-grows : (irrevocable : Bool) (busy : ℕ) (u v : Known) → IsGranted good c n irrevocable busy u v → Grows u v
+  granted-grows : (irrevocable : Bool) (busy : ℕ) (u v : CallerState) → IsGranted good c n irrevocable busy u v → Grows u v
   granted-grows true busy u v h = irrevs-grow good c n grants.Granted u h.0 v (busy-grows busy u h.0 h.1) h.2
-  granted-grows false busy u v h = subst (λ (w : Known). Grows u w) (sym h.1) (grows-refl u)
+  granted-grows false busy u v h = subst (λ (w : CallerState). Grows u w) (sym h.1) (grows-refl u)
 
   -- an access that was stopped, as the end of its attempt
-  stop-refused : (a : ℕ) (stop : Stop) (v w : Known) → Stops good c n a stop v w → EndsAccess good c n (ended_by stop) v w
+  stop-refused : (a : ℕ) (stop : Stop) (v w : CallerState) → Stops good c n a stop v w → EndsAccess good c n (ended_by stop) v w
   stop-refused a (stops.Conflict cause) v w h = (a, h)
   stop-refused a (stops.Full limit) v w h = (a, limit, h)
   stop-refused a (stops.ClockFull clock) v w h = (a, clock, h)
 
-  pub stopped : (stop : Stop) (o : Option Stop) (v w : Known) → o ≡ Some stop → Since good c n None v o w → IsStopped good c n (ended_by stop) v w
+  pub stopped : (stop : Stop) (o : Option Stop) (v w : CallerState) → o ≡ Some stop → Since good c n None v o w → IsStopped good c n (ended_by stop) v w
   stopped stop o v w is since =
       let at = (subst (λ (p : Option Stop). Since good c n None v p w) is since).1 in
       record { before = at.before; goes = at.carries.grows; last = stop-refused at.address stop at.before w at.stops }
 
   -- a clock that ended an attempt was found in it
-  clock-found : (x : Try) (u w : Known) → x.ended ≡ Some ends.ClockFull → WasTried good c n x u w → (clock : ℕ) × FindsFull clock u w
+  clock-found : (x : Try) (u w : CallerState) → x.ended ≡ Some ends.ClockFull → WasTried good c n x u w → (clock : ℕ) × FindsFull clock u w
   clock-found x u w full (inl t) = (h.0, h.1.3) where
     h : EndsBegin good c n ends.ClockFull u w
     h = let same : t.ended ≡ ends.ClockFull = some-same (sym t.is ∙ full) in subst (λ (e : Ended). EndsBegin good c n e u w) same t.last
@@ -95,15 +95,15 @@ module _ (good : List ℕ → Type 0) (c : Config) (n : ℕ) where
     by (inl h) = (h.1, full-earlier h.1 u t.before w grew h.2.2)
     by (inr h) = (h.0, full-earlier h.0 u t.before w grew h.1.3)
 
-  pub tried-full : (irrevocable : Bool) (s t : Tally) (u w : Known) → Tried good c n irrevocable (Some ends.ClockFull) u w s t → (clock : ℕ) × FindsFull clock u w
+  pub tried-full : (irrevocable : Bool) (s t : Tally) (u w : CallerState) → Tried good c n irrevocable (Some ends.ClockFull) u w s t → (clock : ℕ) × FindsFull clock u w
   tried-full irrevocable s t u w h = clock-found _ u w refl h.was
 
   -- none was tried yet
-  pub failing-none : (v : Known) (s : Tally) → Failing good c n 0 v v s s
+  pub failing-none : (v : CallerState) (s : Tally) → Failing good c n 0 v v s s
   failing-none v s = record { tries = []; were = refl; all = tt; counted = refl; due = refl; low = λ less. refl }
 
   -- one more, which failed
-  pub failing-more : (failed : ℕ) (irrevocable : Bool) (e : Ended) (u v w : Known) (r s t : Tally) → e ≢ ends.ClockFull → irrevocable ≡ leb 16 failed → Failing good c n failed u v r s → Tried good c n irrevocable (Some e) v w s t → Failing good c n (failed_next failed e) u w r (noted e t)
+  pub failing-more : (failed : ℕ) (irrevocable : Bool) (e : Ended) (u v w : CallerState) (r s t : Tally) → e ≢ ends.ClockFull → irrevocable ≡ leb 16 failed → Failing good c n failed u v r s → Tried good c n irrevocable (Some e) v w s t → Failing good c n (failed_next failed e) u w r (noted e t)
   failing-more failed irrevocable e u v w r s t apart is h x = record {
     tries = this ∷ h.tries;
     were = (v, h.were, x.was, is ∙ h.due);
@@ -131,7 +131,7 @@ module _ (good : List ℕ → Type 0) (c : Config) (n : ℕ) where
       next ends.ClockFull = due-full failed (any_full h.tries) (crossed h.tries) h.due h.low
 
   -- the last one
-  pub ran : (failed : ℕ) (irrevocable : Bool) (o : Option Ended) (u v w : Known) (r s t : Tally) → irrevocable ≡ leb 16 failed → Failing good c n failed u v r s → Tried good c n irrevocable o v w s t → Ran good c n o u w r (counted_end o t)
+  pub ran : (failed : ℕ) (irrevocable : Bool) (o : Option Ended) (u v w : CallerState) (r s t : Tally) → irrevocable ≡ leb 16 failed → Failing good c n failed u v r s → Tried good c n irrevocable o v w s t → Ran good c n o u w r (counted_end o t)
   ran failed irrevocable o u v w r s t is h x = record {
     tries = this ∷ h.tries;
     were = (v, h.were, x.was, is ∙ h.due);
@@ -142,44 +142,44 @@ module _ (good : List ℕ → Type 0) (c : Config) (n : ℕ) where
       this : Try
       this = record { irrevocable = irrevocable; busy = x.busy; again = x.again; ended = o }
 
-  -- runs, one behind the other
-  pub run-more : (k : ℕ) (u v w : Known) (r s t : Tally) → HaveRun good c n k u v r s → Ran good c n None v w s t → HaveRun good c n (suc k) u w r t
+  -- runs, one after the other
+  pub run-more : (k : ℕ) (u v w : CallerState) (r s t : Tally) → HaveRun good c n k u v r s → Ran good c n None v w s t → HaveRun good c n (suc k) u w r t
   run-more k u v w r s t h ran = (v, s, h, ran)
 
-  pub ran-again : (last : Option Ended) (u v w : Known) (r s t : Tally) → (k : ℕ) × HaveRun good c n k u v r s → Ran good c n last v w s t → RanAgain good c n last u w r t
+  pub ran-again : (last : Option Ended) (u v w : CallerState) (r s t : Tally) → (k : ℕ) × HaveRun good c n k u v r s → Ran good c n last v w s t → RanAgain good c n last u w r t
   ran-again last u v w r s t h ran = record { before = h.0; since = v; tally = s; runs = h.1; ran = ran }
 
   -- an attempt from its parts: it didn't begin
-  pub tried-unbegun : (irrevocable : Bool) (e : Ended) (u w : Known) (t : Tally) → EndsBegin good c n e u w → Tried good c n irrevocable (Some e) u w t t
+  pub tried-unbegun : (irrevocable : Bool) (e : Ended) (u w : CallerState) (t : Tally) → EndsBegin good c n e u w → Tried good c n irrevocable (Some e) u w t t
   tried-unbegun true e u w t h = record { busy = 0; again = 0; was = inl (record { busy = refl; again = refl; ended = e; is = refl; last = h }); counted = refl }
   tried-unbegun false e u w t h = record { busy = 0; again = 0; was = inl (record { busy = refl; again = refl; ended = e; is = refl; last = h }); counted = refl }
 
   -- it was not made irrevocable
-  pub tried-asked : (irrevocable : Bool) (e : Ended) (u v w : Known) (s t : Tally) → irrevocable ≡ true → HasBegun good c n u v → Asks good c n (Some e) v w s t → Tried good c n irrevocable (Some e) u w s t
+  pub tried-asked : (irrevocable : Bool) (e : Ended) (u v w : CallerState) (s t : Tally) → irrevocable ≡ true → HasBegun good c n u v → Asks good c n (Some e) v w s t → Tried good c n irrevocable (Some e) u w s t
   tried-asked true e u v w s t is b a = record { busy = a.busy; again = 0; was = inr (inl (record { irrevocable = refl; begun = v; begins = b; asked = a.asked; busy = a.waits; again = refl; ended = e; is = refl; last = a.last })); counted = a.counted }
   tried-asked false e u v w s t is b a = absurd cc
 
   -- it was
-  pub opens-asked : (irrevocable : Bool) (u v w : Known) (s t : Tally) → irrevocable ≡ true → HasBegun good c n u v → Asks good c n None v w s t → Opens good c n irrevocable u w s t
+  pub opens-asked : (irrevocable : Bool) (u v w : CallerState) (s t : Tally) → irrevocable ≡ true → HasBegun good c n u v → Asks good c n None v w s t → Opens good c n irrevocable u w s t
   opens-asked true u v w s t is b a = record { busy = a.busy; begun = v; begins = b; granted = (a.asked, a.waits, a.last); counted = a.counted }
   opens-asked false u v w s t is b a = absurd cc
 
   -- it was not to be
-  pub opens-plain : (irrevocable : Bool) (u w : Known) (t : Tally) → irrevocable ≡ false → HasBegun good c n u w → Opens good c n irrevocable u w t t
+  pub opens-plain : (irrevocable : Bool) (u w : CallerState) (t : Tally) → irrevocable ≡ false → HasBegun good c n u w → Opens good c n irrevocable u w t t
   opens-plain true u w t is b = absurd cc
   opens-plain false u w t is b = record { busy = 0; begun = w; begins = b; granted = (refl, refl); counted = refl }
 
   -- what it did was refused
-  pub runs-stopped : (e : Ended) (u w : Known) (s t : Tally) → t ≡ s → IsStopped good c n e u w → Runs good c n (Some e) u w s t
+  pub runs-stopped : (e : Ended) (u w : CallerState) (s t : Tally) → t ≡ s → IsStopped good c n e u w → Runs good c n (Some e) u w s t
   runs-stopped e u w s t same x = record { acted = x.before; acts = x.goes; again = 0; before = x.before; waits = refl; last = inl x.last; counted = same }
 
   -- it did what it does, and asked to commit
-  pub runs-finished : (o : Option Ended) (u v w : Known) (s t : Tally) → Grows u v → Finishes good c n o v w s t → Runs good c n o u w s t
+  pub runs-finished : (o : Option Ended) (u v w : CallerState) (s t : Tally) → Grows u v → Finishes good c n o v w s t → Runs good c n o u w s t
   runs-finished None u v w s t grew f = record { acted = v; acts = grew; again = f.again; before = f.before; waits = f.waits; last = f.last; counted = f.counted }
   runs-finished (Some e) u v w s t grew f = record { acted = v; acts = grew; again = f.again; before = f.before; waits = f.waits; last = inr f.last; counted = f.counted }
 
   -- it ran
-  tried-run : (irrevocable : Bool) (o : Option Ended) (u v w : Known) (r s t : Tally) → (irrevocable ≡ true → has_committed o ≡ true) → Opens good c n irrevocable u v r s → Runs good c n o v w s t → Tried good c n irrevocable o u w r t
+  tried-run : (irrevocable : Bool) (o : Option Ended) (u v w : CallerState) (r s t : Tally) → (irrevocable ≡ true → has_committed o ≡ true) → Opens good c n irrevocable u v r s → Runs good c n o v w s t → Tried good c n irrevocable o u w r t
   tried-run irrevocable o u v w r s t stays opens runs = record {
     busy = opens.busy;
     again = runs.again;
@@ -192,39 +192,39 @@ module _ (good : List ℕ → Type 0) (c : Config) (n : ℕ) where
       promoted false p h = refl
 
   -- by what the attempt answered
-  pub tried-ran : {A E : Type 0} (result : Result A E) (irrevocable : Bool) (e : Ended) (u v w : Known) (r s t : Tally) → (irrevocable ≡ true → is_irrevocable v ≡ true) → OnErr result (is_irrevocable v ≡ false) → Opens good c n irrevocable u v r s → MatchResult result (λ _. Runs good c n None v w s t) (λ _. Runs good c n (Some e) v w s t) → MatchResult result (λ _. Tried good c n irrevocable None u w r t) (λ _. Tried good c n irrevocable (Some e) u w r t)
+  pub tried-ran : {A E : Type 0} (result : Result A E) (irrevocable : Bool) (e : Ended) (u v w : CallerState) (r s t : Tally) → (irrevocable ≡ true → is_irrevocable v ≡ true) → OnErr result (is_irrevocable v ≡ false) → Opens good c n irrevocable u v r s → MatchResult result (λ _. Runs good c n None v w s t) (λ _. Runs good c n (Some e) v w s t) → MatchResult result (λ _. Tried good c n irrevocable None u w r t) (λ _. Tried good c n irrevocable (Some e) u w r t)
   tried-ran (Ok x) irrevocable e u v w r s t stays unrefused o runs = tried-run irrevocable None u v w r s t (λ is. refl) o runs
   tried-ran (Err y) irrevocable e u v w r s t stays unrefused o runs = tried-run irrevocable (Some e) u v w r s t (λ is. let yes : is_irrevocable v ≡ true = stays is in let no : is_irrevocable v ≡ false = unrefused in let wrong : true ≡ false = sym yes ∙ no in absurd cc) o runs
 
   -- one call more that left it going, made by the same caller
-  pub busy-more : (k m : ℕ) (r : Irrev) (caller status : ℕ) (u v w : Known) → m ≡ n → FindsBusy good c n k u v → r ≡ grants.Busy caller status → Irrevs good c m r v w → FindsBusy good c n (suc k) u w
+  pub busy-more : (k m : ℕ) (r : Irrev) (caller status : ℕ) (u v w : CallerState) → m ≡ n → FindsBusy good c n k u v → r ≡ grants.Busy caller status → Irrevs good c m r v w → FindsBusy good c n (suc k) u w
   busy-more k m r caller status u v w same h is x = (v, h, caller, status, subst (λ i. Irrevs good c i (grants.Busy caller status) v w) same (subst (λ a. Irrevs good c m a v w) is x))
 
-  pub again-more : (k m : ℕ) (r : Commit) (word had now : ℕ) (u v w : Known) → m ≡ n → FindsAgain good c n k u v → r ≡ commits.Again word had now → Commits good c m r v w → FindsAgain good c n (suc k) u w
+  pub again-more : (k m : ℕ) (r : Commit) (word had now : ℕ) (u v w : CallerState) → m ≡ n → FindsAgain good c n k u v → r ≡ commits.Again word had now → Commits good c m r v w → FindsAgain good c n (suc k) u w
   again-more k m r word had now u v w same h is x = (v, h, word, had, now, subst (λ i. Commits good c i (commits.Again word had now) v w) same (subst (λ a. Commits good c m a v w) is x))
 
   -- the answers that end an attempt
-  pub begin-closed : (r : Begin) (gate : ℕ) (v w : Known) → r ≡ begins.Closed gate → Begins good c n r v w → EndsBegin good c n ends.Closed v w
+  pub begin-closed : (r : Begin) (gate : ℕ) (v w : CallerState) → r ≡ begins.Closed gate → Begins good c n r v w → EndsBegin good c n ends.Closed v w
   begin-closed r gate v w is h = (gate, subst (λ a. Begins good c n a v w) is h)
 
-  pub begin-held : (r : Begin) (word : ℕ) (v w : Known) → r ≡ begins.Held word → Begins good c n r v w → EndsBegin good c n ends.Held v w
+  pub begin-held : (r : Begin) (word : ℕ) (v w : CallerState) → r ≡ begins.Held word → Begins good c n r v w → EndsBegin good c n ends.Held v w
   begin-held r word v w is h = (word, subst (λ a. Begins good c n a v w) is h)
 
-  pub begin-full : (r : Begin) (clock : ℕ) (v w : Known) → r ≡ begins.ClockFull clock → Begins good c n r v w → EndsBegin good c n ends.ClockFull v w
+  pub begin-full : (r : Begin) (clock : ℕ) (v w : CallerState) → r ≡ begins.ClockFull clock → Begins good c n r v w → EndsBegin good c n ends.ClockFull v w
   begin-full r clock v w is h = (clock, subst (λ a. Begins good c n a v w) is h)
 
-  pub begin-fenced : (r : Begin) (alg : Alg) (v x w : Known) → r ≡ begins.Begun alg → Begins good c n r v x → x.fence ≢ 0 → Grows x w → EndsBegin good c n ends.Fenced v w
+  pub begin-fenced : (r : Begin) (alg : Alg) (v x w : CallerState) → r ≡ begins.Begun alg → Begins good c n r v x → x.fence ≢ 0 → Grows x w → EndsBegin good c n ends.Fenced v w
   begin-fenced r alg v x w is h some grows = (x, alg, subst (λ a. Begins good c n a v x) is h, some, grows)
 
-  pub grant-taken : (r : Irrev) (gate : ℕ) (v x w : Known) → r ≡ grants.Taken gate → Irrevs good c n r v x → Grows x w → EndsPromotion good c n ends.Taken v w
+  pub grant-taken : (r : Irrev) (gate : ℕ) (v x w : CallerState) → r ≡ grants.Taken gate → Irrevs good c n r v x → Grows x w → EndsPromotion good c n ends.Taken v w
   grant-taken r gate v x w is h grows = (x, gate, subst (λ a. Irrevs good c n a v x) is h, grows)
 
-  pub grant-full : (r : Irrev) (clock : ℕ) (v w : Known) → r ≡ grants.ClockFull clock → Irrevs good c n r v w → EndsPromotion good c n ends.ClockFull v w
+  pub grant-full : (r : Irrev) (clock : ℕ) (v w : CallerState) → r ≡ grants.ClockFull clock → Irrevs good c n r v w → EndsPromotion good c n ends.ClockFull v w
   grant-full r clock v w is h = (clock, subst (λ a. Irrevs good c n a v w) is h)
 
-  pub commit-full : (r : Commit) (clock : ℕ) (v w : Known) → r ≡ commits.ClockFull clock → Commits good c n r v w → EndsCommit good c n ends.ClockFull v w
+  pub commit-full : (r : Commit) (clock : ℕ) (v w : CallerState) → r ≡ commits.ClockFull clock → Commits good c n r v w → EndsCommit good c n ends.ClockFull v w
   commit-full r clock v w is h = (clock, subst (λ a. Commits good c n a v w) is h)
 
-  pub commit-done : (r : Commit) (v w : Known) → ((t : ℕ) × (r ≡ commits.Committed t)) ⊎ ((t : ℕ) × (r ≡ commits.ReadOnly t)) → Commits good c n r v w → FinishesBy good c n None v w
+  pub commit-done : (r : Commit) (v w : CallerState) → ((t : ℕ) × (r ≡ commits.Committed t)) ⊎ ((t : ℕ) × (r ≡ commits.ReadOnly t)) → Commits good c n r v w → FinishesBy good c n None v w
   commit-done r v w (inl p) h = (p.0, inl (subst (λ a. Commits good c n a v w) p.1 h))
   commit-done r v w (inr p) h = (p.0, inr (subst (λ a. Commits good c n a v w) p.1 h))

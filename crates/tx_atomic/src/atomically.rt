@@ -1,6 +1,6 @@
 //! A transaction, tried until it commits.
 ghost use Rattle.std.specs.Prelude.{◌≡◌, ℕ, IfSome, IfNone, Some, None};
-ghost use Rattle.tx_answers.specs.Known.{Grows};
+ghost use Rattle.tx_answers.specs.CallerState.{Grows};
 ghost use Rattle.stm_tx.specs.Descs.{known, number};
 ghost use Rattle.tx_atomic.specs.Callers.{IsReady, IsThrough, Took};
 ghost use Rattle.tx_answers.specs.Causes.{FindsFull};
@@ -35,10 +35,10 @@ pub fn atomically<R: Wait, K: MemRule, T: Transaction<K>, O: Observer>(
     transaction: &T,
 ) -> Option<T::Output>
     requires ready { IsReady stm.now desc.old }
-    requires fits { T.fits transaction.now stm.now.rule stm.now.config.words }
+    requires precondition { T.precondition transaction.now stm.now.rule stm.now.config.words }
     ensures through { IsThrough desc.old desc.new }
     ensures grew { Grows (known desc.old) (known desc.new) }
-    ensures took { IfSome result (λ r. Took K.good (T.tells transaction.now) stm.now desc.old r desc.new) }
+    ensures took { IfSome result (λ r. Took K.good (T.postcondition transaction.now) stm.now desc.old r desc.new) }
     ensures none { IfNone result ((known desc.new).made ≡ (known desc.old).made) }
     ensures counted { IfSome result (λ r. CommitsRise pace.old.tally pace.new.tally) }
     ensures uncounted { IfNone result (CommitsStay pace.old.tally pace.new.tally) }

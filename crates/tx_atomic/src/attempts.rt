@@ -2,7 +2,7 @@
 ghost use Rattle.std.specs.Prelude.{◌≡◌, ◌≤◌, true, false, IfOk, OnOk, IfErr, OnErr, MatchResult, Some, None};
 ghost use Rattle.stm_rule.specs.Callers.{IsOf, IsSameCaller};
 ghost use Rattle.tx_answers.specs.Answers.{KeepsRule, Commits};
-ghost use Rattle.tx_answers.specs.Known.{Grows, IsIdle, is_irrevocable};
+ghost use Rattle.tx_answers.specs.CallerState.{Grows, IsIdle, is_irrevocable};
 ghost use Rattle.stm_tx.specs.Descs.{known, number};
 ghost use Rattle.tx_atomic.specs.Tallies.{CommitsStay};
 ghost use Rattle.tx_atomic.specs.Attempts.{IsFresh, MayCommit, TookEffect};
@@ -44,11 +44,11 @@ pub fn attempt<R: Wait, K: MemRule, T: Transaction<K>, O: Observer>(
     irrevocable: bool,
 ) -> Result<T::Output, Refused>
     requires ready { IsReady stm.now desc.old }
-    requires fits { T.fits transaction.now stm.now.rule stm.now.config.words }
+    requires precondition { T.precondition transaction.now stm.now.rule stm.now.config.words }
     ensures through { IsThrough desc.old desc.new }
     ensures grew { Grows (known desc.old) (known desc.new) }
     ensures uncounted { CommitsStay pace.old.tally pace.new.tally }
-    ensures took { IfOk result (λ r. Took K.good (T.tells transaction.now) stm.now desc.old r desc.new) }
+    ensures took { IfOk result (λ r. Took K.good (T.postcondition transaction.now) stm.now desc.old r desc.new) }
     ensures none { OnErr result ((known desc.new).made ≡ (known desc.old).made) }
     ensures installs { (known desc.new).installs ≡ (known desc.old).installs }
     ensures tried { MatchResult result (λ r. Tried (K.good stm.now.rule) stm.now.config (number desc.old) irrevocable None (known desc.old) (known desc.new) pace.old.tally pace.new.tally) (λ e. Tried (K.good stm.now.rule) stm.now.config (number desc.old) irrevocable (Some pace.new.last) (known desc.old) (known desc.new) pace.old.tally pace.new.tally) }
@@ -189,12 +189,12 @@ fn run<R: Wait, K: MemRule, T: Transaction<K>, O: Observer>(
 ) -> Result<T::Output, Refused>
     requires stm { IsOf desc.old stm.now }
     requires fresh { IsFresh (known desc.old) }
-    requires fits { T.fits transaction.now stm.now.rule stm.now.config.words }
+    requires precondition { T.precondition transaction.now stm.now.rule stm.now.config.words }
     ensures same { IsSameCaller desc.old desc.new }
     ensures idle { IsIdle (known desc.new) }
     ensures grew { Grows (known desc.old) (known desc.new) }
     ensures uncounted { CommitsStay pace.old.tally pace.new.tally }
-    ensures took { IfOk result (λ r. TookEffect (K.good stm.now.rule) stm.now.config (number desc.old) (T.tells transaction.now stm.now.rule stm.now.config.words r) (known desc.old).start (known desc.old) (known desc.new)) }
+    ensures took { IfOk result (λ r. TookEffect (K.good stm.now.rule) stm.now.config (number desc.old) (T.postcondition transaction.now stm.now.rule stm.now.config.words r) (known desc.old).start (known desc.old) (known desc.new)) }
     ensures none { OnErr result ((known desc.new).made ≡ (known desc.old).made) }
     ensures installs { (known desc.new).installs ≡ (known desc.old).installs }
     ensures runs { MatchResult result (λ r. Runs (K.good stm.now.rule) stm.now.config (number desc.old) None (known desc.old) (known desc.new) pace.old.tally pace.new.tally) (λ e. Runs (K.good stm.now.rule) stm.now.config (number desc.old) (Some pace.new.last) (known desc.old) (known desc.new) pace.old.tally pace.new.tally) }
@@ -223,12 +223,12 @@ fn run_by<R: Wait, K: MemRule, T: Transaction<K>, C: Calls + Drop, O: Observer>(
     requires stm { IsOf desc.old stm.now }
     requires fresh { IsFresh (known desc.old) }
     requires served { C.acts_as (known desc.old).alg ≡ (known desc.old).alg }
-    requires fits { T.fits transaction.now stm.now.rule stm.now.config.words }
+    requires precondition { T.precondition transaction.now stm.now.rule stm.now.config.words }
     ensures same { IsSameCaller desc.old desc.new }
     ensures idle { IsIdle (known desc.new) }
     ensures grew { Grows (known desc.old) (known desc.new) }
     ensures uncounted { CommitsStay pace.old.tally pace.new.tally }
-    ensures took { IfOk result (λ r. TookEffect (K.good stm.now.rule) stm.now.config (number desc.old) (T.tells transaction.now stm.now.rule stm.now.config.words r) (known desc.old).start (known desc.old) (known desc.new)) }
+    ensures took { IfOk result (λ r. TookEffect (K.good stm.now.rule) stm.now.config (number desc.old) (T.postcondition transaction.now stm.now.rule stm.now.config.words r) (known desc.old).start (known desc.old) (known desc.new)) }
     ensures none { OnErr result ((known desc.new).made ≡ (known desc.old).made) }
     ensures installs { (known desc.new).installs ≡ (known desc.old).installs }
     ensures runs { MatchResult result (λ r. Runs (K.good stm.now.rule) stm.now.config (number desc.old) None (known desc.old) (known desc.new) pace.old.tally pace.new.tally) (λ e. Runs (K.good stm.now.rule) stm.now.config (number desc.old) (Some pace.new.last) (known desc.old) (known desc.new) pace.old.tally pace.new.tally) }
@@ -252,7 +252,7 @@ fn act<K: MemRule, T: Transaction<K>, C: Calls, O: Observer>(
     requires stm { IsOf desc.old stm.now }
     requires fresh { IsFresh (known desc.old) }
     requires served { C.acts_as (known desc.old).alg ≡ (known desc.old).alg }
-    requires fits { T.fits transaction.now stm.now.rule stm.now.config.words }
+    requires precondition { T.precondition transaction.now stm.now.rule stm.now.config.words }
     ensures same { IsSameCaller desc.old desc.new }
     ensures made { (known desc.new).made ≡ (known desc.old).made }
     ensures grew { Grows (known desc.old) (known desc.new) }
@@ -260,7 +260,7 @@ fn act<K: MemRule, T: Transaction<K>, C: Calls, O: Observer>(
     ensures later { OnOk result ((known desc.old).start ≤ (known desc.new).start) }
     ensures algorithm { OnOk result ((known desc.new).alg ≡ (known desc.old).alg) }
     ensures may { OnOk result (MayCommit (K.good stm.now.rule) stm.now.config (known desc.new)) }
-    ensures tells { IfOk result (λ r. T.tells transaction.now stm.now.rule stm.now.config.words r (known desc.new).log) }
+    ensures postcondition { IfOk result (λ r. T.postcondition transaction.now stm.now.rule stm.now.config.words r (known desc.new).log) }
     ensures over { OnErr result (IsIdle (known desc.new)) }
     ensures installs { (known desc.new).installs ≡ (known desc.old).installs }
     ensures stopped { OnErr result (IsStopped (K.good stm.now.rule) stm.now.config (number desc.old) pace.new.last (known desc.old) (known desc.new)) }

@@ -7,7 +7,7 @@
 ghost use Rattle.std.specs.Prelude.{◌≡◌, ℕ, [], IfSome, IfNone, Some, None};
 ghost use Rattle.stm_model.specs.Logs.{Log};
 ghost use Rattle.tx_answers.specs.Causes.{FindsFull};
-ghost use Rattle.tx_answers.specs.Known.{Grows};
+ghost use Rattle.tx_answers.specs.CallerState.{Grows};
 ghost use Rattle.stm_tx.specs.Descs.{known, number};
 ghost use Rattle.tx_atomic.specs.Callers.{IsReady, IsThrough, Took};
 ghost use Rattle.tx_atomic.specs.declared.tally.Ended.TheVariants.{ClockFull};
@@ -36,11 +36,11 @@ pub fn until_some<R: Wait, K: MemRule, V: Drop, T: Transaction<K, Output = Optio
     transaction: &T,
 ) -> Option<V>
     requires ready { IsReady stm.now desc.old }
-    requires fits { T.fits transaction.now stm.now.rule stm.now.config.words }
-    requires waits { (log : Log) → T.tells transaction.now stm.now.rule stm.now.config.words None log → log.writes ≡ [] }
+    requires precondition { T.precondition transaction.now stm.now.rule stm.now.config.words }
+    requires waits { (log : Log) → T.postcondition transaction.now stm.now.rule stm.now.config.words None log → log.writes ≡ [] }
     ensures through { IsThrough desc.old desc.new }
     ensures grew { Grows (known desc.old) (known desc.new) }
-    ensures took { IfSome result (λ v. Took K.good (T.tells transaction.now) stm.now desc.old (Some v) desc.new) }
+    ensures took { IfSome result (λ v. Took K.good (T.postcondition transaction.now) stm.now desc.old (Some v) desc.new) }
     ensures none { IfNone result ((known desc.new).made ≡ (known desc.old).made) }
     ensures full { IfNone result ((clock : ℕ) × FindsFull clock (known desc.old) (known desc.new)) }
     ensures installs { (known desc.new).installs ≡ (known desc.old).installs }

@@ -19,7 +19,7 @@ module _ (r : Chains) (m k : List ℕ) (key c : ℕ) (s : Position) (w : IsChain
   next-names : Names r m (bucket r key) f.low s.next
   next-names = subst (Names r m (bucket r key) f.low) f.word (w.names (bucket r key) f.low s.link f.link)
 
-  -- what is behind the place has a greater key
+  -- what is after the place has a greater key
   far : (i : ℕ) → Above r m (bucket r key) f.low i → suc (suc key) ≤ tag r m i
   far i h = by s.next refl next-names
     where

@@ -32,7 +32,7 @@ bool-same true y f g = sym (f refl)
 bool-same false true f g = g refl
 bool-same false false f g = refl
 
--- behind the next cell there is one cell less
+-- after the next cell there is one cell less
 pub left-step : (r : Chains) (m : List ℕ) (b low j : ℕ) → IsChains r m → Names r m b low (suc j) → left r m b low ≡ suc (left r m b (tag r m j))
 left-step r m b low j w n = how_many-more (is_above r m b low) (is_above r m b (tag r m j)) j r.cells same n.0.inside (is-above r m b low j n.0) (not-itself (is_above r m b (tag r m j) j) refl)
   where

@@ -18,7 +18,7 @@ module _ (r : Chains) (m k : List ℕ) (key c : ℕ) (s : Position) (w : IsChain
   c-next : Names r m (bucket r key) f.low (suc c)
   c-next = subst (Names r m (bucket r key) f.low) (f.word ∙ named) (w.names (bucket r key) f.low s.link f.link)
 
-  -- what is behind the place, other than c, is behind c
+  -- what is after the place, other than c, is after c
   behind : (i : ℕ) → i ≢ c → Above r m (bucket r key) f.low i → Above r m (bucket r key) (tag r m c) i
   behind i n h = let le = c-next.1 i h in let d : tag r m c ≢ tag r m i = λ e. n (sym (w.differ c i c-next.0.inside h.inside (omega arith) e)) in
       record { inside = h.inside; above = omega arith; chain = h.chain }

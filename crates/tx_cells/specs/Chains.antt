@@ -52,7 +52,7 @@ pub record IsChains (r : Chains) (m : List ℕ) : Type 0 where
   pub spare : (i : ℕ) → i < r.cells → tag r m i ≡ 0 → slice_index m (next_at r i) ≡ 0
   pub small : (i : ℕ) → i < r.cells → tag r m i ≤ 2 ^ 32
 
--- the first link from a on that names no cell of a lesser key, behind at most n cells
+-- the first link from a on that names no cell of a lesser key, after at most n cells
 abbrev pub found_by : Chains → List ℕ → ℕ → ℕ → (ℕ → Position) → ℕ → Position
 found_by r m key a on zero = record { link = a; next = 0; tag = 0 }
 found_by r m key a on (suc j) = if ltb key (tag r m j) then record { link = a; next = suc j; tag = tag r m j } else on j

@@ -7,11 +7,11 @@ use Rattle.tx_answers.specs.declared.answers.Give.{Give}
 use Rattle.tx_answers.specs.declared.answers.Give.TheVariants.{Committed, Unchanged, ClockFull}
 use Rattle.tx_answers.specs.Answers.{Stays, entry}
 use Rattle.tx_answers.specs.Fences.{Gives, StaysClosed}
-use Rattle.tx_answers.specs.Known.{Known, Grows, Fenced, zeros}
+use Rattle.tx_answers.specs.CallerState.{CallerState, Grows, Fenced, zeros}
 use Rattle.tx_checked.specs.Ranges.{GivesBack}
-use Rattle.tx_checked.specs.Stands.{Any}
+use Rattle.tx_checked.specs.Phases.{Any}
 
-pub given : (c : Config) (n : ℕ) (r : Give) (u v w x : Known) → Grows u v → v.made ≡ u.made → Gives Any c n r v w → Stays c w x → GivesBack c n r u x
+pub given : (c : Config) (n : ℕ) (r : Give) (u v w x : CallerState) → Grows u v → v.made ≡ u.made → Gives Any c n r v w → Stays c w x → GivesBack c n r u x
 given c n (Committed time) u v w x grew made g s =
     let same : entry time n (length v.made) v.fenced.log ≡ entry time n (length u.made) u.fenced.log = (λ i. entry time n (length (made i)) ((grew.fenced i).log)) in
     let le = grew.front_rose in let lt = g.above in let rose = s.grows.front_rose in let at = g.front in
@@ -27,7 +27,7 @@ given c n (Committed time) u v w x grew made g s =
 given c n Unchanged u v w x grew made g s = (s.made ∙ (g.0.made ∙ made), ap (λ (f : Fenced). is_empty f.log.writes) (sym grew.fenced) ∙ g.2)
 given c n (ClockFull clock) u v w x grew made g s = (s.made ∙ (g.0.made ∙ made), s.grows.fenced ∙ (g.2 ∙ grew.fenced), g.4.limit)
 
-pub stays-closed : (c : Config) (n : ℕ) (r : Give) (v w : Known) → Gives Any c n r v w → StaysClosed v w
+pub stays-closed : (c : Config) (n : ℕ) (r : Give) (v w : CallerState) → Gives Any c n r v w → StaysClosed v w
 stays-closed c n (Committed time) v w g = g.closed
 stays-closed c n Unchanged v w g = g.0.closed
 stays-closed c n (ClockFull clock) v w g = g.0.closed

@@ -2,7 +2,7 @@ pub mod Beside
 pub mod Ending
 pub mod Giving
 pub mod Held
-pub mod Mails
+pub mod NoteExchanges
 pub mod Newcomers
 pub mod Reach
 pub mod Refused

@@ -9,14 +9,14 @@ use Rattle.stm_model.specs.declared.rule.AnyMem.{AnyMem}
 use Rattle.stm_rule.specs.declared.stm.Stm.{Stm}
 use Rattle.stm_rule.specs.Callers.{Handle, IsOf, AllOpened}
 use Rattle.stm_tx.specs.Descs.{known, number}
-use Rattle.tx_answers.specs.Known.{Known, IsIdle, known_of, caller_of}
+use Rattle.tx_answers.specs.CallerState.{CallerState, IsIdle, known_of, caller_of}
 use Rattle.tx_atomic.specs.declared.switching.Hindrance.{Hindrance}
 use Rattle.tx_atomic.specs.declared.switching.Hindrance.TheVariants.{Taken, Busy}
 use Rattle.tx_atomic.specs.Switches.{IsHindered}
 use Rattle.tx_atomic.specs.Callers.{IsReady, IsThrough}
 use Rattle.tx_atomic.specs.CallerLaws.{through}
-use Rattle.tx_checked.specs.declared.member.Member.{Member}
-use Rattle.tx_checked.specs.Stands.{Any}
+use Rattle.tx_checked.specs.declared.checked_caller.CheckedCaller.{CheckedCaller}
+use Rattle.tx_checked.specs.Phases.{Any}
 use Rattle.tx_checked.specs.Ready.{IsFresh, AreFresh, IsOpenHindered, IsUnused, AreNew, desc_in, descs_in}
 
 -- a caller that has done nothing at all
@@ -26,7 +26,7 @@ record IsOpened (stm : Stm AnyMem) (i : ℕ) (d : Handle AnyMem) : Type 0 where
   number : number d ≡ i
   made : (known d).made ≡ []
   installs : (known d).installs ≡ []
-  trail : (known d).trail ≡ []
+  step_trace : (known d).step_trace ≡ []
 
 module _ (stm : Stm AnyMem) where
   opened : (n i : ℕ) (ds : List (Handle AnyMem)) (x : Handle AnyMem) → AllOpened stm n ds → i < length ds → IsOpened stm (n + i) (get_or ds i x)
@@ -37,7 +37,7 @@ module _ (stm : Stm AnyMem) where
     number = ap caller_of h.1 ∙ here;
     made = ap (λ (v : View). (known_of v d.own).made) h.2;
     installs = ap (λ (v : View). (known_of v d.own).installs) h.2;
-    trail = ap (λ (v : View). (known_of v d.own).trail) h.2;
+    step_trace = ap (λ (v : View). (known_of v d.own).step_trace) h.2;
   }
   opened n (suc i) (d ∷ ds) x h lt = let next : suc n + i ≡ n + suc i = omega arith in subst (λ k. IsOpened stm k (get_or ds i x)) next (opened (suc n) i ds x h.4 (omega (arith, lt)))
 
@@ -68,7 +68,7 @@ module _ (stm : Stm AnyMem) where
   first-fresh (Ok u) alg ds x d e h at t made installs = one-installed alg ds x d e h at t made installs
   first-fresh (Err q) alg ds x d e h at t made installs = tt
 
-  has-others : (n : ℕ) (q : Hindrance) (v w : Known) → IsHindered Any stm.config n q v w → 1 < stm.config.callers
+  has-others : (n : ℕ) (q : Hindrance) (v w : CallerState) → IsHindered Any stm.config n q v w → 1 < stm.config.callers
   has-others n (Taken gate) v w h = h.3
   has-others n (Busy caller status) v w h = h.3.1.other.2
 
@@ -82,7 +82,7 @@ module _ (stm : Stm AnyMem) where
       v = known d;
       w = known e;
       made = ap (λ (g : Handle AnyMem). (known g).made) at ∙ one.made;
-      trail = ap (λ (g : Handle AnyMem). (known g).trail) at ∙ one.trail;
+      step_trace = ap (λ (g : Handle AnyMem). (known g).step_trace) at ∙ one.step_trace;
       hindered = subst (λ n. IsHindered Any stm.config n q (known d) (known e)) (ap number at ∙ one.number) hindered;
     },
   )
@@ -91,7 +91,7 @@ module _ (stm : Stm AnyMem) where
   fresh-ready alg ds h = λ i d lt. let one = h i d lt in record { own = one.own; idle = one.idle }
 
   -- each with its descriptor
-  pub all-new : (c : Config) (alg : Alg) (ds : List (Handle AnyMem)) (ms : List Member) → AreFresh stm alg ds → descs_in ms ≡ ds → All (IsUnused c) ms → AreNew c alg ms
+  pub all-new : (c : Config) (alg : Alg) (ds : List (Handle AnyMem)) (ms : List CheckedCaller) → AreFresh stm alg ds → descs_in ms ≡ ds → All (IsUnused c) ms → AreNew c alg ms
   all-new c alg ds ms fresh same unused i m lt =
       let many : length (descs_in ms) ≡ length ms = length-map ms desc_in in
       let long = ap length same in

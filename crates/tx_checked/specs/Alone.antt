@@ -8,30 +8,30 @@ use Rattle.tx_answers.specs.declared.answers.Give.TheVariants as gives
 use Rattle.tx_answers.specs.declared.answers.Look.TheVariants as looks
 use Rattle.tx_answers.specs.Answers.{Closes, Looks, Reopens}
 use Rattle.tx_answers.specs.Fences.{Fences, Gives}
-use Rattle.tx_answers.specs.Known.{Known}
+use Rattle.tx_answers.specs.CallerState.{CallerState}
 use Rattle.tx_checked.specs.declared.refusal.Refusal.{Refusal}
 use Rattle.tx_checked.specs.declared.refusal.Refusal.TheVariants as refusals
-use Rattle.tx_checked.specs.Stands.{Any}
+use Rattle.tx_checked.specs.Phases.{Any}
 
 -- c is the memory's configuration, and n the caller
 module _ (c : Config) (n : ℕ) where
   -- the gate is closed: it was closed before, or is so now
-  abbrev pub HasClosedBy : Bool → Known → Known → Type 0
+  abbrev pub HasClosedBy : Bool → CallerState → CallerState → Type 0
   HasClosedBy true v closed = closed ≡ v
   HasClosedBy false v closed = Closes Any c n gates.Closed v closed
 
 -- and whether it had closed the gate before
 module _ (c : Config) (n : ℕ) (closing : Bool) where
   -- the gate is closed, and a look since then has seen the last of the others idle
-  abbrev pub IsAlone : Known → Known → Type 0
-  IsAlone v w = (closed : Known) × HasClosedBy c n closing v closed × Looks Any c n looks.Quiet closed w
+  abbrev pub IsAlone : CallerState → CallerState → Type 0
+  IsAlone v w = (closed : CallerState) × HasClosedBy c n closing v closed × Looks Any c n looks.Quiet closed w
 
   -- another caller had the gate; or it was closed, and a look, which went on where the last one stopped, found another caller in an attempt
-  abbrev pub IsHeldUp : Refusal → Known → Known → Type 0
+  abbrev pub IsHeldUp : Refusal → CallerState → CallerState → Type 0
   IsHeldUp (refusals.Conflict cause) v w = ⊥
   IsHeldUp (refusals.GateClosed gate) v w = (closing ≡ false) × Closes Any c n (gates.Taken gate) v w
   IsHeldUp (refusals.Held word) v w = ⊥
-  IsHeldUp (refusals.Busy caller status) v w = (closed : Known) × HasClosedBy c n closing v closed × Looks Any c n (looks.Busy caller status) closed w
+  IsHeldUp (refusals.Busy caller status) v w = (closed : CallerState) × HasClosedBy c n closing v closed × Looks Any c n (looks.Busy caller status) closed w
   IsHeldUp (refusals.Again word had now) v w = ⊥
   IsHeldUp (refusals.LogFull limit) v w = ⊥
   IsHeldUp (refusals.ClockFull clock) v w = ⊥
@@ -40,11 +40,11 @@ module _ (c : Config) (n : ℕ) (closing : Bool) where
   IsHeldUp (refusals.RangeTaken gate) v w = ⊥
 
   -- it was alone, a range was out already, and the gate was reopened
-  abbrev pub FindsTaken : ℕ → ℕ → ℕ → Known → Known → Type 0
-  FindsTaken from count gate v w = (alone : Known) × IsAlone v alone × (there : Known) × Fences Any c n from count (fences.Taken gate) alone there × Reopens Any c n there w
+  abbrev pub FindsTaken : ℕ → ℕ → ℕ → CallerState → CallerState → Type 0
+  FindsTaken from count gate v w = (alone : CallerState) × IsAlone v alone × (there : CallerState) × Fences Any c n from count (fences.Taken gate) alone there × Reopens Any c n there w
 
   -- the same of the call that takes words
-  abbrev pub IsTakeRefused : ℕ → ℕ → Refusal → Known → Known → Type 0
+  abbrev pub IsTakeRefused : ℕ → ℕ → Refusal → CallerState → CallerState → Type 0
   IsTakeRefused from count (refusals.Conflict cause) v w = ⊥
   IsTakeRefused from count (refusals.GateClosed gate) v w = IsHeldUp (refusals.GateClosed gate) v w
   IsTakeRefused from count (refusals.Held word) v w = ⊥
@@ -57,11 +57,11 @@ module _ (c : Config) (n : ℕ) (closing : Bool) where
   IsTakeRefused from count (refusals.RangeTaken gate) v w = FindsTaken from count gate v w
 
   -- it was alone, the clock was found at its limit, and the gate was reopened
-  abbrev pub FindsClockFull : ℕ → Known → Known → Type 0
-  FindsClockFull clock v w = (alone : Known) × IsAlone v alone × (there : Known) × Gives Any c n (gives.ClockFull clock) alone there × Reopens Any c n there w
+  abbrev pub FindsClockFull : ℕ → CallerState → CallerState → Type 0
+  FindsClockFull clock v w = (alone : CallerState) × IsAlone v alone × (there : CallerState) × Gives Any c n (gives.ClockFull clock) alone there × Reopens Any c n there w
 
   -- where a range isn't given back, that is why
-  abbrev pub FindsFullAt : Give → Known → Known → Type 0
+  abbrev pub FindsFullAt : Give → CallerState → CallerState → Type 0
   FindsFullAt (gives.Committed time) v w = Unit {0}
   FindsFullAt gives.Unchanged v w = Unit {0}
   FindsFullAt (gives.ClockFull clock) v w = FindsClockFull clock v w

@@ -1,4 +1,4 @@
--- What a caller's counts are behind a call that came to this.
+-- What a caller's counts are after a call that came to this.
 use Rattle.std.specs.Prelude.{ℕ, ◌+◌, ◌%◌, ◌^◌}
 use Rattle.stm_model.specs.declared.stop.Cause.{Cause}
 use Rattle.stm_model.specs.declared.stop.Cause.TheVariants as causes

@@ -1,19 +1,19 @@
 -- What the end of a memory hands out.
 use Rattle.std.specs.Prelude.{ℕ, ◌≡◌, ◌<◌, ◌≤◌, ◌++◌, List, None, true, slice_index, Result, Ok, Err}
 use Rattle.stm_model.specs.Histories.{Entry, memory_after, IsLegal}
-use Rattle.tx_answers.specs.Known.{zeros}
+use Rattle.tx_answers.specs.CallerState.{zeros}
 use Rattle.tx_checked.specs.Alone.{IsTakeRefused}
 use Rattle.tx_checked.specs.declared.errand.Errand.TheVariants.{End}
-use Rattle.tx_checked.specs.declared.member.Member.{Member}
+use Rattle.tx_checked.specs.declared.checked_caller.CheckedCaller.{CheckedCaller}
 use Rattle.tx_checked.specs.declared.refusal.Refusal.{Refusal}
-use Rattle.tx_checked.specs.declared.stand.Stand.TheVariants.{Idle}
-use Rattle.tx_checked.specs.Errands.{is_closing, stand_after}
-use Rattle.tx_checked.specs.Members.{config_of, known_to, number_of}
+use Rattle.tx_checked.specs.declared.phase.CallerPhase.TheVariants.{Idle}
+use Rattle.tx_checked.specs.Errands.{is_closing, phase_after}
+use Rattle.tx_checked.specs.CheckedCallers.{config_of, known_to, number_of}
 use Rattle.tx_checked.specs.Ranges.{GrowsBeside, IsLeft}
-use Rattle.tx_checked.specs.Stands.{Any}
+use Rattle.tx_checked.specs.Phases.{Any}
 
 -- the first words are the memory after all that was committed, which is a legal history and begins with what the caller had seen; all of them are out of the transactions, and nobody has them to give back
-pub record EndsAs (m n : Member) (old ws : List ℕ) : Type 0 where
+pub record EndsAs (m n : CheckedCaller) (old ws : List ℕ) : Type 0 where
   pub history : List Entry
   pub legal : IsLegal Any (zeros (config_of m).words) (config_of m).clock history
   pub later : List Entry
@@ -24,10 +24,10 @@ pub record EndsAs (m n : Member) (old ws : List ℕ) : Type 0 where
   pub grew : GrowsBeside (known_to m) (known_to n)
   pub made : (known_to n).made ≡ (known_to m).made
   pub range : n.range ≡ None
-  pub stand : n.stand ≡ Idle
+  pub phase : n.phase ≡ Idle
   pub refusal : n.refusal ≡ m.refusal
   pub counts : n.counts ≡ m.counts
 
-abbrev pub HasEnded : Member → Member → List ℕ → List ℕ → Result (Unit {0}) Refusal → Type 0
+abbrev pub HasEnded : CheckedCaller → CheckedCaller → List ℕ → List ℕ → Result (Unit {0}) Refusal → Type 0
 HasEnded m n old ws (Ok r) = EndsAs m n old ws
-HasEnded m n old ws (Err e) = IsLeft e (stand_after End e) m n × IsTakeRefused (config_of m) (number_of m) (is_closing m.stand) 0 (config_of m).words e (known_to m) (known_to n) × (ws ≡ old)
+HasEnded m n old ws (Err e) = IsLeft e (phase_after End e) m n × IsTakeRefused (config_of m) (number_of m) (is_closing m.phase) 0 (config_of m).words e (known_to m) (known_to n) × (ws ≡ old)

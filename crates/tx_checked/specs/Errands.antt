@@ -5,8 +5,8 @@ use Rattle.tx_checked.specs.declared.errand.Errand.{Errand}
 use Rattle.tx_checked.specs.declared.errand.Errand.TheVariants.{Switch, Take, Give, End}
 use Rattle.tx_checked.specs.declared.refusal.Refusal.{Refusal}
 use Rattle.tx_checked.specs.declared.refusal.Refusal.TheVariants as refusals
-use Rattle.tx_checked.specs.declared.stand.Stand.{Stand}
-use Rattle.tx_checked.specs.declared.stand.Stand.TheVariants.{Idle, Running, Beside, Committing, Closing}
+use Rattle.tx_checked.specs.declared.phase.CallerPhase.{CallerPhase}
+use Rattle.tx_checked.specs.declared.phase.CallerPhase.TheVariants.{Idle, Running, Beside, Committing, Closing}
 
 -- the same call, with the same arguments
 abbrev pub same_errand : Errand → Errand → Bool
@@ -27,7 +27,7 @@ same_errand End (Take low many) = false
 same_errand End Give = false
 same_errand End End = true
 
-abbrev pub is_closing : Stand → Bool
+abbrev pub is_closing : CallerPhase → Bool
 is_closing Idle = false
 is_closing Running = false
 is_closing Beside = false
@@ -35,14 +35,14 @@ is_closing Committing = false
 is_closing (Closing errand) = true
 
 -- where a caller stands whose call was refused so: only at Busy it keeps the gate closed
-abbrev pub stand_after : Errand → Refusal → Stand
-stand_after errand (refusals.Conflict cause) = Idle
-stand_after errand (refusals.GateClosed gate) = Idle
-stand_after errand (refusals.Held word) = Idle
-stand_after errand (refusals.Busy caller status) = Closing errand
-stand_after errand (refusals.Again word had now) = Idle
-stand_after errand (refusals.LogFull limit) = Idle
-stand_after errand (refusals.ClockFull clock) = Idle
-stand_after errand refusals.Irrevocable = Idle
-stand_after errand (refusals.Deep limit) = Idle
-stand_after errand (refusals.RangeTaken gate) = Idle
+abbrev pub phase_after : Errand → Refusal → CallerPhase
+phase_after errand (refusals.Conflict cause) = Idle
+phase_after errand (refusals.GateClosed gate) = Idle
+phase_after errand (refusals.Held word) = Idle
+phase_after errand (refusals.Busy caller status) = Closing errand
+phase_after errand (refusals.Again word had now) = Idle
+phase_after errand (refusals.LogFull limit) = Idle
+phase_after errand (refusals.ClockFull clock) = Idle
+phase_after errand refusals.Irrevocable = Idle
+phase_after errand (refusals.Deep limit) = Idle
+phase_after errand (refusals.RangeTaken gate) = Idle

@@ -1,10 +1,10 @@
-pub mod Stands
+pub mod Phases
 pub mod Errands
 pub mod Alone
 pub mod Counting
-pub mod Mails
+pub mod NoteExchanges
 pub mod Learning
-pub mod Members
+pub mod CheckedCallers
 pub mod Misuses
 pub mod Tells
 pub mod Ranges

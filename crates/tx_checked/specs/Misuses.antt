@@ -5,21 +5,21 @@ use Rattle.stm_tx.specs.Nesting.{live_marks}
 use Rattle.tx_answers.specs.Fences.{is_within}
 use Rattle.tx_checked.specs.declared.errand.Errand.{Errand}
 use Rattle.tx_checked.specs.declared.errand.Errand.TheVariants.{Take, Give, End}
-use Rattle.tx_checked.specs.declared.member.Member.{Member}
-use Rattle.tx_checked.specs.declared.member.Range.{Range}
+use Rattle.tx_checked.specs.declared.checked_caller.CheckedCaller.{CheckedCaller}
+use Rattle.tx_checked.specs.declared.checked_caller.Range.{Range}
 use Rattle.tx_checked.specs.declared.misuse.Misuse.{Misuse}
 use Rattle.tx_checked.specs.declared.misuse.Misuse.TheVariants as wrong
-use Rattle.tx_checked.specs.declared.stand.Stand.{Stand}
-use Rattle.tx_checked.specs.declared.stand.Stand.TheVariants.{Idle, Running, Beside, Committing, Closing}
+use Rattle.tx_checked.specs.declared.phase.CallerPhase.{CallerPhase}
+use Rattle.tx_checked.specs.declared.phase.CallerPhase.TheVariants.{Idle, Running, Beside, Committing, Closing}
 use Rattle.tx_checked.specs.Errands.{same_errand}
-use Rattle.tx_checked.specs.Members.{config_of, known_to}
+use Rattle.tx_checked.specs.CheckedCallers.{config_of, known_to}
 
 -- this first, and then that
 abbrev pub or_else : Option Misuse → Option Misuse → Option Misuse
 or_else None o = o
 or_else (Some e) o = Some e
 
-abbrev pub outside_at : Stand → Option Misuse
+abbrev pub outside_at : CallerPhase → Option Misuse
 outside_at Idle = None
 outside_at Running = Some wrong.InAttempt
 outside_at Beside = Some wrong.InAttempt
@@ -27,28 +27,28 @@ outside_at Committing = Some wrong.InAttempt
 outside_at (Closing errand) = Some wrong.Closing
 
 -- who has closed the gate for a call may make that call again
-abbrev pub errand_at : Errand → Stand → Option Misuse
+abbrev pub errand_at : Errand → CallerPhase → Option Misuse
 errand_at errand Idle = None
 errand_at errand Running = Some wrong.InAttempt
 errand_at errand Beside = Some wrong.InAttempt
 errand_at errand Committing = Some wrong.InAttempt
 errand_at errand (Closing other) = if same_errand errand other then None else Some wrong.Closing
 
-abbrev pub closing_at : Stand → Option Misuse
+abbrev pub closing_at : CallerPhase → Option Misuse
 closing_at Idle = Some wrong.NotClosing
 closing_at Running = Some wrong.InAttempt
 closing_at Beside = Some wrong.InAttempt
 closing_at Committing = Some wrong.InAttempt
 closing_at (Closing errand) = None
 
-abbrev pub inside_at : Stand → Option Misuse
+abbrev pub inside_at : CallerPhase → Option Misuse
 inside_at Idle = Some wrong.NoAttempt
 inside_at Running = None
 inside_at Beside = None
 inside_at Committing = None
 inside_at (Closing errand) = Some wrong.Closing
 
-abbrev pub running_at : Stand → Option Misuse
+abbrev pub running_at : CallerPhase → Option Misuse
 running_at Idle = Some wrong.NoAttempt
 running_at Running = None
 running_at Beside = None
@@ -56,7 +56,7 @@ running_at Committing = Some wrong.Committing
 running_at (Closing errand) = Some wrong.Closing
 
 -- words is how many there are, and fence what was out as the attempt began
-abbrev pub access_at : ℕ → ℕ → ℕ → Stand → Option Misuse
+abbrev pub access_at : ℕ → ℕ → ℕ → CallerPhase → Option Misuse
 access_at a words fence Idle = Some wrong.NoAttempt
 access_at a words fence Running = if ltb a words then None else Some wrong.Address
 access_at a words fence Beside = if ltb a words then (if fenced fence a then Some wrong.Fenced else None) else Some wrong.Address
@@ -64,27 +64,27 @@ access_at a words fence Committing = Some wrong.Committing
 access_at a words fence (Closing errand) = Some wrong.Closing
 
 -- of a call for a caller in no attempt that hasn't closed the gate; for one in an attempt; for one in an attempt that isn't in the middle of its commit; and of a read or a write of a
-abbrev pub outside : Member → Option Misuse
-outside m = outside_at m.stand
+abbrev pub outside : CheckedCaller → Option Misuse
+outside m = outside_at m.phase
 
 -- of a call that must be alone with the memory; and of the one that gives such a call up
-abbrev pub doing : Errand → Member → Option Misuse
-doing errand m = errand_at errand m.stand
+abbrev pub doing : Errand → CheckedCaller → Option Misuse
+doing errand m = errand_at errand m.phase
 
-abbrev pub reopening : Member → Option Misuse
-reopening m = closing_at m.stand
+abbrev pub reopening : CheckedCaller → Option Misuse
+reopening m = closing_at m.phase
 
-abbrev pub inside : Member → Option Misuse
-inside m = inside_at m.stand
+abbrev pub inside : CheckedCaller → Option Misuse
+inside m = inside_at m.phase
 
-abbrev pub running : Member → Option Misuse
-running m = running_at m.stand
+abbrev pub running : CheckedCaller → Option Misuse
+running m = running_at m.phase
 
-abbrev pub access : ℕ → Member → Option Misuse
-access a m = access_at a (config_of m).words (known_to m).fence m.stand
+abbrev pub access : ℕ → CheckedCaller → Option Misuse
+access a m = access_at a (config_of m).words (known_to m).fence m.phase
 
 -- of a call at mark d
-abbrev pub at_mark : ℕ → Member → Option Misuse
+abbrev pub at_mark : ℕ → CheckedCaller → Option Misuse
 at_mark d m = or_else (running m) (if nat_le 1 d then (if nat_le d (live_marks (known_to m)) then None else Some wrong.Depth) else Some wrong.Depth)
 
 -- of a call that takes `count` words from `from`
@@ -98,10 +98,10 @@ holds_at (Some r) = Some wrong.HoldsRange
 abbrev pub reaches : ℕ → ℕ → ℕ → Option Misuse
 reaches from count words = if nat_le 1 count then (if nat_le (from + count) words then None else Some wrong.Address) else Some wrong.Address
 
-abbrev pub taking_for : Errand → ℕ → ℕ → Member → Option Misuse
+abbrev pub taking_for : Errand → ℕ → ℕ → CheckedCaller → Option Misuse
 taking_for errand from count m = or_else (doing errand m) (or_else (takes_at (config_of m).fence) (or_else (holds_at m.range) (reaches from count (config_of m).words)))
 
-abbrev pub taking : ℕ → ℕ → Member → Option Misuse
+abbrev pub taking : ℕ → ℕ → CheckedCaller → Option Misuse
 taking from count m = taking_for (Take from count) from count m
 
 -- of one that gives a range back, and of one that asks for a there
@@ -113,17 +113,17 @@ abbrev pub has_at : ℕ → Option Range → Option Misuse
 has_at a None = Some wrong.NoRange
 has_at a (Some r) = if is_within r.from r.count a then None else Some wrong.NoRange
 
-abbrev pub giving : Member → Option Misuse
+abbrev pub giving : CheckedCaller → Option Misuse
 giving m = or_else (doing Give m) (gives_at m.range)
 
-abbrev pub in_range : ℕ → Member → Option Misuse
+abbrev pub in_range : ℕ → CheckedCaller → Option Misuse
 in_range a m = or_else (outside m) (has_at a m.range)
 
 -- of one that hands out all words, with so much room
 abbrev pub room_at : ℕ → ℕ → Option Misuse
 room_at room words = if nat_le words room then None else Some wrong.Room
 
-abbrev pub ending : ℕ → Member → Option Misuse
+abbrev pub ending : ℕ → CheckedCaller → Option Misuse
 ending room m = or_else (taking_for End 0 (config_of m).words m) (room_at room (config_of m).words)
 
 -- of one that makes logs longer
@@ -133,5 +133,5 @@ is_length n = nat_le 1 n && nat_le n 4096
 abbrev pub lengths : ℕ → ℕ → Option Misuse
 lengths reads writes = if is_length reads && is_length writes then None else Some wrong.Logs
 
-abbrev pub reserving : ℕ → ℕ → Member → Option Misuse
+abbrev pub reserving : ℕ → ℕ → CheckedCaller → Option Misuse
 reserving reads writes m = or_else (outside m) (lengths reads writes)

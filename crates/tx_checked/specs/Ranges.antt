@@ -9,26 +9,26 @@ use Rattle.tx_answers.specs.Answers.{entry}
 use Rattle.tx_answers.specs.declared.answers.Give.{Give}
 use Rattle.tx_answers.specs.declared.answers.Give.TheVariants as gives
 use Rattle.tx_answers.specs.Fences.{ReadsDirect, WritesDirect, is_within}
-use Rattle.tx_answers.specs.Known.{Known, Grows, no_log, zeros}
+use Rattle.tx_answers.specs.CallerState.{CallerState, Grows, no_log, zeros}
 use Rattle.tx_checked.specs.Alone.{IsHeldUp, IsTakeRefused, FindsFullAt}
 use Rattle.tx_checked.specs.Counting.{after_refusal}
 use Rattle.tx_checked.specs.declared.errand.Errand.TheVariants as errands
-use Rattle.tx_checked.specs.declared.member.Member.{Member}
-use Rattle.tx_checked.specs.declared.member.Range.{Range}
+use Rattle.tx_checked.specs.declared.checked_caller.CheckedCaller.{CheckedCaller}
+use Rattle.tx_checked.specs.declared.checked_caller.Range.{Range}
 use Rattle.tx_checked.specs.declared.refusal.Refusal.{Refusal}
 use Rattle.tx_checked.specs.declared.refusal.Refusal.TheVariants as refusals
-use Rattle.tx_checked.specs.declared.stand.Stand.{Stand}
-use Rattle.tx_checked.specs.declared.stand.Stand.TheVariants.{Idle}
-use Rattle.tx_checked.specs.Errands.{is_closing, stand_after}
-use Rattle.tx_checked.specs.Members.{config_of, known_to, number_of}
-use Rattle.tx_checked.specs.Stands.{Any}
+use Rattle.tx_checked.specs.declared.phase.CallerPhase.{CallerPhase}
+use Rattle.tx_checked.specs.declared.phase.CallerPhase.TheVariants.{Idle}
+use Rattle.tx_checked.specs.Errands.{is_closing, phase_after}
+use Rattle.tx_checked.specs.CheckedCallers.{config_of, known_to, number_of}
+use Rattle.tx_checked.specs.Phases.{Any}
 
 -- it knows all that it knew, but of its range
-abbrev pub GrowsBeside : Known → Known → Type 0
+abbrev pub GrowsBeside : CallerState → CallerState → Type 0
 GrowsBeside v w = Grows v (record w { fenced = v.fenced })
 
 -- the words are the caller's alone. What had been committed then, of which it had seen a part, is a legal history.
-pub record TakesOut (c : Config) (from count : ℕ) (v w : Known) : Type 0 where
+pub record TakesOut (c : Config) (from count : ℕ) (v w : CallerState) : Type 0 where
   pub held : w.fenced.held ≡ true
   pub words : (a : ℕ) → fenced w.fenced.number a ≡ is_within from count a
   pub log : w.fenced.log ≡ no_log
@@ -38,7 +38,7 @@ pub record TakesOut (c : Config) (from count : ℕ) (v w : Known) : Type 0 where
   pub front : v.front ≤ w.fenced.front
 
 -- the direct reads and writes are one entry of a legal history, later than all that the caller had seen
-pub record GivesAt (c : Config) (n time : ℕ) (v w : Known) : Type 0 where
+pub record GivesAt (c : Config) (n time : ℕ) (v w : CallerState) : Type 0 where
   pub made : w.made ≡ v.made ++ entry time n (length v.made) v.fenced.log ∷ []
   pub before : List Entry
   pub legal : IsLegal Any (zeros c.words) c.clock (before ++ entry time n (length v.made) v.fenced.log ∷ [])
@@ -48,25 +48,25 @@ pub record GivesAt (c : Config) (n time : ℕ) (v w : Known) : Type 0 where
   pub front : time ≤ w.front
 
 -- a full clock leaves the range to the caller
-abbrev pub GivesBack : Config → ℕ → Give → Known → Known → Type 0
+abbrev pub GivesBack : Config → ℕ → Give → CallerState → CallerState → Type 0
 GivesBack c n (gives.Committed time) v w = GivesAt c n time v w
 GivesBack c n gives.Unchanged v w = (w.made ≡ v.made) × (is_empty v.fenced.log.writes ≡ true)
 GivesBack c n (gives.ClockFull clock) v w = (w.made ≡ v.made) × (w.fenced ≡ v.fenced) × (CLOCK_LIMIT ≤ clock)
 
 -- nothing was taken, given or installed, for what is written down, and it stands so
-pub record IsLeft (e : Refusal) (s : Stand) (m n : Member) : Type 0 where
+pub record IsLeft (e : Refusal) (s : CallerPhase) (m n : CheckedCaller) : Type 0 where
   pub grew : Grows (known_to m) (known_to n)
   pub made : (known_to n).made ≡ (known_to m).made
   pub rises : (known_to n).rises ≡ (known_to m).rises
   pub installs : (known_to n).installs ≡ (known_to m).installs
-  pub stand : n.stand ≡ s
+  pub phase : n.phase ≡ s
   pub range : n.range ≡ m.range
   pub refusal : n.refusal ≡ Some e
   pub counts : n.counts ≡ after_refusal e m.counts
 
-abbrev pub HasTaken : ℕ → ℕ → Member → Member → Result (Unit {0}) Refusal → Type 0
-HasTaken from count m n (Ok r) = TakesOut (config_of m) from count (known_to m) (known_to n) × GrowsBeside (known_to m) (known_to n) × ((known_to n).made ≡ (known_to m).made) × (n.stand ≡ Idle) × (n.range ≡ Some (record { from = from; count = count })) × (n.refusal ≡ m.refusal) × (n.counts ≡ m.counts)
-HasTaken from count m n (Err e) = IsLeft e (stand_after (errands.Take from count) e) m n × IsTakeRefused (config_of m) (number_of m) (is_closing m.stand) from count e (known_to m) (known_to n)
+abbrev pub HasTaken : ℕ → ℕ → CheckedCaller → CheckedCaller → Result (Unit {0}) Refusal → Type 0
+HasTaken from count m n (Ok r) = TakesOut (config_of m) from count (known_to m) (known_to n) × GrowsBeside (known_to m) (known_to n) × ((known_to n).made ≡ (known_to m).made) × (n.phase ≡ Idle) × (n.range ≡ Some (record { from = from; count = count })) × (n.refusal ≡ m.refusal) × (n.counts ≡ m.counts)
+HasTaken from count m n (Err e) = IsLeft e (phase_after (errands.Take from count) e) m n × IsTakeRefused (config_of m) (number_of m) (is_closing m.phase) from count e (known_to m) (known_to n)
 
 abbrev pub range_after : Give → Option Range → Option Range
 range_after (gives.Committed time) r = None
@@ -78,12 +78,12 @@ give_refusal (gives.Committed time) old = old
 give_refusal gives.Unchanged old = old
 give_refusal (gives.ClockFull clock) old = Some (refusals.ClockFull clock)
 
-abbrev pub HasGiven : Member → Member → Result Give Refusal → Type 0
-HasGiven m n (Ok r) = GivesBack (config_of m) (number_of m) r (known_to m) (known_to n) × FindsFullAt (config_of m) (number_of m) (is_closing m.stand) r (known_to m) (known_to n) × GrowsBeside (known_to m) (known_to n) × (n.stand ≡ Idle) × (n.range ≡ range_after r m.range) × (n.refusal ≡ give_refusal r m.refusal) × (n.counts ≡ m.counts)
-HasGiven m n (Err e) = IsLeft e (stand_after errands.Give e) m n × IsHeldUp (config_of m) (number_of m) (is_closing m.stand) e (known_to m) (known_to n)
+abbrev pub HasGiven : CheckedCaller → CheckedCaller → Result Give Refusal → Type 0
+HasGiven m n (Ok r) = GivesBack (config_of m) (number_of m) r (known_to m) (known_to n) × FindsFullAt (config_of m) (number_of m) (is_closing m.phase) r (known_to m) (known_to n) × GrowsBeside (known_to m) (known_to n) × (n.phase ≡ Idle) × (n.range ≡ range_after r m.range) × (n.refusal ≡ give_refusal r m.refusal) × (n.counts ≡ m.counts)
+HasGiven m n (Err e) = IsLeft e (phase_after errands.Give e) m n × IsHeldUp (config_of m) (number_of m) (is_closing m.phase) e (known_to m) (known_to n)
 
-abbrev pub HasReadDirect : ℕ → Member → Member → ℕ → Type 0
+abbrev pub HasReadDirect : ℕ → CheckedCaller → CheckedCaller → ℕ → Type 0
 HasReadDirect a m n x = ReadsDirect Any (config_of m) (number_of m) a x (known_to m) (known_to n) × (n.range ≡ m.range) × (n.refusal ≡ m.refusal) × (n.counts ≡ m.counts)
 
-abbrev pub HasWrittenDirect : ℕ → ℕ → Member → Member → Unit {0} → Type 0
+abbrev pub HasWrittenDirect : ℕ → ℕ → CheckedCaller → CheckedCaller → Unit {0} → Type 0
 HasWrittenDirect a x m n r = WritesDirect Any (config_of m) (number_of m) a x (known_to m) (known_to n) × (n.range ≡ m.range) × (n.refusal ≡ m.refusal) × (n.counts ≡ m.counts)

@@ -21,23 +21,23 @@ use Rattle.tx_answers.specs.declared.answers.Roll.{Roll}
 use Rattle.tx_answers.specs.declared.answers.Roll.TheVariants as rolls
 use Rattle.tx_answers.specs.declared.answers.Write.{Write}
 use Rattle.tx_answers.specs.declared.answers.Write.TheVariants as writes
-use Rattle.tx_answers.specs.Known.{Known, Grows}
+use Rattle.tx_answers.specs.CallerState.{CallerState, Grows}
 use Rattle.tx_checked.specs.Alone.{IsHeldUp}
 use Rattle.tx_checked.specs.Counting.{after_begin, after_read, after_write, after_commit, after_grant}
 use Rattle.tx_checked.specs.declared.errand.Errand.TheVariants.{Switch}
-use Rattle.tx_checked.specs.declared.member.Member.{Member}
+use Rattle.tx_checked.specs.declared.checked_caller.CheckedCaller.{CheckedCaller}
 use Rattle.tx_checked.specs.declared.misuse.Misuse.{Misuse}
 use Rattle.tx_checked.specs.declared.refusal.Refusal.{Refusal}
 use Rattle.tx_checked.specs.declared.refusal.Refusal.TheVariants as refusals
-use Rattle.tx_checked.specs.declared.stand.Stand.TheVariants.{Idle}
-use Rattle.tx_checked.specs.Errands.{is_closing, stand_after}
-use Rattle.tx_checked.specs.Members.{IsSameMember, config_of, known_to, number_of}
+use Rattle.tx_checked.specs.declared.phase.CallerPhase.TheVariants.{Idle}
+use Rattle.tx_checked.specs.Errands.{is_closing, phase_after}
+use Rattle.tx_checked.specs.CheckedCallers.{IsSameCheckedCaller, config_of, known_to, number_of}
 use Rattle.tx_checked.specs.Ranges.{IsLeft}
-use Rattle.tx_checked.specs.Stands.{Any}
+use Rattle.tx_checked.specs.Phases.{Any}
 
 -- a call that fits is made, of the same caller; one that doesn't is answered by what is wrong with it, and changes nothing
-abbrev pub Tells : {A : Type 0} → Option Misuse → (A → Type 0) → Member → Member → Result A Misuse → Type 0
-Tells wrong Told m n (Ok answer) = (wrong ≡ None) × IsSameMember m n × Told answer
+abbrev pub Tells : {A : Type 0} → Option Misuse → (A → Type 0) → CheckedCaller → CheckedCaller → Result A Misuse → Type 0
+Tells wrong Told m n (Ok answer) = (wrong ≡ None) × IsSameCheckedCaller m n × Told answer
 Tells wrong Told m n (Err e) = (wrong ≡ Some e) × (n ≡ m)
 
 -- what is written down of an answer: a refusal, in the place of the one before
@@ -76,7 +76,7 @@ grant_refusal (grants.Taken gate) old = Some (refusals.GateClosed gate)
 grant_refusal (grants.Conflict cause) old = Some (refusals.Conflict cause)
 grant_refusal (grants.ClockFull clock) old = Some (refusals.ClockFull clock)
 
-module _ (m n : Member) where
+module _ (m n : CheckedCaller) where
   abbrev pub HasBegun : Begin → Type 0
   HasBegun r = Begins Any (config_of m) (number_of m) r (known_to m) (known_to n) × (n.range ≡ m.range) × (n.refusal ≡ begin_refusal r m.refusal) × (n.counts ≡ after_begin r m.counts)
 
@@ -89,28 +89,28 @@ module _ (m n : Member) where
   abbrev pub IsIrrevocable : Irrev → Type 0
   IsIrrevocable r = Irrevs Any (config_of m) (number_of m) r (known_to m) (known_to n) × (n.range ≡ m.range) × (n.refusal ≡ grant_refusal r m.refusal) × (n.counts ≡ after_grant r m.counts)
 
-module _ (a : ℕ) (m n : Member) where
+module _ (a : ℕ) (m n : CheckedCaller) where
   abbrev pub HasReadWord : Read → Type 0
   HasReadWord r = HasRead Any (config_of m) (number_of m) a r (known_to m) (known_to n) × (n.range ≡ m.range) × (n.refusal ≡ read_refusal r m.refusal) × (n.counts ≡ after_read r m.counts)
 
-module _ (a x : ℕ) (m n : Member) where
+module _ (a x : ℕ) (m n : CheckedCaller) where
   abbrev pub HasWrittenWord : Write → Type 0
   HasWrittenWord r = HasWritten Any (config_of m) (number_of m) a x r (known_to m) (known_to n) × (n.range ≡ m.range) × (n.refusal ≡ write_refusal r m.refusal) × (n.counts ≡ after_write r m.counts)
 
 -- what a switch tells: it installed that algorithm, once, and committed nothing
-pub record Switches (alg : Alg) (v w : Known) : Type 0 where
+pub record Switches (alg : Alg) (v w : CallerState) : Type 0 where
   pub grew : Grows v w
   pub made : w.made ≡ v.made
   pub rises : (v.rises ≤ w.rises) × (w.rises ≤ v.rises + install_rise alg)
   pub installs : w.installs ≡ v.installs ++ alg ∷ []
 
-abbrev pub HasSwitched : Alg → Member → Member → Result (Unit {0}) Refusal → Type 0
-HasSwitched alg m n (Ok r) = Switches alg (known_to m) (known_to n) × (n.stand ≡ Idle) × (n.range ≡ m.range) × (n.refusal ≡ m.refusal) × (n.counts ≡ m.counts)
-HasSwitched alg m n (Err e) = IsLeft e (stand_after (Switch alg) e) m n × IsHeldUp (config_of m) (number_of m) (is_closing m.stand) e (known_to m) (known_to n)
+abbrev pub HasSwitched : Alg → CheckedCaller → CheckedCaller → Result (Unit {0}) Refusal → Type 0
+HasSwitched alg m n (Ok r) = Switches alg (known_to m) (known_to n) × (n.phase ≡ Idle) × (n.range ≡ m.range) × (n.refusal ≡ m.refusal) × (n.counts ≡ m.counts)
+HasSwitched alg m n (Err e) = IsLeft e (phase_after (Switch alg) e) m n × IsHeldUp (config_of m) (number_of m) (is_closing m.phase) e (known_to m) (known_to n)
 
 -- the gate is open again, and nothing else has changed
-abbrev pub HasReopened : Member → Member → Unit {0} → Type 0
-HasReopened m n r = Reopens Any (config_of m) (number_of m) (known_to m) (known_to n) × (n.stand ≡ Idle) × (n.range ≡ m.range) × (n.refusal ≡ m.refusal) × (n.counts ≡ m.counts)
+abbrev pub HasReopened : CheckedCaller → CheckedCaller → Unit {0} → Type 0
+HasReopened m n r = Reopens Any (config_of m) (number_of m) (known_to m) (known_to n) × (n.phase ≡ Idle) × (n.range ≡ m.range) × (n.refusal ≡ m.refusal) × (n.counts ≡ m.counts)
 
 abbrev pub mark_refusal : Check → Option Refusal → Option Refusal
 mark_refusal (checks.Marked depth) old = old
@@ -120,15 +120,15 @@ abbrev pub roll_refusal : Roll → Option Refusal → Option Refusal
 roll_refusal rolls.Rolled old = old
 roll_refusal rolls.Irrevocable old = Some refusals.Irrevocable
 
-abbrev pub HasMarked : Member → Member → Check → Type 0
+abbrev pub HasMarked : CheckedCaller → CheckedCaller → Check → Type 0
 HasMarked m n r = Checks r (known_to m) (known_to n) × (n.range ≡ m.range) × (n.refusal ≡ mark_refusal r m.refusal) × (n.counts ≡ m.counts)
 
-abbrev pub HasRolled : ℕ → Member → Member → Roll → Type 0
+abbrev pub HasRolled : ℕ → CheckedCaller → CheckedCaller → Roll → Type 0
 HasRolled d m n r = Rolls Any (config_of m) (number_of m) d r (known_to m) (known_to n) × (n.range ≡ m.range) × (n.refusal ≡ roll_refusal r m.refusal) × (n.counts ≡ m.counts)
 
-abbrev pub HasDropped : ℕ → Member → Member → Unit {0} → Type 0
+abbrev pub HasDropped : ℕ → CheckedCaller → CheckedCaller → Unit {0} → Type 0
 HasDropped d m n r = Releases d (known_to m) (known_to n) × (n.range ≡ m.range) × (n.refusal ≡ m.refusal) × (n.counts ≡ m.counts)
 
-abbrev pub HasReserved : ℕ → ℕ → Member → Member → Result (Unit {0}) Memory → Type 0
+abbrev pub HasReserved : ℕ → ℕ → CheckedCaller → CheckedCaller → Result (Unit {0}) Memory → Type 0
 HasReserved reads writes m n (Ok r) = Reserves reads writes (known_to m) (known_to n) × (n.range ≡ m.range) × (n.refusal ≡ m.refusal) × (n.counts ≡ m.counts)
 HasReserved reads writes m n (Err e) = n ≡ m

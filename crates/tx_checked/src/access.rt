@@ -3,14 +3,14 @@ ghost use Rattle.std.specs.Prelude.{◌≡◌};
 ghost use Rattle.tx_checked.specs.Misuses.{access};
 ghost use Rattle.tx_checked.specs.Tells.{Tells, HasReadWord, HasWrittenWord};
 
-use crate::member::Member;
+use crate::checked_caller::CheckedCaller;
 use crate::misuse::Misuse;
+use crate::phase::CallerPhase;
 use crate::refusal::Refusal;
-use crate::stand::Stand;
 use stm_tx::calls;
 use tx_answers::answers::{Read, Write};
 
-impl Member {
+impl CheckedCaller {
     /// Reads the word at `a`, as `stm_tx::calls::read` does.
     #[inline(always)]
     pub fn read(&mut self, a: usize) -> Result<Read, Misuse>
@@ -20,14 +20,14 @@ impl Member {
         match calls::read(&mut self.desc, &self.stm, a) {
             Read::Value(word) => Ok(Read::Value(word)),
             Read::Conflict(cause) => {
-                self.stand = Stand::Idle;
+                self.phase = CallerPhase::Idle;
                 self.reach = 0;
                 self.refusal = Some(Refusal::Conflict(cause));
                 self.counts.refuse(Refusal::Conflict(cause));
                 Ok(Read::Conflict(cause))
             }
             Read::Full { limit } => {
-                self.stand = Stand::Idle;
+                self.phase = CallerPhase::Idle;
                 self.reach = 0;
                 self.refusal = Some(Refusal::LogFull { limit });
                 self.counts.refuse(Refusal::LogFull { limit });
@@ -45,21 +45,21 @@ impl Member {
         match calls::write(&mut self.desc, &self.stm, a, x) {
             Write::Done => Ok(Write::Done),
             Write::Conflict(cause) => {
-                self.stand = Stand::Idle;
+                self.phase = CallerPhase::Idle;
                 self.reach = 0;
                 self.refusal = Some(Refusal::Conflict(cause));
                 self.counts.refuse(Refusal::Conflict(cause));
                 Ok(Write::Conflict(cause))
             }
             Write::Full { limit } => {
-                self.stand = Stand::Idle;
+                self.phase = CallerPhase::Idle;
                 self.reach = 0;
                 self.refusal = Some(Refusal::LogFull { limit });
                 self.counts.refuse(Refusal::LogFull { limit });
                 Ok(Write::Full { limit })
             }
             Write::ClockFull { clock } => {
-                self.stand = Stand::Idle;
+                self.phase = CallerPhase::Idle;
                 self.reach = 0;
                 self.refusal = Some(Refusal::ClockFull { clock });
                 Ok(Write::ClockFull { clock })

@@ -5,9 +5,9 @@ ghost use Rattle.std.specs.Prelude.{◌≡◌, true, false, OnOk, IfErr};
 ghost use Rattle.stm_rule.specs.Callers.{IsOf, IsSameCaller};
 ghost use Rattle.stm_tx.specs.Descs.{known, number};
 ghost use Rattle.tx_answers.specs.Answers.{HoldsClosed, SeesQuiet};
-ghost use Rattle.tx_answers.specs.Known.{Grows, IsIdle};
+ghost use Rattle.tx_answers.specs.CallerState.{Grows, IsIdle};
 ghost use Rattle.tx_checked.specs.Alone.{HasClosedBy, IsAlone, IsHeldUp};
-ghost use Rattle.tx_checked.specs.Stands.{Any};
+ghost use Rattle.tx_checked.specs.Phases.{Any};
 
 use crate::refusal::Refusal;
 use stm_model::rule::AnyMem;

@@ -1,11 +1,11 @@
 //! What a caller with its memory is asked, and how its logs are made longer.
 ghost use Rattle.std.specs.Prelude.{◌≡◌, ◌&&◌};
-ghost use Rattle.tx_answers.specs.Known.{is_irrevocable, state_of};
-ghost use Rattle.tx_checked.specs.Members.{is_beside, known_to};
+ghost use Rattle.tx_answers.specs.CallerState.{is_irrevocable, state_of};
+ghost use Rattle.tx_checked.specs.CheckedCallers.{is_beside, known_to};
 ghost use Rattle.tx_checked.specs.Misuses.{reserving};
 ghost use Rattle.tx_checked.specs.Tells.{Tells, HasReserved};
 
-use crate::member::Member;
+use crate::checked_caller::CheckedCaller;
 use crate::misuse::Misuse;
 use std::alloc::Global;
 use stm_model::config::MAX_LOG;
@@ -14,7 +14,7 @@ use stm_tx::calls;
 use stm_tx::fencing::fence_seen;
 use tx_answers::answers::TxState;
 
-impl Member {
+impl CheckedCaller {
     /// Where it stands, and under which algorithm.
     pub fn state(&self) -> TxState
         ensures { result ≡ state_of (known_to self.now) }

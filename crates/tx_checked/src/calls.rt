@@ -3,19 +3,19 @@ ghost use Rattle.std.specs.Prelude.{◌≡◌, true, false, OnOk, OnErr, IfErr};
 ghost use Rattle.stm_rule.specs.Callers.{IsOf, IsSameCaller};
 ghost use Rattle.stm_tx.specs.Descs.{known, number};
 ghost use Rattle.tx_answers.specs.Answers.{HoldsClosed};
-ghost use Rattle.tx_answers.specs.Known.{Grows, IsIdle, IsRunning};
+ghost use Rattle.tx_answers.specs.CallerState.{Grows, IsIdle, IsRunning};
 ghost use Rattle.tx_checked.specs.Alone.{IsHeldUp};
 ghost use Rattle.tx_checked.specs.declared.errand.Errand.TheVariants.{Switch};
-ghost use Rattle.tx_checked.specs.Stands.{StandsAs};
+ghost use Rattle.tx_checked.specs.Phases.{IsInPhase};
 ghost use Rattle.tx_checked.specs.Misuses.{outside, doing, reopening, inside, running};
 ghost use Rattle.tx_checked.specs.Tells.{Tells, HasBegun, HasCommitted, HasCancelled, IsIrrevocable, Switches, HasSwitched, HasReopened};
 
 use crate::alone::close_alone;
+use crate::checked_caller::CheckedCaller;
 use crate::errand::Errand;
-use crate::member::Member;
 use crate::misuse::Misuse;
+use crate::phase::CallerPhase;
 use crate::refusal::Refusal;
-use crate::stand::Stand;
 use stm_model::alg::Alg;
 use stm_model::rule::AnyMem;
 use stm_rule::desc::Desc;
@@ -26,17 +26,17 @@ use stm_tx::gate::{install, reopen};
 use tx_answers::answers::{Begin, Cancel, Commit, Irrev};
 
 /// Where a caller stands whose attempt has begun.
-fn stand_of(desc: &Desc<AnyMem>) -> Stand
+fn phase_of(desc: &Desc<AnyMem>) -> CallerPhase
     requires runs { IsRunning (known desc.now) }
-    ensures { StandsAs result (known desc.now) }
+    ensures { IsInPhase result (known desc.now) }
 {
     match fence_seen(desc) {
-        None => Stand::Running,
-        Some(_) => Stand::Beside,
+        None => CallerPhase::Running,
+        Some(_) => CallerPhase::Beside,
     }
 }
 
-impl Member {
+impl CheckedCaller {
     /// Tries to begin an attempt, as `stm_tx::calls::try_begin` does.
     pub fn begin(&mut self) -> Result<Begin, Misuse>
         ensures { Tells (outside self.old) (HasBegun self.old self.new) self.old self.new result }
@@ -44,8 +44,8 @@ impl Member {
         self.is_outside()?;
         match calls::try_begin(&mut self.desc, &self.stm) {
             Begin::Begun(alg) => {
-                self.stand = stand_of(&self.desc);
-                self.reach = self.stand.reach(self.stm.config.words);
+                self.phase = phase_of(&self.desc);
+                self.reach = self.phase.reach(self.stm.config.words);
                 self.counts.begun = self.counts.begun.wrapping_add(1);
                 Ok(Begin::Begun(alg))
             }
@@ -73,33 +73,33 @@ impl Member {
         self.is_inside()?;
         match calls::commit(&mut self.desc, &self.stm) {
             Commit::Committed { time } => {
-                self.stand = Stand::Idle;
+                self.phase = CallerPhase::Idle;
                 self.reach = 0;
                 self.counts.committed = self.counts.committed.wrapping_add(1);
                 Ok(Commit::Committed { time })
             }
             Commit::ReadOnly { time } => {
-                self.stand = Stand::Idle;
+                self.phase = CallerPhase::Idle;
                 self.reach = 0;
                 self.counts.read_only = self.counts.read_only.wrapping_add(1);
                 Ok(Commit::ReadOnly { time })
             }
             Commit::Conflict(cause) => {
-                self.stand = Stand::Idle;
+                self.phase = CallerPhase::Idle;
                 self.reach = 0;
                 self.refusal = Some(Refusal::Conflict(cause));
                 self.counts.refuse(Refusal::Conflict(cause));
                 Ok(Commit::Conflict(cause))
             }
             Commit::Again { word, had, now } => {
-                self.stand = Stand::Committing;
+                self.phase = CallerPhase::Committing;
                 self.reach = 0;
                 self.refusal = Some(Refusal::Again { word, had, now });
                 self.counts.refuse(Refusal::Again { word, had, now });
                 Ok(Commit::Again { word, had, now })
             }
             Commit::ClockFull { clock } => {
-                self.stand = Stand::Idle;
+                self.phase = CallerPhase::Idle;
                 self.reach = 0;
                 self.refusal = Some(Refusal::ClockFull { clock });
                 Ok(Commit::ClockFull { clock })
@@ -114,7 +114,7 @@ impl Member {
         self.is_inside()?;
         match calls::cancel(&mut self.desc, &self.stm) {
             Cancel::Cancelled { time } => {
-                self.stand = Stand::Idle;
+                self.phase = CallerPhase::Idle;
                 self.reach = 0;
                 Ok(Cancel::Cancelled { time })
             }
@@ -126,7 +126,7 @@ impl Member {
     }
 
     /// Tries to make the attempt irrevocable, as `stm_tx::calls::try_irrevocable` does.
-    pub fn become_irrevocable(&mut self) -> Result<Irrev, Misuse>
+    pub fn try_irrevocable(&mut self) -> Result<Irrev, Misuse>
         ensures { Tells (running self.old) (IsIrrevocable self.old self.new) self.old self.new result }
     {
         self.is_running()?;
@@ -146,14 +146,14 @@ impl Member {
                 Ok(Irrev::Taken { gate })
             }
             Irrev::Conflict(cause) => {
-                self.stand = Stand::Idle;
+                self.phase = CallerPhase::Idle;
                 self.reach = 0;
                 self.refusal = Some(Refusal::Conflict(cause));
                 self.counts.refuse(Refusal::Conflict(cause));
                 Ok(Irrev::Conflict(cause))
             }
             Irrev::ClockFull { clock } => {
-                self.stand = Stand::Idle;
+                self.phase = CallerPhase::Idle;
                 self.reach = 0;
                 self.refusal = Some(Refusal::ClockFull { clock });
                 Ok(Irrev::ClockFull { clock })
@@ -169,12 +169,12 @@ impl Member {
         let closing = self.may_do(Errand::Switch(alg))?;
         match install_alone(&mut self.desc, &self.stm, closing, alg) {
             Ok(()) => {
-                self.stand = Stand::Idle;
+                self.phase = CallerPhase::Idle;
                 self.reach = 0;
                 Ok(Ok(()))
             }
             Err(refusal) => {
-                self.stand = Errand::Switch(alg).stand_after(refusal);
+                self.phase = Errand::Switch(alg).phase_after(refusal);
                 self.reach = 0;
                 self.refusal = Some(refusal);
                 self.counts.refuse(refusal);
@@ -189,7 +189,7 @@ impl Member {
     {
         self.is_closing()?;
         reopen(&mut self.desc, &self.stm);
-        self.stand = Stand::Idle;
+        self.phase = CallerPhase::Idle;
         self.reach = 0;
         Ok(())
     }

@@ -5,20 +5,20 @@ ghost use Rattle.stm_model.specs.Histories.{memory_after};
 ghost use Rattle.stm_rule.specs.Callers.{IsOf, IsSameCaller};
 ghost use Rattle.stm_tx.specs.Descs.{known};
 ghost use Rattle.tx_answers.specs.Answers.{HoldsClosed};
-ghost use Rattle.tx_answers.specs.Known.{IsIdle, zeros};
+ghost use Rattle.tx_answers.specs.CallerState.{IsIdle, zeros};
 ghost use Rattle.tx_checked.specs.Endings.{HasEnded};
 ghost use Rattle.tx_checked.specs.Errands.{is_closing};
-ghost use Rattle.tx_checked.specs.Members.{config_of, known_to};
+ghost use Rattle.tx_checked.specs.CheckedCallers.{config_of, known_to};
 ghost use Rattle.tx_checked.specs.Misuses.{ending};
 ghost use Rattle.tx_checked.specs.Ranges.{GrowsBeside};
 ghost use Rattle.tx_checked.specs.Tells.{Tells};
 
+use crate::checked_caller::CheckedCaller;
 use crate::errand::Errand;
-use crate::member::Member;
 use crate::misuse::Misuse;
+use crate::phase::CallerPhase;
 use crate::ranges::take_out;
 use crate::refusal::Refusal;
-use crate::stand::Stand;
 use stm_model::rule::AnyMem;
 use stm_rule::desc::Desc;
 use stm_rule::stm::Stm;
@@ -46,7 +46,7 @@ fn copy_out(desc: &mut Desc<AnyMem>, stm: &Stm<AnyMem>, words: &mut [u64])
     }
 }
 
-impl Member {
+impl CheckedCaller {
     /// Takes all words out of the transactions for good, once no other caller is in an attempt and where no range is out,
     /// and hands them out: they are the memory after all that was committed. No attempt reads or writes a word from then
     /// on. `Busy` leaves the gate closed: the call goes on from there, and `reopen` gives it up.
@@ -58,13 +58,13 @@ impl Member {
         let count = self.stm.config.words;
         match take_out(&mut self.desc, &self.stm, closing, 0, count) {
             Ok(()) => {
-                self.stand = Stand::Idle;
+                self.phase = CallerPhase::Idle;
                 self.reach = 0;
                 copy_out(&mut self.desc, &self.stm, words);
                 Ok(Ok(()))
             }
             Err(refusal) => {
-                self.stand = Errand::End.stand_after(refusal);
+                self.phase = Errand::End.phase_after(refusal);
                 self.reach = 0;
                 self.refusal = Some(refusal);
                 self.counts.refuse(refusal);
@@ -77,7 +77,7 @@ impl Member {
     fn may_end(&self, room: usize) -> Result<bool, Misuse>
         ensures idle { IfOk result (λ closing. closing ≡ false → IsIdle (known_to self.now)) }
         ensures closed { IfOk result (λ closing. closing ≡ true → HoldsClosed (known_to self.now)) }
-        ensures is { IfOk result (λ closing. closing ≡ is_closing self.now.stand) }
+        ensures is { IfOk result (λ closing. closing ≡ is_closing self.now.phase) }
         ensures takes { OnOk result ((config_of self.now).fence ≡ true) }
         ensures none { OnOk result (self.now.range ≡ None) }
         ensures some { OnOk result (1 ≤ (config_of self.now).words) }

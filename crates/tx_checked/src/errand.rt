@@ -1,9 +1,9 @@
 //! What a caller closes the gate for.
 ghost use Rattle.std.specs.Prelude.{◌≡◌};
-ghost use Rattle.tx_checked.specs.Errands.{same_errand, stand_after};
+ghost use Rattle.tx_checked.specs.Errands.{same_errand, phase_after};
 
+use crate::phase::CallerPhase;
 use crate::refusal::Refusal;
-use crate::stand::Stand;
 use stm_model::alg::Alg;
 
 /// A call that must be alone with the memory, with its arguments.
@@ -48,11 +48,11 @@ impl Errand {
     }
 
     /// Where a caller stands whose call was refused so: at Busy it keeps the gate.
-    pub(crate) fn stand_after(self, refusal: Refusal) -> Stand
-        ensures { result ≡ stand_after self refusal }
+    pub(crate) fn phase_after(self, refusal: Refusal) -> CallerPhase
+        ensures { result ≡ phase_after self refusal }
     {
         match refusal {
-            Refusal::Busy { .. } => Stand::Closing(self),
+            Refusal::Busy { .. } => CallerPhase::Closing(self),
             Refusal::Conflict(_)
             | Refusal::GateClosed { .. }
             | Refusal::Held { .. }
@@ -61,7 +61,7 @@ impl Errand {
             | Refusal::ClockFull { .. }
             | Refusal::Irrevocable
             | Refusal::Deep { .. }
-            | Refusal::RangeTaken { .. } => Stand::Idle,
+            | Refusal::RangeTaken { .. } => CallerPhase::Idle,
         }
     }
 }

@@ -1,22 +1,22 @@
 //! Closed nesting by marks, for a caller with its memory.
 ghost use Rattle.std.specs.Prelude.{◌≡◌, ◌≤◌, None, Some, OnOk, IfErr};
 ghost use Rattle.stm_tx.specs.Nesting.{live_marks};
-ghost use Rattle.tx_answers.specs.Known.{IsRunning};
-ghost use Rattle.tx_checked.specs.Members.{known_to};
+ghost use Rattle.tx_answers.specs.CallerState.{IsRunning};
+ghost use Rattle.tx_checked.specs.CheckedCallers.{known_to};
 ghost use Rattle.tx_checked.specs.Misuses.{running, at_mark};
 ghost use Rattle.tx_checked.specs.Tells.{Tells, HasMarked, HasRolled, HasDropped};
 
-use crate::member::Member;
+use crate::checked_caller::CheckedCaller;
 use crate::misuse::Misuse;
 use crate::refusal::Refusal;
 use stm_tx::nesting;
 use tx_answers::answers::{Check, Roll};
 
-impl Member {
+impl CheckedCaller {
     /// Whether it is in an attempt at which mark `depth` stands.
     fn is_at_mark(&self, depth: usize) -> Result<(), Misuse>
         ensures ok { OnOk result (IsRunning (known_to self.now)) }
-        ensures stands { OnOk result ((1 ≤ depth) × (depth ≤ (known_to self.now).depth)) }
+        ensures in_phase { OnOk result ((1 ≤ depth) × (depth ≤ (known_to self.now).depth)) }
         ensures fits { OnOk result (at_mark depth self.now ≡ None) }
         ensures wrong { IfErr result (λ e. at_mark depth self.now ≡ Some e) }
     {

@@ -6,10 +6,10 @@ ghost use Rattle.stm_rule.specs.Refusals.{first_fault};
 ghost use Rattle.tx_atomic.specs.Callers.{IsReady};
 ghost use Rattle.tx_checked.specs.Ready.{AreFresh, AreNew, IsUnused, IsOpenError, IsOpenHindered, descs_in};
 
+use crate::checked_caller::CheckedCaller;
 use crate::counts::Counts;
-use crate::mail::Mail;
-use crate::member::Member;
-use crate::stand::Stand;
+use crate::note_exchange::NoteExchange;
+use crate::phase::CallerPhase;
 use std::alloc::Global;
 use std::sync::Arc;
 use stm_model::alg::Alg;
@@ -37,9 +37,9 @@ pub enum OpenError {
 ///
 /// # Errors
 /// Those of `Stm::new`. `Busy` where another caller was in the way of the install.
-pub fn open(alloc: Global, config: Config, alg: Alg) -> Result<Vec<Member>, OpenError>
-    ensures count { IfOk result (λ members. length members.items ≡ config.callers) }
-    ensures new { IfOk result (λ members. AreNew config alg members.items) }
+pub fn open(alloc: Global, config: Config, alg: Alg) -> Result<Vec<CheckedCaller>, OpenError>
+    ensures count { IfOk result (λ checked_callers. length checked_callers.items ≡ config.callers) }
+    ensures new { IfOk result (λ checked_callers. AreNew config alg checked_callers.items) }
     ensures in_range { OnOk result (first_fault config ≡ None) }
     ensures refused { IfErr result (IsOpenError config) }
 {
@@ -51,17 +51,17 @@ pub fn open(alloc: Global, config: Config, alg: Alg) -> Result<Vec<Member>, Open
         Ok(()) => {}
         Err(hindrance) => return Err(OpenError::Busy(hindrance)),
     }
-    let Ok(mail) = Mail::new(alloc, &descs[0], descs.len()) else {
+    let Ok(note_exchange) = NoteExchange::new(alloc, &descs[0], descs.len()) else {
         return Err(OpenError::Memory);
     };
     let Ok(stm) = Arc::new(alloc, stm) else {
         return Err(OpenError::Memory);
     };
-    let Ok(mail) = Arc::new(alloc, mail) else {
+    let Ok(note_exchange) = Arc::new(alloc, note_exchange) else {
         return Err(OpenError::Memory);
     };
-    match enlist(alloc, &stm, &mail, descs) {
-        Ok(members) => Ok(members),
+    match enlist(alloc, &stm, &note_exchange, descs) {
+        Ok(checked_callers) => Ok(checked_callers),
         Err(Memory) => Err(OpenError::Memory),
     }
 }
@@ -81,36 +81,36 @@ fn install_first(
     switch_at_one_look(&mut descs[0], stm, alg)
 }
 
-/// A member for each descriptor, in their order.
+/// A caller for each descriptor, in their order.
 fn enlist(
     alloc: Global,
     stm: &Arc<Stm<AnyMem>, Global>,
-    mail: &Arc<Mail, Global>,
+    note_exchange: &Arc<NoteExchange, Global>,
     descs: Vec<Desc<AnyMem>>,
-) -> Result<Vec<Member>, Memory>
-    requires mail { IsOf (arc_value mail.now).table.shared.key (arc_value stm.now) }
+) -> Result<Vec<CheckedCaller>, Memory>
+    requires note_exchange { IsOf (arc_value note_exchange.now).table.shared.key (arc_value stm.now) }
     requires ready { All (IsReady (arc_value stm.now)) descs.items }
-    ensures descs { IfOk result (λ members. descs_in members.items ≡ descs.items) }
-    ensures unused { IfOk result (λ members. All (IsUnused (arc_value stm.now).config) members.items) }
+    ensures descs { IfOk result (λ checked_callers. descs_in checked_callers.items ≡ descs.items) }
+    ensures unused { IfOk result (λ checked_callers. All (IsUnused (arc_value stm.now).config) checked_callers.items) }
 {
-    let mut members = Vec::with_capacity(alloc, descs.len())?;
+    let mut checked_callers = Vec::with_capacity(alloc, descs.len())?;
     for desc in descs {
         let Ok(shared) = Arc::try_clone(stm) else {
             return Err(Memory);
         };
-        let Ok(mail) = Arc::try_clone(mail) else {
+        let Ok(note_exchange) = Arc::try_clone(note_exchange) else {
             return Err(Memory);
         };
-        members.push_reserved(Member {
+        checked_callers.push_reserved(CheckedCaller {
             stm: shared,
-            mail,
+            note_exchange,
             desc,
-            stand: Stand::Idle,
+            phase: CallerPhase::Idle,
             reach: 0,
             range: None,
             refusal: None,
             counts: Counts::none(),
         });
     }
-    Ok(members)
+    Ok(checked_callers)
 }

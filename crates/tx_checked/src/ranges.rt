@@ -6,20 +6,20 @@ ghost use Rattle.stm_rule.specs.Callers.{IsOf, IsSameCaller};
 ghost use Rattle.stm_tx.specs.Descs.{known, number};
 ghost use Rattle.tx_answers.specs.Answers.{HoldsClosed};
 ghost use Rattle.tx_answers.specs.Fences.{is_within};
-ghost use Rattle.tx_answers.specs.Known.{Grows, IsIdle};
+ghost use Rattle.tx_answers.specs.CallerState.{Grows, IsIdle};
 ghost use Rattle.tx_checked.specs.Alone.{IsHeldUp, IsTakeRefused, FindsFullAt};
 ghost use Rattle.tx_checked.specs.Errands.{is_closing};
-ghost use Rattle.tx_checked.specs.Members.{config_of, known_to};
+ghost use Rattle.tx_checked.specs.CheckedCallers.{config_of, known_to};
 ghost use Rattle.tx_checked.specs.Misuses.{taking, taking_for, giving, in_range};
 ghost use Rattle.tx_checked.specs.Ranges.{GrowsBeside, TakesOut, HasTaken, GivesBack, HasGiven, HasReadDirect, HasWrittenDirect};
 ghost use Rattle.tx_checked.specs.Tells.{Tells};
 
 use crate::alone::close_alone;
+use crate::checked_caller::{CheckedCaller, Range};
 use crate::errand::Errand;
-use crate::member::{Member, Range};
 use crate::misuse::Misuse;
+use crate::phase::CallerPhase;
 use crate::refusal::Refusal;
-use crate::stand::Stand;
 use stm_model::rule::AnyMem;
 use stm_rule::desc::Desc;
 use stm_rule::stm::Stm;
@@ -60,7 +60,7 @@ pub(crate) fn take_out(
     }
 }
 
-impl Member {
+impl CheckedCaller {
     /// Takes `count` words from `from` on out of the transactions, for this caller alone, once no other caller is in an
     /// attempt and where no range is out. `Busy` leaves the gate closed: the same call goes on from there, and `reopen`
     /// gives it up.
@@ -71,13 +71,13 @@ impl Member {
         let closing = self.may_take(errand, from, count)?;
         match take_out(&mut self.desc, &self.stm, closing, from, count) {
             Ok(()) => {
-                self.stand = Stand::Idle;
+                self.phase = CallerPhase::Idle;
                 self.reach = 0;
                 self.range = Some(Range { from, count });
                 Ok(Ok(()))
             }
             Err(refusal) => {
-                self.stand = errand.stand_after(refusal);
+                self.phase = errand.phase_after(refusal);
                 self.reach = 0;
                 self.refusal = Some(refusal);
                 self.counts.refuse(refusal);
@@ -90,7 +90,7 @@ impl Member {
     pub(crate) fn may_take(&self, errand: Errand, from: usize, count: usize) -> Result<bool, Misuse>
         ensures idle { IfOk result (λ closing. closing ≡ false → IsIdle (known_to self.now)) }
         ensures closed { IfOk result (λ closing. closing ≡ true → HoldsClosed (known_to self.now)) }
-        ensures is { IfOk result (λ closing. closing ≡ is_closing self.now.stand) }
+        ensures is { IfOk result (λ closing. closing ≡ is_closing self.now.phase) }
         ensures takes { OnOk result ((config_of self.now).fence ≡ true) }
         ensures none { OnOk result (self.now.range ≡ None) }
         ensures some { OnOk result (1 ≤ count) }
@@ -116,7 +116,7 @@ impl Member {
     fn may_give(&self) -> Result<bool, Misuse>
         ensures idle { IfOk result (λ closing. closing ≡ false → IsIdle (known_to self.now)) }
         ensures closed { IfOk result (λ closing. closing ≡ true → HoldsClosed (known_to self.now)) }
-        ensures is { IfOk result (λ closing. closing ≡ is_closing self.now.stand) }
+        ensures is { IfOk result (λ closing. closing ≡ is_closing self.now.phase) }
         ensures held { OnOk result ((known_to self.now).fenced.held ≡ true) }
         ensures fits { OnOk result (giving self.now ≡ None) }
         ensures wrong { IfErr result (λ e. giving self.now ≡ Some e) }
@@ -173,25 +173,25 @@ impl Member {
         let closing = self.may_give()?;
         match put_back(&mut self.desc, &self.stm, closing) {
             Ok(Give::Committed { time }) => {
-                self.stand = Stand::Idle;
+                self.phase = CallerPhase::Idle;
                 self.reach = 0;
                 self.range = None;
                 Ok(Ok(Give::Committed { time }))
             }
             Ok(Give::Unchanged) => {
-                self.stand = Stand::Idle;
+                self.phase = CallerPhase::Idle;
                 self.reach = 0;
                 self.range = None;
                 Ok(Ok(Give::Unchanged))
             }
             Ok(Give::ClockFull { clock }) => {
-                self.stand = Stand::Idle;
+                self.phase = CallerPhase::Idle;
                 self.reach = 0;
                 self.refusal = Some(Refusal::ClockFull { clock });
                 Ok(Ok(Give::ClockFull { clock }))
             }
             Err(refusal) => {
-                self.stand = Errand::Give.stand_after(refusal);
+                self.phase = Errand::Give.phase_after(refusal);
                 self.reach = 0;
                 self.refusal = Some(refusal);
                 self.counts.refuse(refusal);

@@ -3,30 +3,31 @@ ghost use Rattle.std.specs.Prelude.{◌≡◌, ◌≢◌, ◌<◌, None, Some, t
 ghost use Rattle.std.specs.Arc.{arc_value};
 ghost use Rattle.rule_base.specs.Encodings.{fenced};
 ghost use Rattle.tx_answers.specs.Answers.{HoldsClosed};
-ghost use Rattle.tx_answers.specs.Known.{IsIdle, IsRunning};
+ghost use Rattle.tx_answers.specs.CallerState.{IsIdle, IsRunning};
 ghost use Rattle.tx_checked.specs.Errands.{is_closing};
-ghost use Rattle.tx_checked.specs.Members.{known_to};
-ghost use Rattle.tx_checked.specs.declared.stand.Stand.TheVariants.{Idle};
+ghost use Rattle.tx_checked.specs.CheckedCallers.{known_to};
+ghost use Rattle.tx_checked.specs.declared.phase.CallerPhase.TheVariants.{Idle};
 ghost use Rattle.tx_checked.specs.Misuses.{outside, doing, reopening, inside, running, access};
 
+use crate::checked_caller::CheckedCaller;
 use crate::errand::Errand;
-use crate::member::Member;
 use crate::misuse::Misuse;
-use crate::stand::Stand;
+use crate::phase::CallerPhase;
 use stm_tx::fencing::spares;
 
-impl Member {
+impl CheckedCaller {
     /// Whether it is in no attempt.
     pub(crate) fn is_outside(&self) -> Result<(), Misuse>
         ensures ok { OnOk result (IsIdle (known_to self.now)) }
         ensures fits { OnOk result (outside self.now ≡ None) }
         ensures wrong { IfErr result (λ e. outside self.now ≡ Some e) }
     {
-        match self.stand {
-            Stand::Idle => Ok(()),
-            Stand::Running | Stand::Beside | Stand::Committing | Stand::Closing(_) => {
-                Err(self.not_outside())
-            }
+        match self.phase {
+            CallerPhase::Idle => Ok(()),
+            CallerPhase::Running
+            | CallerPhase::Beside
+            | CallerPhase::Committing
+            | CallerPhase::Closing(_) => { Err(self.not_outside()) }
         }
     }
 
@@ -34,12 +35,15 @@ impl Member {
     #[cold]
     #[inline(never)]
     fn not_outside(&self) -> Misuse
-        requires busy { self.now.stand ≢ Idle }
+        requires busy { self.now.phase ≢ Idle }
         ensures { outside self.now ≡ Some result }
     {
-        match self.stand {
-            Stand::Idle | Stand::Running | Stand::Beside | Stand::Committing => Misuse::InAttempt,
-            Stand::Closing(_) => Misuse::Closing,
+        match self.phase {
+            CallerPhase::Idle
+            | CallerPhase::Running
+            | CallerPhase::Beside
+            | CallerPhase::Committing => Misuse::InAttempt,
+            CallerPhase::Closing(_) => Misuse::Closing,
         }
     }
 
@@ -48,14 +52,16 @@ impl Member {
     pub(crate) fn may_do(&self, errand: Errand) -> Result<bool, Misuse>
         ensures idle { IfOk result (λ closing. closing ≡ false → IsIdle (known_to self.now)) }
         ensures closed { IfOk result (λ closing. closing ≡ true → HoldsClosed (known_to self.now)) }
-        ensures is { IfOk result (λ closing. closing ≡ is_closing self.now.stand) }
+        ensures is { IfOk result (λ closing. closing ≡ is_closing self.now.phase) }
         ensures fits { OnOk result (doing errand self.now ≡ None) }
         ensures wrong { IfErr result (λ e. doing errand self.now ≡ Some e) }
     {
-        match self.stand {
-            Stand::Idle => Ok(false),
-            Stand::Running | Stand::Beside | Stand::Committing => Err(Misuse::InAttempt),
-            Stand::Closing(other) => {
+        match self.phase {
+            CallerPhase::Idle => Ok(false),
+            CallerPhase::Running | CallerPhase::Beside | CallerPhase::Committing => Err(
+                Misuse::InAttempt,
+            ),
+            CallerPhase::Closing(other) => {
                 if errand.is_same(other) {
                     Ok(true)
                 } else {
@@ -71,10 +77,12 @@ impl Member {
         ensures fits { OnOk result (reopening self.now ≡ None) }
         ensures wrong { IfErr result (λ e. reopening self.now ≡ Some e) }
     {
-        match self.stand {
-            Stand::Idle => Err(Misuse::NotClosing),
-            Stand::Running | Stand::Beside | Stand::Committing => Err(Misuse::InAttempt),
-            Stand::Closing(_) => Ok(()),
+        match self.phase {
+            CallerPhase::Idle => Err(Misuse::NotClosing),
+            CallerPhase::Running | CallerPhase::Beside | CallerPhase::Committing => Err(
+                Misuse::InAttempt,
+            ),
+            CallerPhase::Closing(_) => Ok(()),
         }
     }
 
@@ -92,10 +100,10 @@ impl Member {
         ensures fits { OnOk result (inside self.now ≡ None) }
         ensures wrong { IfErr result (λ e. inside self.now ≡ Some e) }
     {
-        match self.stand {
-            Stand::Idle => Err(Misuse::NoAttempt),
-            Stand::Running | Stand::Beside | Stand::Committing => Ok(()),
-            Stand::Closing(_) => Err(Misuse::Closing),
+        match self.phase {
+            CallerPhase::Idle => Err(Misuse::NoAttempt),
+            CallerPhase::Running | CallerPhase::Beside | CallerPhase::Committing => Ok(()),
+            CallerPhase::Closing(_) => Err(Misuse::Closing),
         }
     }
 
@@ -105,11 +113,11 @@ impl Member {
         ensures fits { OnOk result (running self.now ≡ None) }
         ensures wrong { IfErr result (λ e. running self.now ≡ Some e) }
     {
-        match self.stand {
-            Stand::Idle => Err(Misuse::NoAttempt),
-            Stand::Running | Stand::Beside => Ok(()),
-            Stand::Committing => Err(Misuse::Committing),
-            Stand::Closing(_) => Err(Misuse::Closing),
+        match self.phase {
+            CallerPhase::Idle => Err(Misuse::NoAttempt),
+            CallerPhase::Running | CallerPhase::Beside => Ok(()),
+            CallerPhase::Committing => Err(Misuse::Committing),
+            CallerPhase::Closing(_) => Err(Misuse::Closing),
         }
     }
 
@@ -124,12 +132,12 @@ impl Member {
         if a < self.reach {
             return Ok(());
         }
-        match self.stand {
-            Stand::Idle => Err(Misuse::NoAttempt),
-            Stand::Committing => Err(Misuse::Committing),
-            Stand::Closing(_) => Err(Misuse::Closing),
-            Stand::Running => Err(Misuse::Address),
-            Stand::Beside => {
+        match self.phase {
+            CallerPhase::Idle => Err(Misuse::NoAttempt),
+            CallerPhase::Committing => Err(Misuse::Committing),
+            CallerPhase::Closing(_) => Err(Misuse::Closing),
+            CallerPhase::Running => Err(Misuse::Address),
+            CallerPhase::Beside => {
                 if a >= self.stm.config.words {
                     Err(Misuse::Address)
                 } else if spares(&self.desc, a) {

@@ -9,7 +9,7 @@ use Rattle.tx_logs.specs.declared.index.Homes.TheVariants.{Mixed}
 use Rattle.tx_logs.specs.declared.index.Lookup.{Lookup}
 use Rattle.tx_logs.specs.Buckets.{home_of, blank, bucket_at, address_of, AllTaken, IsIndex, IsLookup}
 use Rattle.tx_logs.specs.LogStates.{LogState}
-use Rattle.tx_logs.specs.Probing.{HasBuckets, Passes, IsPlace, behind_home}
+use Rattle.tx_logs.specs.Probing.{HasBuckets, Passes, IsPlace, after_home}
 use Rattle.tx_logs.proofs.ItemLemmas.{none-other, none-where}
 use Rattle.tx_logs.proofs.BucketLemmas.{here-is, home-below, wrapped-below, index-more}
 use Rattle.tx_logs.proofs.ProbingLaws as laws
@@ -21,7 +21,7 @@ none-some : (o : Option ℕ) (i : ℕ) → o ≡ None → o ≡ Some i → ⊥
 none-some None i e f = absurd cc
 none-some (Some j) i e f = absurd cc
 
-behind-below : (homes : Homes) (buckets a k : ℕ) → k < buckets → behind_home homes buckets a k < buckets
+behind-below : (homes : Homes) (buckets a k : ℕ) → k < buckets → after_home homes buckets a k < buckets
 behind-below homes buckets a k l = wrapped-below buckets (home_of homes buckets a + k) (let h : home_of homes buckets a < buckets = home-below homes buckets a (omega arith) in omega arith)
 
 -- a place by what contracts see of a log
@@ -33,15 +33,15 @@ agree : (homes : Homes) (buckets : ℕ) (items : List (ℕ × ℕ)) (o p : ℕ �
 agree homes buckets items o p h k zero i b l y ly e = absurd (omega arith)
 agree homes buckets items o p h k (suc n) i b l y ly e =
     let s = h.placed i l in let t = k.placed i l in
-    let here : y ≡ behind_home homes buckets (address_of items i) s.0 = h.single y _ i ly (behind-below homes buckets (address_of items i) s.0 s.1) e s.2 in
+    let here : y ≡ after_home homes buckets (address_of items i) s.0 = h.single y _ i ly (behind-below homes buckets (address_of items i) s.0 s.1) e s.2 in
     elim (cases_order s.0 t.0) [
       | inl same ↦ rw (here, same) t.2
       | inr other ↦ elim other [
         | inl before ↦ (let j = t.3 s.0 before in
-            let q : o (behind_home homes buckets (address_of items i) s.0) ≡ Some j.0 = agree homes buckets items p o k h n j.0 (let m = j.1 in omega arith) (let m = j.1 in omega arith) (behind_home homes buckets (address_of items i) s.0) (behind-below homes buckets (address_of items i) s.0 s.1) j.2 in
+            let q : o (after_home homes buckets (address_of items i) s.0) ≡ Some j.0 = agree homes buckets items p o k h n j.0 (let m = j.1 in omega arith) (let m = j.1 in omega arith) (after_home homes buckets (address_of items i) s.0) (behind-below homes buckets (address_of items i) s.0 s.1) j.2 in
             absurd (let m = j.1 in omega (arith, same-item _ i j.0 s.2 q)))
         | inr after ↦ (let j = s.3 t.0 after in
-            let q : p (behind_home homes buckets (address_of items i) t.0) ≡ Some j.0 = agree homes buckets items o p h k n j.0 (let m = j.1 in omega arith) (let m = j.1 in omega arith) (behind_home homes buckets (address_of items i) t.0) (behind-below homes buckets (address_of items i) t.0 t.1) j.2 in
+            let q : p (after_home homes buckets (address_of items i) t.0) ≡ Some j.0 = agree homes buckets items o p h k n j.0 (let m = j.1 in omega arith) (let m = j.1 in omega arith) (after_home homes buckets (address_of items i) t.0) (behind-below homes buckets (address_of items i) t.0 t.1) j.2 in
             absurd (let m = j.1 in omega (arith, same-item _ i j.0 t.2 q)))
       ]
     ]
@@ -71,7 +71,7 @@ module _ (g : ℕ) (items : List (ℕ × ℕ)) (bs : List Bucket) (a place : ℕ
       let i = (get_or bs place blank).item in
       let e : mine place ≡ Some i = laws.owns Mixed g items bs x (get_or bs place blank) m in
       let l : i < length items = (laws.has Mixed g items bs x).named place i place-below e in
-      let its : goes.owner (behind_home Mixed (length bs) a passed) ≡ Some i = rw (← is.1) (to-its i l place place-below e) in
+      let its : goes.owner (after_home Mixed (length bs) a passed) ≡ Some i = rw (← is.1) (to-its i l place place-below e) in
       (l, subst (λ (o : Option ℕ). MatchOption o (Unit {0}) (λ j. address_of items j ≡ a)) its goes.last)
 
   -- an open one tells that there is none
@@ -81,17 +81,17 @@ module _ (g : ℕ) (items : List (ℕ × ℕ)) (bs : List Bucket) (a place : ℕ
       none : mine place ≡ None
       none = laws.disowned Mixed g items bs x (get_or bs place blank) n
 
-      here : behind_home Mixed (length bs) a passed ≡ place
+      here : after_home Mixed (length bs) a passed ≡ place
       here = sym is.1
 
       absent : (i : ℕ) → i < length items → address_of items i ≢ a
       absent i l e =
-          let s = subst (λ (b : ℕ). (d : ℕ) × (d < length bs) × (mine (behind_home Mixed (length bs) b d) ≡ Some i) × ((k : ℕ) → k < d → (j : ℕ) × (j < i) × (mine (behind_home Mixed (length bs) b k) ≡ Some j))) e ((laws.has Mixed g items bs x).placed i l) in
+          let s = subst (λ (b : ℕ). (d : ℕ) × (d < length bs) × (mine (after_home Mixed (length bs) b d) ≡ Some i) × ((k : ℕ) → k < d → (j : ℕ) × (j < i) × (mine (after_home Mixed (length bs) b k) ≡ Some j))) e ((laws.has Mixed g items bs x).placed i l) in
           elim (cases_order s.0 passed) [
-            | inl same ↦ none-some (mine place) i none (subst (λ (z : ℕ). mine z ≡ Some i) here (subst (λ (k : ℕ). mine (behind_home Mixed (length bs) a k) ≡ Some i) same s.2))
+            | inl same ↦ none-some (mine place) i none (subst (λ (z : ℕ). mine z ≡ Some i) here (subst (λ (k : ℕ). mine (after_home Mixed (length bs) a k) ≡ Some i) same s.2))
             | inr other ↦ elim other [
               | inl before ↦ (let j = goes.others s.0 before in
-                  let f = to-mine j.0 j.1 (behind_home Mixed (length bs) a s.0) (behind-below Mixed (length bs) a s.0 s.1) j.2 in
+                  let f = to-mine j.0 j.1 (after_home Mixed (length bs) a s.0) (behind-below Mixed (length bs) a s.0 s.1) j.2 in
                   j.3 (ap (address_of items) (same-item _ j.0 i f s.2) ∙ e))
               | inr after ↦ (let j = s.3 passed after in none-some (mine place) j.0 none (subst (λ (z : ℕ). mine z ≡ Some j.0) here j.2))
             ]
@@ -104,7 +104,7 @@ module _ (g : ℕ) (items : List (ℕ × ℕ)) (bs : List Bucket) (a place : ℕ
       taken-before : AllTaken g bs (home_of Mixed (length bs) a) passed
       taken-before k l =
           let j = goes.others k l in
-          let f = to-mine j.0 j.1 (behind_home Mixed (length bs) a k) (behind-below Mixed (length bs) a k (let w = goes.within in omega arith)) j.2 in
+          let f = to-mine j.0 j.1 (after_home Mixed (length bs) a k) (behind-below Mixed (length bs) a k (let w = goes.within in omega arith)) j.2 in
           (laws.owned Mixed g items bs x (bucket_at bs (home_of Mixed (length bs) a + k)) j.0 f).0
 
       untaken : (bucket_at bs place).mark ≢ g

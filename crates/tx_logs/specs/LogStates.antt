@@ -35,7 +35,7 @@ Pushes old a items (Full limit) new = (item_at a old.items ≡ None) × (length 
 abbrev pub with_last : ℕ → List (ℕ × ℕ) → List (ℕ × ℕ)
 with_last v ws = set ws (length ws - 1) ((slice_index_or ws (length ws - 1) (0, 0)).0, v)
 
--- behind the last generation the first comes again
+-- after the last generation the first comes again
 abbrev pub next_generation : ℕ → ℕ
 next_generation g = if g == 4294967295 then 1 else g + 1
 

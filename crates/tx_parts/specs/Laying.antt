@@ -53,7 +53,7 @@ back_to l gave = record { reads = gave.reads; writes = l.writes }
 abbrev pub EitherTells : {T : Type 0} → (Option T → Log → Log → Type 0) → (Option T → Log → Log → Type 0) → Option T → Log → Log → Type 0
 EitherTells first second o l k = (IsSome o × first o l k) ⊎ ((gave : Log) × first None l gave × ReadsMore l gave × ReadsMore gave k × second o (back_to l gave) k)
 
--- the first part was done, and then the second from there; it gave way where the first did, or the second behind the first
+-- the first part was done, and then the second from there; it gave way where the first did, or the second after the first
 abbrev pub BothTell : {S T : Type 0} → (Option S → Log → Log → Type 0) → (Option T → Log → Log → Type 0) → Option (S × T) → Log → Log → Type 0
 BothTell {S} {T} first second None l k = first None l k ⊎ ((x : S) × (between : Log) × first (Some x) l between × ReadsMore l between × ReadsMore between k × second None between k)
 BothTell {S} {T} first second (Some r) l k = (between : Log) × first (Some r.0) l between × ReadsMore l between × ReadsMore between k × second (Some r.1) between k
@@ -64,7 +64,7 @@ IsFull len None = ⊥
 IsFull len (Some (Full limit)) = limit ≡ len
 IsFull len (Some stop) = ⊥
 
--- What came of a part that had room for so many words, from the log before to the log behind. Where it was done, this is told of a log with the same writes, and it keeps the rule where what was done before does; else it only read; where it gave way that is told; and it lacks room only where the memory has more words than that.
+-- What came of a part that had room for so many words, from the log before to the log after. Where it was done, this is told of a log with the same writes, and it keeps the rule where what was done before does; else it only read; where it gave way that is told; and it lacks room only where the memory has more words than that.
 abbrev pub Comes : {T : Type 0} → (List ℕ → Type 0) → ℕ → ℕ → (Option T → Log → Log → Type 0) → PartOutcome T → Log → Log → Type 0
 Comes good words len tells (Done r) l k = ((j : Log) × tells (Some r) l j × SameLog j k) × ReadsMore l k × (Under good words l good → Under good words k good)
 Comes good words len tells GaveWay l k = ((gave : Log) × tells None l gave × (k ≡ back_to l gave)) × OnlyReads l k
@@ -75,7 +75,7 @@ Comes good words len tells NoMemory l k = ⊥
 abbrev pub one_read : ℕ → ℕ → Log
 one_read a v = record { reads = (a, v) ∷ []; writes = [] }
 
--- what came of a part that is a whole transaction, with room for so many words, behind the read of this word; where memory was refused for its log, nothing else was done
+-- what came of a part that is a whole transaction, with room for so many words, after the read of this word; where memory was refused for its log, nothing else was done
 abbrev pub ComesFirst : {T : Type 0} → (List ℕ → Type 0) → ℕ → ℕ → ℕ → (Option T → Log → Log → Type 0) → PartOutcome T → Log → Type 0
 ComesFirst good words first room tells NoMemory k = (v : ℕ) × (k ≡ one_read first v)
 ComesFirst good words first room tells came k = (v : ℕ) × Comes good words room tells came (one_read first v) k

@@ -19,11 +19,11 @@ impl<K: MemRule, P: Part<K>, Q: Part<K, Output = P::Output>> Part<K> for OrElse<
 
     type Output = P::Output;
 
-    ghost fits = { λ it rule words. P.fits it.first rule words × Q.fits it.second rule words };
+    ghost precondition = { λ it rule words. P.precondition it.first rule words × Q.precondition it.second rule words };
 
     ghost depth = { λ it. max (P.depth it.first + 1) (Q.depth it.second) };
 
-    ghost tells = { λ it rule words o before after. EitherTells (P.tells it.first rule words) (Q.tells it.second rule words) o before after };
+    ghost postcondition = { λ it rule words o before after. EitherTells (P.postcondition it.first rule words) (Q.postcondition it.second rule words) o before after };
 
     fn run<N: Nesting>(&self, rule: &K, memory: &mut N) -> Result<Option<P::Output>, Stop> {
         memory.mark();

@@ -18,13 +18,13 @@ pub trait Part<K: MemRule> {
     type Output: Drop;
 
     // what it needs of the rule and of the number of words
-    ghost fits: { Self → K → ℕ → Type 0 };
+    ghost precondition: { Self → K → ℕ → Type 0 };
 
     // how deep the parts in it stand in one another: 0 for none
     ghost depth: { Self → ℕ };
 
     // what is so of its answer, and of what had been read and written before it and after it
-    ghost tells: { Self → K → ℕ → Option Self.Output → Log → Log → Type 0 };
+    ghost postcondition: { Self → K → ℕ → Option Self.Output → Log → Log → Type 0 };
 
     /// Does it.
     ///
@@ -35,10 +35,10 @@ pub trait Part<K: MemRule> {
         requires good { SameMemories (N.good memory.old) (K.good rule.now) }
         requires explained { IsExplained (N.good memory.old) (N.words memory.old) (N.log memory.old) }
         requires sound { Under (K.good rule.now) (N.words memory.old) (N.log memory.old) (K.good rule.now) }
-        requires fits { fits self.now rule.now (N.words memory.old) }
+        requires precondition { precondition self.now rule.now (N.words memory.old) }
         requires shallow { N.depth memory.old + depth self.now ≤ MAX_MARKS }
         ensures kept { IfOk result (λ o. IfSome o (λ r. Under (K.good rule.now) (N.words memory.old) (N.log memory.new) (K.good rule.now))) }
-        ensures tells { IfOk result (λ o. tells self.now rule.now (N.words memory.old) o (N.log memory.old) (N.log memory.new)) }
+        ensures postcondition { IfOk result (λ o. postcondition self.now rule.now (N.words memory.old) o (N.log memory.old) (N.log memory.new)) }
         ensures explained { OnOk result (IsExplained (N.good memory.new) (N.words memory.new) (N.log memory.new)) }
         ensures goes { OnOk result (N.stopped memory.new ≡ None) }
         ensures stops { IfErr result (λ s. N.stopped memory.new ≡ Some s) }

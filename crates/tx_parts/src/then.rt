@@ -17,11 +17,11 @@ impl<K: MemRule, P: Part<K>, Q: Part<K>> Part<K> for Then<P, Q> {
 
     type Output = (P::Output, Q::Output);
 
-    ghost fits = { λ it rule words. P.fits it.first rule words × Q.fits it.second rule words };
+    ghost precondition = { λ it rule words. P.precondition it.first rule words × Q.precondition it.second rule words };
 
     ghost depth = { λ it. max (P.depth it.first) (Q.depth it.second) };
 
-    ghost tells = { λ it rule words o before after. BothTell (P.tells it.first rule words) (Q.tells it.second rule words) o before after };
+    ghost postcondition = { λ it rule words o before after. BothTell (P.postcondition it.first rule words) (Q.postcondition it.second rule words) o before after };
 
     fn run<N: Nesting>(
         &self,

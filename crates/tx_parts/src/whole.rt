@@ -27,9 +27,9 @@ impl<K: MemRule, P: Part<K>> Transaction<K> for Whole<P> {
 
     type Output = PartOutcome<P::Output>;
 
-    ghost fits = { λ it rule words. P.fits it.part rule words × (P.depth it.part ≤ MAX_MARKS) × (it.first < words) × (1 ≤ it.room) × (it.room ≤ 4096) };
+    ghost precondition = { λ it rule words. P.precondition it.part rule words × (P.depth it.part ≤ MAX_MARKS) × (it.first < words) × (1 ≤ it.room) × (it.room ≤ 4096) };
 
-    ghost tells = { λ it rule words came log. ComesFirst (K.good rule) words it.first it.room (P.tells it.part rule words) came log };
+    ghost postcondition = { λ it rule words came log. ComesFirst (K.good rule) words it.first it.room (P.postcondition it.part rule words) came log };
 
     /// `NoMemory` where memory was refused for the part's log.
     fn run<A: Access>(&self, rule: &K, memory: &mut A) -> Result<PartOutcome<P::Output>, Stop> {
@@ -62,9 +62,9 @@ impl<K: MemRule, P: Part<K>> Transaction<K> for Awaited<P> {
 
     type Output = Option<Result<P::Output, Undone>>;
 
-    ghost fits = { λ it rule words. P.fits it.whole.part rule words × (P.depth it.whole.part ≤ MAX_MARKS) × (it.whole.first < words) × (1 ≤ it.whole.room) × (it.whole.room ≤ 4096) };
+    ghost precondition = { λ it rule words. P.precondition it.whole.part rule words × (P.depth it.whole.part ≤ MAX_MARKS) × (it.whole.first < words) × (1 ≤ it.whole.room) × (it.whole.room ≤ 4096) };
 
-    ghost tells = { λ it rule words came log. ComesAwaited (K.good rule) words it.whole.first it.whole.room (P.tells it.whole.part rule words) came log };
+    ghost postcondition = { λ it rule words came log. ComesAwaited (K.good rule) words it.whole.first it.whole.room (P.postcondition it.whole.part rule words) came log };
 
     fn run<A: Access>(
         &self,

@@ -42,10 +42,10 @@ pub fn wholly<K: MemRule, P: Part<K>, A: Access>(
     requires good { SameMemories (A.good memory.old) (K.good rule.now) }
     requires seen { IsExplained (A.good memory.old) (A.words memory.old) (A.log memory.old) }
     requires sound { Under (K.good rule.now) (A.words memory.old) (A.log memory.old) (K.good rule.now) }
-    requires fits { P.fits part.now rule.now (A.words memory.old) }
+    requires precondition { P.precondition part.now rule.now (A.words memory.old) }
     requires shallow { P.depth part.now ≤ MAX_MARKS }
     requires empty { (room.items ≡ []) × (room.marks ≡ []) }
-    ensures comes { IfOk result (λ o. Comes (K.good rule.now) (A.words memory.old) room.len (P.tells part.now rule.now (A.words memory.old)) o (A.log memory.old) (A.log memory.new)) }
+    ensures comes { IfOk result (λ o. Comes (K.good rule.now) (A.words memory.old) room.len (P.postcondition part.now rule.now (A.words memory.old)) o (A.log memory.old) (A.log memory.new)) }
     ensures kept { OnOk result (Under (K.good rule.now) (A.words memory.old) (A.log memory.new) (K.good rule.now)) }
     ensures explained { OnOk result (IsExplained (A.good memory.new) (A.words memory.new) (A.log memory.new)) }
     ensures goes { OnOk result (A.stopped memory.new ≡ None) }
@@ -78,10 +78,10 @@ fn run_apart<K: MemRule, P: Part<K>, A: Access>(
     requires good { SameMemories (A.good overlay.old.below) (K.good rule.now) }
     requires sound { Under (K.good rule.now) (A.words overlay.old.below) (A.log overlay.old.below) (K.good rule.now) }
     requires seen { IsExplained (A.good overlay.old.below) (A.words overlay.old.below) (A.log overlay.old.below) }
-    requires fits { P.fits part.now rule.now (A.words overlay.old.below) }
+    requires precondition { P.precondition part.now rule.now (A.words overlay.old.below) }
     requires shallow { P.depth part.now ≤ MAX_MARKS }
     requires empty { (overlay.old.room.items ≡ []) × (overlay.old.room.marks ≡ []) }
-    ensures comes { IfOk result (λ o. Comes (K.good rule.now) (A.words overlay.old.below) overlay.old.room.len (P.tells part.now rule.now (A.words overlay.old.below)) o (A.log overlay.old.below) (A.log overlay.new.below)) }
+    ensures comes { IfOk result (λ o. Comes (K.good rule.now) (A.words overlay.old.below) overlay.old.room.len (P.postcondition part.now rule.now (A.words overlay.old.below)) o (A.log overlay.old.below) (A.log overlay.new.below)) }
     ensures kept { OnOk result (Under (K.good rule.now) (A.words overlay.old.below) (A.log overlay.new.below) (K.good rule.now)) }
     ensures explained { OnOk result (IsExplained (A.good overlay.new.below) (A.words overlay.new.below) (A.log overlay.new.below)) }
     ensures goes { OnOk result (A.stopped overlay.new.below ≡ None) }

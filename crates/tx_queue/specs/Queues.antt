@@ -20,7 +20,7 @@ cell_at q i = q.at + 2 + i
 abbrev pub cell : Queue → List ℕ → ℕ → ℕ
 cell q m i = slice_index m (cell_at q i)
 
--- behind the last cell comes the first; i is below twice the cells
+-- after the last cell comes the first; i is below twice the cells
 abbrev pub wrapped : ℕ → ℕ → ℕ
 wrapped cells i = if ltb i cells then i else i - cells
 
@@ -44,7 +44,7 @@ pub record IsQueue (q : Queue) (m : List ℕ) : Type 0 where
   pub small : (k : ℕ) → k < count q m → cell q m (index_of q m k) < 2 ^ 32
   pub spare : (k : ℕ) → count q m ≤ k → k < q.cells → cell q m (index_of q m k) ≡ 0
 
--- the value goes behind the last one
+-- the value goes after the last one
 abbrev pub enqueued : Queue → ℕ → List ℕ → List ℕ
 enqueued q v m = slice_set (slice_set m (cell_at q (index_of q m (count q m))) v) (q.at + 1) (count q m + 1)
 

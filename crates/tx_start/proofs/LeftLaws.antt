@@ -7,7 +7,7 @@ use Rattle.rule_base.specs.Bridge.{public_history}
 use Rattle.stm_rule.specs.declared.stm.Stm.{Stm}
 use Rattle.stm_rule.specs.Callers.{Handle, AllOpened}
 use Rattle.stm_rule.specs.Closings.{Ended, Told, AllTold, installs_of}
-use Rattle.tx_answers.specs.Known.{Known, caller_of}
+use Rattle.tx_answers.specs.CallerState.{CallerState, caller_of}
 use Rattle.stm_tx.specs.Descs.{known, number}
 use Rattle.tx_atomic.specs.Callers.{AllReady, IsThrough}
 use Rattle.tx_atomic.specs.CallerLaws.{ready-each}
@@ -41,7 +41,7 @@ told-at e n i [] x h lt = absurd (omega arith)
 told-at e n zero (d ∷ ds) x h lt = let s : n ≡ n + 0 = omega arith in subst (λ k. Told e k d) s h.0
 told-at e n (suc i) (d ∷ ds) x h lt = let s : suc n + i ≡ n + suc i = omega arith in subst (λ k. Told e k (get_or ds i x)) s (told-at e (suc n) i ds x h.1 (omega (arith, lt)))
 
-module _ {K V : Type 0} (stm : Stm K) (alg : Alg) (tells : ℕ → V → Known → Known → Type 0) where
+module _ {K V : Type 0} (stm : Stm K) (alg : Alg) (tells : ℕ → V → CallerState → CallerState → Type 0) where
   -- each caller did its job
   pub each-worked : (ds : List (Handle K)) (ls : List (Left K V)) → AllReady stm 0 ds → length ls ≡ length ds → ((i : ℕ) (l : Left K V) (x : Handle K) → i < length ds → Works tells (get_or ds i x) (get_or ls i l)) → AllReady stm 0 (descs_in ls)
   each-worked ds [] ready count each = ready-each stm 0 ds [] ready count (λ i x lt. absurd (omega (arith, lt, count)))

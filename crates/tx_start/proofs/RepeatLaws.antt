@@ -7,7 +7,7 @@ use Rattle.stm_model.specs.Logs.{Log}
 use Rattle.stm_model.specs.Memories.{is_empty}
 use Rattle.tx_answers.specs.declared.answers.Commit.TheVariants.{Committed, ReadOnly}
 use Rattle.tx_answers.specs.Answers.{Commits}
-use Rattle.tx_answers.specs.Known.{Known}
+use Rattle.tx_answers.specs.CallerState.{CallerState}
 use Rattle.tx_atomic.specs.Attempts.{TookEffect}
 use Rattle.tx_atomic.specs.Tallies.{total}
 use Rattle.tx_start.specs.Repeats.{MadeOne, MadeAll, more, raised}
@@ -17,7 +17,7 @@ empty true none = refl
 empty false none = absurd cc
 
 -- a transaction that took effect is the caller's next entry
-pub took-one : (good : List ℕ → Type 0) (c : Config) (n : ℕ) (tells : Log → Type 0) (from : ℕ) (u w : Known) → (t : TookEffect good c n tells from u w) → MadeOne t.before.log u.made w.made
+pub took-one : (good : List ℕ → Type 0) (c : Config) (n : ℕ) (tells : Log → Type 0) (from : ℕ) (u w : CallerState) → (t : TookEffect good c n tells from u w) → MadeOne t.before.log u.made w.made
 took-one good c n tells from u w t = by t.commits
   where
     e : Entry

@@ -2,7 +2,7 @@
 use Rattle.std.specs.Prelude.{ℕ, ◌≡◌, ◌<◌, List, [], map, length, get_or}
 use Rattle.stm_model.specs.declared.alg.Alg.{Alg}
 use Rattle.stm_rule.specs.Callers.{Handle}
-use Rattle.tx_answers.specs.Known.{Known}
+use Rattle.tx_answers.specs.CallerState.{CallerState}
 use Rattle.stm_tx.specs.Descs.{known, number}
 use Rattle.tx_atomic.specs.Callers.{IsThrough}
 use Rattle.tx_start.specs.declared.memory.Answer.{Answer}
@@ -27,5 +27,5 @@ module _ {K V : Type 0} where
   answers_in ls = map answer_in ls
 
   -- a caller did its job, whose answers tell this
-  abbrev pub Works : (ℕ → V → Known → Known → Type 0) → Handle K → Left K V → Type 0
+  abbrev pub Works : (ℕ → V → CallerState → CallerState → Type 0) → Handle K → Left K V → Type 0
   Works tells d l = IsThrough d l.desc × tells (number d) l.answer.value (known d) (known l.desc)

@@ -2,15 +2,15 @@
 use Rattle.std.proofs.Common.{ℕ, ◌≡◌, ◌<◌, List, [], ◌∷◌, Result, Ok, Err, length, get_or, refl, subst, sym, ap, arith}
 use Rattle.std.specs.Prelude.{IfOk}
 use Rattle.stm_model.specs.declared.alg.Alg.{Alg}
-use Rattle.tx_answers.specs.Known.{Known}
+use Rattle.tx_answers.specs.CallerState.{CallerState}
 use Rattle.tx_start.specs.declared.memory.Answer.{Answer}
-use Rattle.tx_start.specs.declared.memory.Outcome.{Outcome}
+use Rattle.tx_start.specs.declared.memory.ClosedMemory.{ClosedMemory}
 use Rattle.tx_start.specs.Stories.{IsStory}
 
 -- what follows from each caller's story holds of what came of the memory
-pub by-stories : {V E : Type 0} (alg : Alg) (tells : ℕ → V → Known → Known → Type 0) (callers : ℕ) (r : Result (Outcome V) E) → IfOk r (λ came. length came.answers.items ≡ callers)
+pub by-stories : {V E : Type 0} (alg : Alg) (tells : ℕ → V → CallerState → CallerState → Type 0) (callers : ℕ) (r : Result (ClosedMemory V) E) → IfOk r (λ came. length came.answers.items ≡ callers)
     → IfOk r (λ came. (i : ℕ) (d : Answer V) → i < callers → IsStory alg (tells i) came.closed i (get_or came.answers.items i d).value)
-    → (P : Outcome V → Type 0) → ((came : Outcome V) → ((i : ℕ) → i < callers → (value : V) × IsStory alg (tells i) came.closed i value) → P came) → IfOk r P
+    → (P : ClosedMemory V → Type 0) → ((came : ClosedMemory V) → ((i : ℕ) → i < callers → (value : V) × IsStory alg (tells i) came.closed i value) → P came) → IfOk r P
 by-stories alg tells callers (Err e) count stories P then = tt
 by-stories {V = V} alg tells callers (Ok came) count stories P then = then came (λ i lt. by i lt came.answers.items refl)
   where

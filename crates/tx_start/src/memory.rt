@@ -30,13 +30,13 @@ pub struct Answer<V> {
 /// What came of a memory: its words, what each caller answered, in the callers' order, and the evidence of the one
 /// history.
 #[derive(Drop)]
-pub struct Outcome<V> {
+pub struct ClosedMemory<V> {
     pub words: Vec<u64>,
     pub answers: Vec<Answer<V>>,
     pub closed: Closed,
 }
 
-impl<V> Outcome<V> {
+impl<V> ClosedMemory<V> {
     ghost use Rattle.std.specs.Prelude.{◌<◌, length, slice_index};
     ghost use Rattle.tx_places.specs.Codes.{Stands};
 
@@ -60,17 +60,17 @@ pub fn with_memory<R: Threads + Wait + Sync, K: MemRule + Drop + Sync + Send, J:
     alg: Alg,
     rule: K,
     job: &J,
-) -> Result<Outcome<J::Output>, NewError>
+) -> Result<ClosedMemory<J::Output>, NewError>
     requires unfenced { config.fence ≡ false }
     requires good { K.good rule (replicate config.words 0) }
-    requires needs { J.needs job.now rule config.words }
+    requires precondition { J.precondition job.now rule config.words }
     ensures good { IfOk result (λ came. K.good rule came.words.items) }
     ensures count { IfOk result (λ came. length came.words.items ≡ config.words) }
     ensures answers { IfOk result (λ came. length came.answers.items ≡ config.callers) }
     ensures legal { IfOk result (λ came. IsLegal (K.good rule) (replicate config.words 0) config.clock came.closed.history) }
     ensures within { IfOk result (λ came. Within came.closed.clock came.closed.history) }
     ensures end { IfOk result (λ came. came.words.items ≡ memory_at came.closed.clock came.closed.history (replicate config.words 0)) }
-    ensures stories { IfOk result (λ came. (i : ℕ) (d : Answer J.Output) → i < config.callers → IsStory alg (J.tells job.now rule config.words i) came.closed i (slice_index_or came.answers.items i d).value) }
+    ensures stories { IfOk result (λ came. (i : ℕ) (d : Answer J.Output) → i < config.callers → IsStory alg (J.postcondition job.now rule config.words i) came.closed i (slice_index_or came.answers.items i d).value) }
     ensures nobody_else { IfOk result (λ came. (n : ℕ) → config.callers ≤ n → made_by n came.closed.history ≡ []) }
     ensures refused { IfErr result (IsRefusal config) }
 {
@@ -82,7 +82,7 @@ pub fn with_memory<R: Threads + Wait + Sync, K: MemRule + Drop + Sync + Send, J:
     let left = work_all(rt, &stm, descs, job)?;
     let (descs, answers) = part(left, room, answers);
     let closed = close_into(stm, descs, &mut words);
-    Ok(Outcome {
+    Ok(ClosedMemory {
         words,
         answers,
         closed,

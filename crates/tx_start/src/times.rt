@@ -9,7 +9,7 @@ ghost use Rattle.tx_start.specs.Stories.{IsStory};
 
 use crate::caller::Caller;
 use crate::job::Job;
-use crate::memory::{Outcome, with_memory};
+use crate::memory::{ClosedMemory, with_memory};
 use std::alloc::Global;
 use std::sync::Wait;
 use std::thread::Threads;
@@ -29,10 +29,10 @@ impl<R: Wait, K: MemRule, T: Transaction<K>> Job<R, K> for Times<T> {
 
     type Output = usize;
 
-    ghost needs = { λ job rule words. T.fits job.transaction rule words };
+    ghost precondition = { λ job rule words. T.precondition job.transaction rule words };
 
     // it took effect so often
-    ghost tells = { λ job rule words caller times before after. (times ≤ job.rounds) × MadeAll (Answered (T.tells job.transaction rule words)) before.made times after.made };
+    ghost postcondition = { λ job rule words caller times before after. (times ≤ job.rounds) × MadeAll (Answered (T.postcondition job.transaction rule words)) before.made times after.made };
 
     /// How often it took effect: fewer times only where the clock was found at its limit.
     fn work(&self, caller: &mut Caller<'_, R, K>) -> usize {
@@ -52,17 +52,17 @@ pub fn with_transaction<R: Threads + Wait + Sync, T: Transaction<AnyMem> + Drop 
     alg: Alg,
     rounds: usize,
     transaction: T,
-) -> Result<Outcome<usize>, NewError>
+) -> Result<ClosedMemory<usize>, NewError>
 where
     T::Output: Send,
     requires unfenced { config.fence ≡ false }
-    requires fits { T.fits transaction (record {}) config.words }
+    requires precondition { T.precondition transaction (record {}) config.words }
     ensures count { IfOk result (λ came. length came.words.items ≡ config.words) }
     ensures answers { IfOk result (λ came. length came.answers.items ≡ config.callers) }
     ensures legal { IfOk result (λ came. IsLegal (λ memory. Unit {0}) (replicate config.words 0) config.clock came.closed.history) }
     ensures within { IfOk result (λ came. Within came.closed.clock came.closed.history) }
     ensures end { IfOk result (λ came. came.words.items ≡ memory_at came.closed.clock came.closed.history (replicate config.words 0)) }
-    ensures stories { IfOk result (λ came. (i : ℕ) (d : Answer ℕ) → i < config.callers → IsStory alg (λ times before after. (times ≤ rounds) × MadeAll (Answered (T.tells transaction (record {}) config.words)) before.made times after.made) came.closed i (slice_index_or came.answers.items i d).value) }
+    ensures stories { IfOk result (λ came. (i : ℕ) (d : Answer ℕ) → i < config.callers → IsStory alg (λ times before after. (times ≤ rounds) × MadeAll (Answered (T.postcondition transaction (record {}) config.words)) before.made times after.made) came.closed i (slice_index_or came.answers.items i d).value) }
     ensures nobody_else { IfOk result (λ came. (n : ℕ) → config.callers ≤ n → made_by n came.closed.history ≡ []) }
     ensures refused { IfErr result (IsRefusal config) }
 {

@@ -14,15 +14,15 @@ pub struct Update<T, F> {
 
 impl<T: Word, F: Fn(T) -> T> Transaction<AnyMem> for Update<T, F> {
     ghost use Rattle.std.specs.Prelude.{◌<◌};
-    ghost use Rattle.tx_answers.specs.Known.{no_log};
+    ghost use Rattle.tx_answers.specs.CallerState.{no_log};
     ghost use Rattle.tx_places.specs.Codes.{Updates};
 
     type Output = T;
 
-    ghost fits = { λ it rule words. (it.place.at < words) × F.IsAlwaysCallable it.by };
+    ghost precondition = { λ it rule words. (it.place.at < words) × F.IsAlwaysCallable it.by };
 
     // the place was read and written, and nothing else; its new value, the answer, is what `by` made of the one before
-    ghost tells = { λ it rule words value log. Updates T.fits T.code (F.post it.by) it.place.at no_log value log };
+    ghost postcondition = { λ it rule words value log. Updates T.fits T.code (F.post it.by) it.place.at no_log value log };
 
     fn run<A: Access>(&self, _: &AnyMem, memory: &mut A) -> Result<T, Stop> {
         let value = (self.by)(self.place.get(memory)?);

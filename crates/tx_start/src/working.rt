@@ -28,13 +28,13 @@ pub(crate) fn work_all<
     J: Job<R, K> + Sync,
 >(rt: &R, stm: &Stm<K>, descs: Vec<Desc<K>>, job: &J) -> Result<Vec<Left<K, J::Output>>, NewError>
     requires ready { All (IsReady stm.now) descs.items }
-    requires needs { J.needs job.now stm.now.rule stm.now.config.words }
+    requires precondition { J.precondition job.now stm.now.rule stm.now.config.words }
     ensures count { IfOk result (λ left. length left.items ≡ length descs.items) }
     ensures refused { IfErr result (λ e. e ≡ NewError.Memory) }
-    ensures done { IfOk result (λ left. (i : ℕ) (d : Left K J.Output) (e : Handle K) → i < length descs.items → Works (J.tells job.now stm.now.rule stm.now.config.words) (slice_index_or descs.items i e) (slice_index_or left.items i d)) }
+    ensures done { IfOk result (λ left. (i : ℕ) (d : Left K J.Output) (e : Handle K) → i < length descs.items → Works (J.postcondition job.now stm.now.rule stm.now.config.words) (slice_index_or descs.items i e) (slice_index_or left.items i d)) }
 {
     let job_of = |desc|
-        requires { IsReady stm.now desc × J.needs job.now stm.now.rule stm.now.config.words }
+        requires { IsReady stm.now desc × J.precondition job.now stm.now.rule stm.now.config.words }
     { work(rt, stm, desc, job) };
     let left = thread::map_vec(rt, descs, &job_of)?;
     Ok(left)
@@ -48,8 +48,8 @@ fn work<R: Wait, K: MemRule, J: Job<R, K>>(
     job: &J,
 ) -> Left<K, J::Output>
     requires ready { IsReady stm.now desc }
-    requires needs { J.needs job.now stm.now.rule stm.now.config.words }
-    ensures works { Works (J.tells job.now stm.now.rule stm.now.config.words) desc result }
+    requires precondition { J.precondition job.now stm.now.rule stm.now.config.words }
+    ensures works { Works (J.postcondition job.now stm.now.rule stm.now.config.words) desc result }
 {
     let mut caller = Caller {
         rt,

@@ -18,10 +18,10 @@ pub trait Transaction<K: MemRule> {
     type Output: Drop;
 
     // what it needs of the rule and of the number of words; one that says nothing is of word 0 alone.
-    ghost fits: { Self → K → ℕ → Type 0 } = { λ it rule words. 0 < words };
+    ghost precondition: { Self → K → ℕ → Type 0 } = { λ it rule words. 0 < words };
 
     // what is so of its answer, and of what an attempt that answers so has read and written; nothing, if it doesn't say.
-    ghost tells: { Self → K → ℕ → Self.Output → Log → Type 0 } = { λ it rule words came log. Unit {0} };
+    ghost postcondition: { Self → K → ℕ → Self.Output → Log → Type 0 } = { λ it rule words came log. Unit {0} };
 
     /// Does it in one attempt, which has done nothing before.
     ///
@@ -31,9 +31,9 @@ pub trait Transaction<K: MemRule> {
         requires going { A.stopped memory.old ≡ None }
         requires fresh { A.log memory.old ≡ nothing }
         requires good { SameMemories (A.good memory.old) (K.good rule.now) }
-        requires fits { fits self.now rule.now (A.words memory.old) }
+        requires precondition { precondition self.now rule.now (A.words memory.old) }
         ensures kept { OnOk result (Keeps (K.good rule.now) (A.words memory.old) (A.log memory.new)) }
-        ensures tells { IfOk result (λ r. tells self.now rule.now (A.words memory.old) r (A.log memory.new)) }
+        ensures postcondition { IfOk result (λ r. postcondition self.now rule.now (A.words memory.old) r (A.log memory.new)) }
         ensures goes { OnOk result (A.stopped memory.new ≡ None) }
         ensures stops { IfErr result (λ s. A.stopped memory.new ≡ Some s) }
         ensures keeps { A.keeps memory.old memory.new };

@@ -79,7 +79,7 @@ IsLink r m a = (a ≡ r.at) ⊎ ((i : ℕ) × Used r m i × ((a ≡ left_at r i)
 abbrev pub side_at : Pool → List ℕ → ℕ → ℕ → ℕ
 side_at r m key j = if ltb key (tag r m j) then left_at r j else right_at r j
 
--- the first link from a towards the key that names no cell, or the key's, behind at most n cells
+-- the first link from a towards the key that names no cell, or the key's, after at most n cells
 abbrev pub found_by : Pool → List ℕ → ℕ → ℕ → (ℕ → Position) → ℕ → Position
 found_by r m key a on zero = record { link = a; next = 0; tag = 0 }
 found_by r m key a on (suc j) = if tag r m j == suc key then record { link = a; next = suc j; tag = tag r m j } else on j

@@ -47,7 +47,7 @@ IsLink r m a = shapes.IsLink (pool r) m a
 abbrev pub side_at : Tree → List ℕ → ℕ → ℕ → ℕ
 side_at r m key j = shapes.side_at (pool r) m key j
 
--- the first link from a towards the key that names no cell, or the key's, behind at most n cells
+-- the first link from a towards the key that names no cell, or the key's, after at most n cells
 abbrev pub find : Tree → List ℕ → ℕ → ℕ → ℕ → Position
 find r m key n a = shapes.find (pool r) m key n a
 

@@ -11,7 +11,7 @@ use Rattle.stm_rule.specs.StandLemmas.{tells-of}
 use Rattle.tx_answers.specs.declared.answers.Commit.TheVariants.{Committed, ReadOnly}
 use Rattle.tx_answers.specs.Answers.{KeepsRule}
 use Rattle.tx_answers.specs.Answers as answers
-use Rattle.tx_answers.specs.Known.{Known}
+use Rattle.tx_answers.specs.CallerState.{CallerState}
 use Rattle.stm_gate.specs.DirectLaws as direct
 use Rattle.stm_gate.specs.Opening.{Opened, opened, of-view, shows}
 use Rattle.alg_orec.proofs.CommitOpening.{Promoted, promoted}
@@ -47,7 +47,7 @@ returns-then-not-desc-clause-commits g c =
     let a = (goal.at.returns-then-not-desc-clause-commits g c).After-desc in
     let p = here g a in
     shows g.K.MemRule.good c.args.stm.now (opens g a)
-    (λ (n : ℕ) (v w : Known). answers.Commits (g.K.MemRule.good c.args.stm.now.rule) c.args.stm.now.config n
+    (λ (n : ℕ) (v w : CallerState). answers.Commits (g.K.MemRule.good c.args.stm.now.rule) c.args.stm.now.config n
     (ReadOnly c.desc.inside.local.start) v w)
     c.leave.new.seat.me.0.view c.leave.new.local (ap own_of c.leave.ensures.idle)
     (laws.tells-read_only p _ c.give_above.ensures.gives (search rules) _ (own_of c.desc.inside.local)
@@ -98,7 +98,7 @@ returns-clause-commits g c =
     (Commits (good_of g.K.MemRule.good f c.args.stm.now.rule) f d.number time) _ time _ c.direct_commit.ensures.step
     in
     shows g.K.MemRule.good c.args.stm.now (opens g a)
-    (λ (n : ℕ) (v w : Known). answers.Commits (g.K.MemRule.good c.args.stm.now.rule) f n (Committed time) v w)
+    (λ (n : ℕ) (v w : CallerState). answers.Commits (g.K.MemRule.good c.args.stm.now.rule) f n (Committed time) v w)
     c.leave-2.new.seat.me.0.view c.leave-2.new.local (ap own_of c.leave-2.ensures.idle)
     (laws.tells-commit (here g a) time (search rules) (ap (λ (k : ℕ). d.local.start + k) c.entry_rise.ensures) _ entered
     _ c.give_direct.ensures.releases
@@ -110,11 +110,11 @@ pub returns-clause-steps : goal.returns-clause-steps
 returns-clause-steps g c =
     let a = (goal.at.returns-clause-steps g c).After-desc in
     let within = (laws.k (here g a)).few in
-    let first = ap (λ (k : Known). length k.trail) (opens g a).knows in
-    let words = ap (λ (k : Known). k.writes_limit) (opens g a).knows in
-    let entered = ap (λ (y : SeatView g.row.K.Denot). length y.view.steps.trail) c.direct_commit.ensures.step.3 in
+    let first = ap (λ (k : CallerState). length k.step_trace) (opens g a).knows in
+    let words = ap (λ (k : CallerState). k.writes_limit) (opens g a).knows in
+    let entered = ap (λ (y : SeatView g.row.K.Denot). length y.view.steps.step_trace) c.direct_commit.ensures.step.3 in
     let given = c.give_direct.ensures.steps in
-    let based = ap (λ (y : SeatView g.row.K.Denot). length y.view.steps.trail) c.store_base.ensures.step.3 in
-    let done = ap (λ (y : SeatView g.row.K.Denot). length y.view.steps.trail) c.store_done.ensures.step.3 in
+    let based = ap (λ (y : SeatView g.row.K.Denot). length y.view.steps.step_trace) c.store_base.ensures.step.3 in
+    let done = ap (λ (y : SeatView g.row.K.Denot). length y.view.steps.step_trace) c.store_done.ensures.step.3 in
     let last = c.leave-2.ensures.steps in
     omega arith

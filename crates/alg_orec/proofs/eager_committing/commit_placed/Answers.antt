@@ -11,7 +11,7 @@ use Rattle.stm_rule.specs.Kept.{good_of}
 use Rattle.steps_orec.specs.RecordFindings.{FindsClock, FindsCommit}
 use Rattle.tx_answers.specs.declared.answers.Commit.TheVariants as commits
 use Rattle.tx_answers.specs.Answers as answers
-use Rattle.tx_answers.specs.Known.{known_of}
+use Rattle.tx_answers.specs.CallerState.{known_of}
 use Rattle.alg_orec.specs.EagerCommitting.{CanCommitPlaced}
 use Rattle.alg_orec.proofs.EagerCommitLaws as laws
 use Rattle.alg_orec.proofs.eager_committing.commit_placed.Goals.{In_default, After-limit-clock, After-commit_placed-now}
@@ -35,17 +35,17 @@ tried : (g : _) (c : After-commit_placed-now g) →
     c.revalidate.new.seat.me.0.view c.commit_placed-now.result c.commit_placed-now.new.seat.me.0.view
 tried g c = let h = c.commit_placed-now.ensures.step in (h.0, h.1, ap (λ (x : SeatView g.row.K.Denot). x.view) h.3)
 
-pub take_back-requires-clause-view : goal.take_back-requires-clause-view
-take_back-requires-clause-view g c = laws.may-take-overrun c.requires.attempt c.in-Err.cause _ _
+pub abort-requires-clause-view : goal.abort-requires-clause-view
+abort-requires-clause-view g c = laws.may-take-overrun c.requires.attempt c.in-Err.cause _ _
     c.in-Err.ensures.revalidates
 
-pub take_back-requires-clause-holds : goal.take_back-requires-clause-holds
-take_back-requires-clause-holds g c =
+pub abort-requires-clause-holds : goal.abort-requires-clause-holds
+abort-requires-clause-holds g c =
     let s = c.in-Err.ensures.revalidates in
     ap (λ (q : Local). q.holds) s.local ∙ (c.requires.attempt.holds ∙ sym (ap (λ (y : View). y.gate.holds) s.is))
 
-pub take_back-requires-clause-named : goal.take_back-requires-clause-named
-take_back-requires-clause-named g c =
+pub abort-requires-clause-named : goal.abort-requires-clause-named
+abort-requires-clause-named g c =
     let s = c.in-Err.ensures.revalidates in
     ap (λ (q : Local). q.algorithm) s.local
     ∙ (sym c.requires.attempt.inside.named ∙ sym (ap (λ (y : View). y.gate.algorithm) s.is))
@@ -55,38 +55,38 @@ returns-in-Err-clause-commits g c =
     let P = λ (z : View) (q : Local). answers.Commits (g.K.MemRule.good c.args.stm.now.rule) c.args.stm.now.config
     c.args.caller (commits.Conflict c.in-Err.cause) (known_of c.args.seat.now.me.0.view (own_of c.args.local.now))
     (known_of z (own_of q)) in
-    let z = c.take_back.new.seat.me.0.view in
-    subst (P z) (sym c.take_back.ensures.idle) (subst (λ (q : Local). P z (ended (record q { committing = false })))
+    let z = c.abort.new.seat.me.0.view in
+    subst (P z) (sym c.abort.ensures.idle) (subst (λ (q : Local). P z (ended (record q { committing = false })))
     (sym c.in-Err.ensures.revalidates.local)
     (laws.tells-stopped c.requires.attempt (own_of c.args.local.now) refl c.in-Err.cause _ _ z c.in-Err.ensures.revalidates
-    c.take_back.ensures.takes_back))
+    c.abort.ensures.aborts))
 
 pub returns-in-Err-clause-stands : goal.returns-in-Err-clause-stands
 returns-in-Err-clause-stands g c =
     let P = λ (q : Local). Stands (g.K.MemRule.good c.args.stm.now.rule) c.args.stm.now.config c.args.caller q
-    c.take_back.new.seat.me.0.view in
-    subst P (sym c.take_back.ensures.idle) (subst (λ (q : Local). P (ended (record q { committing = false })))
+    c.abort.new.seat.me.0.view in
+    subst P (sym c.abort.ensures.idle) (subst (λ (q : Local). P (ended (record q { committing = false })))
     (sym c.in-Err.ensures.revalidates.local)
     (laws.ended-stands _ _ _ (record c.args.local.now { committing = false }) _ c.requires.attempt.lengths
-    c.take_back.ensures.takes_back.outside))
+    c.abort.ensures.aborts.outside))
 
 pub limit-clock-requires-clause-view : goal.limit-clock-requires-clause-view
 limit-clock-requires-clause-view g c = laws.may-limit
     (ready g (goal.at.limit-clock-requires-clause-view g c).In_default)
 
-pub take_back-requires-then-start-ge-CLOCK_LIMIT-clause-view : goal.take_back-requires-then-start-ge-CLOCK_LIMIT-clause-view
-take_back-requires-then-start-ge-CLOCK_LIMIT-clause-view g c =
-    let at = goal.at.take_back-requires-then-start-ge-CLOCK_LIMIT-clause-view g c in
+pub abort-requires-then-start-ge-CLOCK_LIMIT-clause-view : goal.abort-requires-then-start-ge-CLOCK_LIMIT-clause-view
+abort-requires-then-start-ge-CLOCK_LIMIT-clause-view g c =
+    let at = goal.at.abort-requires-then-start-ge-CLOCK_LIMIT-clause-view g c in
     laws.may-take-full (ready g at.In_default) c.revalidate.new.local.committing _ _ (asked g at.After-limit-clock)
 
-pub take_back-requires-then-start-ge-CLOCK_LIMIT-clause-holds : goal.take_back-requires-then-start-ge-CLOCK_LIMIT-clause-holds
-take_back-requires-then-start-ge-CLOCK_LIMIT-clause-holds g c =
-    let at = goal.at.take_back-requires-then-start-ge-CLOCK_LIMIT-clause-holds g c in
+pub abort-requires-then-start-ge-CLOCK_LIMIT-clause-holds : goal.abort-requires-then-start-ge-CLOCK_LIMIT-clause-holds
+abort-requires-then-start-ge-CLOCK_LIMIT-clause-holds g c =
+    let at = goal.at.abort-requires-then-start-ge-CLOCK_LIMIT-clause-holds g c in
     (ready g at.In_default).holds ∙ sym (ap (λ (y : View). y.gate.holds) (asked g at.After-limit-clock).2)
 
-pub take_back-requires-then-start-ge-CLOCK_LIMIT-clause-named : goal.take_back-requires-then-start-ge-CLOCK_LIMIT-clause-named
-take_back-requires-then-start-ge-CLOCK_LIMIT-clause-named g c =
-    let at = goal.at.take_back-requires-then-start-ge-CLOCK_LIMIT-clause-named g c in
+pub abort-requires-then-start-ge-CLOCK_LIMIT-clause-named : goal.abort-requires-then-start-ge-CLOCK_LIMIT-clause-named
+abort-requires-then-start-ge-CLOCK_LIMIT-clause-named g c =
+    let at = goal.at.abort-requires-then-start-ge-CLOCK_LIMIT-clause-named g c in
     sym c.in_default.ensures.revalidates.stays.named ∙ sym
     (ap (λ (y : View). y.gate.algorithm) (asked g at.After-limit-clock).2)
 
@@ -94,22 +94,22 @@ pub returns-then-start-ge-CLOCK_LIMIT-clause-commits : goal.returns-then-start-g
 returns-then-start-ge-CLOCK_LIMIT-clause-commits g c =
     let at = goal.at.returns-then-start-ge-CLOCK_LIMIT-clause-commits g c in
     let r = c.in_default.ensures.revalidates in
-    let b = c.take_back-then-start-ge-CLOCK_LIMIT.ensures in
-    let z = c.take_back-then-start-ge-CLOCK_LIMIT.new.seat.me.0.view in
+    let b = c.abort-then-start-ge-CLOCK_LIMIT.ensures in
+    let z = c.abort-then-start-ge-CLOCK_LIMIT.new.seat.me.0.view in
     let P = λ (p : Own). answers.Commits (g.K.MemRule.good c.args.stm.now.rule) c.args.stm.now.config c.args.caller
     (commits.ClockFull c.limit-clock.result) (known_of c.args.seat.now.me.0.view (own_of c.args.local.now))
     (known_of z p) in
     subst (λ (q : Local). P (own_of q)) (sym b.idle) (laws.own-moved c.args.local.now c.revalidate.new.local r.local P
     (laws.full-call c.requires.attempt r (own_of c.args.local.now) _ _ z (search rules) (asked g at.After-limit-clock)
-    b.takes_back))
+    b.aborts))
 
 pub returns-then-start-ge-CLOCK_LIMIT-clause-stands : goal.returns-then-start-ge-CLOCK_LIMIT-clause-stands
 returns-then-start-ge-CLOCK_LIMIT-clause-stands g c =
-    let b = c.take_back-then-start-ge-CLOCK_LIMIT.ensures in
+    let b = c.abort-then-start-ge-CLOCK_LIMIT.ensures in
     subst (λ (q : Local). Stands (g.K.MemRule.good c.args.stm.now.rule) c.args.stm.now.config c.args.caller q
-    c.take_back-then-start-ge-CLOCK_LIMIT.new.seat.me.0.view) (sym b.idle)
+    c.abort-then-start-ge-CLOCK_LIMIT.new.seat.me.0.view) (sym b.idle)
     (laws.ended-stands _ _ _ (record c.revalidate.new.local { committing = false }) _
-    (ready g (goal.at.returns-then-start-ge-CLOCK_LIMIT-clause-stands g c).In_default).lengths b.takes_back.outside)
+    (ready g (goal.at.returns-then-start-ge-CLOCK_LIMIT-clause-stands g c).In_default).lengths b.aborts.outside)
 
 pub commit_placed-now-requires-clause-view : goal.commit_placed-now-requires-clause-view
 commit_placed-now-requires-clause-view g c =

@@ -1,11 +1,11 @@
 use Rattle.std.proofs.Common.{ℕ, List, ◌≤◌, ◌≡◌, ◌<◌, ◌+◌, length, refl, sym, ap, ◌∙◌, arith, subst, true, rules}
 use Rattle.stm_model.specs.declared.config.TheConstants.{CLOCK_LIMIT}
 use Rattle.rule_base.specs.declared.seats.SeatView.{SeatView}
-use Rattle.rule_base.specs.declared.views.TrailItem.{TrailItem}
+use Rattle.rule_base.specs.declared.views.TracedStep.{TracedStep}
 use Rattle.rule_base.specs.declared.views.View.{View}
 use Rattle.rule_base.specs.Encodings.{free_record}
 use Rattle.rule_base.specs.History.{over, touches, without}
-use Rattle.rule_promoted.specs.RaisingSteps.{direct_lift}
+use Rattle.rule_promoted.specs.RaisingSteps.{direct_raise_clock}
 use Rattle.steps_orec.specs.RecordFindings.{FindsStill}
 use Rattle.stm_gate.specs.Peeling.{peeled}
 use Rattle.stm_rule.specs.StandLemmas.{tells-of}
@@ -15,7 +15,7 @@ use Rattle.alg_orec.proofs.EagerDirectLaws as laws
 use Rattle.alg_orec.proofs.EagerReleasing.{below-without, up-step}
 use Rattle.alg_orec.proofs.EagerWriteLaws.{seat-then}
 use Rattle.alg_orec.proofs.Releasing.{gives-none, gives-more, gives-all}
-use Rattle.alg_orec.proofs.eager_committing.give_above.Goals.{After-direct_lift, After-item-r}
+use Rattle.alg_orec.proofs.eager_committing.give_above.Goals.{After-direct_raise_clock, After-item-r}
 use Rattle.alg_orec.proofs.eager_committing.give_above.Goals as goal
 
 pub returns-then-count-eq0-clause-gives : goal.returns-then-count-eq0-clause-gives
@@ -29,24 +29,24 @@ overflow_add-least g c =
     let low = newest-low c.args.local.now.locks.items c.args.seat.now.me.0.view.owned.held c.requires.view.locks c.newest-least.result c.newest-least.ensures some c.requires.view.below in
     omega arith
 
-pub direct_lift-requires-clause-view : goal.direct_lift-requires-clause-view
-direct_lift-requires-clause-view g c =
+pub direct_raise_clock-requires-clause-view : goal.direct_raise_clock-requires-clause-view
+direct_raise_clock-requires-clause-view g c =
     let some : 0 < length c.args.local.now.locks.items = search rules in
-    laws.may-lift c.args.stm.now.config c.args.local.now c.args.seat.now.me.0.view c.requires.view some c.newest-least.result c.newest-least.ensures (c.newest-least.result + 1) refl
+    laws.may-raise_clock c.args.stm.now.config c.args.local.now c.args.seat.now.me.0.view c.requires.view some c.newest-least.result c.newest-least.ensures (c.newest-least.result + 1) refl
 
 -- the clock was raised
-lifted : (g : _) (c : After-direct_lift g) → 0 < length c.args.local.now.locks.items → laws.IsLifted c.args.stm.now.config c.args.local.now c.direct_lift.new.seat.me.0.view
-lifted g c some =
+clock_raised : (g : _) (c : After-direct_raise_clock g) → 0 < length c.args.local.now.locks.items → laws.IsClockRaised c.args.stm.now.config c.args.local.now c.direct_raise_clock.new.seat.me.0.view
+clock_raised g c some =
     let f = c.args.stm.now.config in
     let least = c.newest-least.result + 1 in
-    let w = c.direct_lift.new.seat.me.0 in
-    laws.is-lifted f c.args.local.now c.args.seat.now.me.0.view c.requires.view some c.newest-least.result c.newest-least.ensures least c.direct_lift.result w.view
-    (tells-of (direct_lift least) (FindsStill f) c.args.seat.now.me.0 c.direct_lift.result w c.direct_lift.ensures.step)
+    let w = c.direct_raise_clock.new.seat.me.0 in
+    laws.is-clock_raised f c.args.local.now c.args.seat.now.me.0.view c.requires.view some c.newest-least.result c.newest-least.ensures least c.direct_raise_clock.result w.view
+    (tells-of (direct_raise_clock least) (FindsStill f) c.args.seat.now.me.0 c.direct_raise_clock.result w c.direct_raise_clock.ensures.step)
 
 pub loop-i-init : goal.loop-i-init
 loop-i-init g c =
     let some : 0 < length c.args.local.now.locks.items = search rules in
-    let k = lifted g (goal.at.loop-i-init g c).After-direct_lift some in
+    let k = clock_raised g (goal.at.loop-i-init g c).After-direct_raise_clock some in
     record { table = refl; id = refl; bare = refl; gives = gives-none _ _ _ k.locks k.places; below = k.below }
 
 -- the next record is one of those that are held still
@@ -77,7 +77,7 @@ pub direct_release_above-requires-clause-view : goal.direct_release_above-requir
 direct_release_above-requires-clause-view g c =
     let at = goal.at.direct_release_above-requires-clause-view g c in
     let some : 0 < length c.args.local.now.locks.items = search rules in
-    let k = lifted g at.After-direct_lift some in
+    let k = clock_raised g at.After-direct_raise_clock some in
     let p = next g at.After-item-r in
     let is = ap (λ (y : SeatView g.row.K.Denot). y.view) c.loop-i.invariant.gives.seat in
     record {
@@ -104,7 +104,7 @@ loop-i-preserved g c =
       id = e.same.1 ∙ i.id;
       bare = e.same.2 ∙ i.bare;
       gives = gives-more _ _ _ _ s i.gives c.item-r.result low c.count-i-end.ensures.once c.item-r.ensures t above held
-          (up-step c.direct_lift.new.seat.me.0 s t i.gives.more c.item-r.result.0 above (free_record above) e.step.0 i.gives.seat e.step.3);
+          (up-step c.direct_raise_clock.new.seat.me.0 s t i.gives.more c.item-r.result.0 above (free_record above) e.step.0 i.gives.seat e.step.3);
       below = subst (AllBelow CLOCK_LIMIT) (sym held) (below-without CLOCK_LIMIT s.view.owned.held c.item-r.result.0 i.below);
     }
 
@@ -113,17 +113,17 @@ returns-clause-gives g c =
     let f = c.args.stm.now.config in
     let some : 0 < length c.args.local.now.locks.items = search rules in
     let least = c.newest-least.result + 1 in
-    let w = c.direct_lift.new.seat.me.0 in
-    laws.gives-above f c.args.local.now c.args.seat.now.me.0.view c.requires.view some c.newest-least.result c.newest-least.ensures least c.direct_lift.result w.view
-    (tells-of (direct_lift least) (FindsStill f) c.args.seat.now.me.0 c.direct_lift.result w c.direct_lift.ensures.step) c.loop-i.seat.me.0.view
+    let w = c.direct_raise_clock.new.seat.me.0 in
+    laws.gives-above f c.args.local.now c.args.seat.now.me.0.view c.requires.view some c.newest-least.result c.newest-least.ensures least c.direct_raise_clock.result w.view
+    (tells-of (direct_raise_clock least) (FindsStill f) c.args.seat.now.me.0 c.direct_raise_clock.result w c.direct_raise_clock.ensures.step) c.loop-i.seat.me.0.view
     (gives-all _ _ _ _ _ c.loop-i.invariant.gives (omega (arith, c.loop-i-test.false, c.count-i-end.ensures.count)))
 
 pub returns-clause-same : goal.returns-clause-same
 returns-clause-same g c =
     let i = c.loop-i.invariant in
-    let e = c.direct_lift.ensures in
+    let e = c.direct_raise_clock.ensures in
     let s = c.args.seat.now.me.0 in
-    let u = c.direct_lift.new.seat.me.0 in
+    let u = c.direct_raise_clock.new.seat.me.0 in
     let w = c.loop-i.seat.me.0 in (
       (i.table ∙ e.same.0, i.id ∙ e.same.1, i.bare ∙ e.same.2),
       seat-then s u w
@@ -136,9 +136,9 @@ returns-clause-steps g c =
     let f = c.args.stm.now.config in
     let some : 0 < length c.args.local.now.locks.items = search rules in
     let least = c.newest-least.result + 1 in
-    let w = c.direct_lift.new.seat.me.0 in
-    let lift = ap (λ (t : List TrailItem). length t) (laws.lift-trail f c.args.local.now c.args.seat.now.me.0.view c.requires.view some c.newest-least.result c.newest-least.ensures least c.direct_lift.result w.view
-    (tells-of (direct_lift least) (FindsStill f) c.args.seat.now.me.0 c.direct_lift.result w c.direct_lift.ensures.step)) in
+    let w = c.direct_raise_clock.new.seat.me.0 in
+    let raise_clock = ap (λ (t : List TracedStep). length t) (laws.raise_clock-step_trace f c.args.local.now c.args.seat.now.me.0.view c.requires.view some c.newest-least.result c.newest-least.ensures least c.direct_raise_clock.result w.view
+    (tells-of (direct_raise_clock least) (FindsStill f) c.args.seat.now.me.0 c.direct_raise_clock.result w c.direct_raise_clock.ensures.step)) in
     let q = c.loop-i.invariant.gives.steps in
     let most : c.loop-i.i ≤ length c.args.local.now.locks.items = omega (arith, c.loop-i.auto.i-end, c.count-i-end.ensures) in
     omega arith

@@ -1,5 +1,5 @@
 use Rattle.std.proofs.Common.{◌≡◌, ◌<◌, ◌+◌, length, refl, arith, rules}
-use Rattle.rule_orec.specs.OrecSteps.{orec_lift}
+use Rattle.rule_orec.specs.OrecSteps.{orec_raise_clock}
 use Rattle.stm_rule.specs.StandLemmas.{tells-of}
 use Rattle.steps_orec.specs.RecordFindings.{FindsClock}
 use Rattle.alg_orec.proofs.EagerBackLaws as laws
@@ -19,10 +19,10 @@ overflow_add-least g c =
     let low = laws.low c.args.stm.now.config c.args.local.now c.args.seat.now.me.0.view c.requires.view some c.newest-least.result c.newest-least.ensures c.restore_all.new.seat.me.0.view c.restore_all.ensures.restores in
     omega arith
 
-pub lift-requires-clause-view : goal.lift-requires-clause-view
-lift-requires-clause-view g c =
+pub raise_clock-requires-clause-view : goal.raise_clock-requires-clause-view
+raise_clock-requires-clause-view g c =
     let some : 0 < length c.args.local.now.locks.items = search rules in
-    laws.may-lift c.args.stm.now.config c.args.local.now c.args.seat.now.me.0.view c.requires.view some c.newest-least.result c.newest-least.ensures c.restore_all.new.seat.me.0.view c.restore_all.ensures.restores (c.newest-least.result + 1) refl
+    laws.may-raise_clock c.args.stm.now.config c.args.local.now c.args.seat.now.me.0.view c.requires.view some c.newest-least.result c.newest-least.ensures c.restore_all.new.seat.me.0.view c.restore_all.ensures.restores (c.newest-least.result + 1) refl
 
 pub release_all_above-requires-clause-view : goal.release_all_above-requires-clause-view
 release_all_above-requires-clause-view g c =
@@ -30,9 +30,9 @@ release_all_above-requires-clause-view g c =
     let some : 0 < length c.args.local.now.locks.items = search rules in
     let u = c.restore_all.new.seat.me.0 in
     let least = c.newest-least.result + 1 in
-    let w = c.lift.new.seat.me.0 in
-    laws.may-release f c.args.local.now c.args.seat.now.me.0.view c.requires.view some c.newest-least.result c.newest-least.ensures u.view c.restore_all.ensures.restores least c.lift.result w.view
-    (tells-of (orec_lift least) (FindsClock f) u c.lift.result w c.lift.ensures.step)
+    let w = c.raise_clock.new.seat.me.0 in
+    laws.may-release f c.args.local.now c.args.seat.now.me.0.view c.requires.view some c.newest-least.result c.newest-least.ensures u.view c.restore_all.ensures.restores least c.raise_clock.result w.view
+    (tells-of (orec_raise_clock least) (FindsClock f) u c.raise_clock.result w c.raise_clock.ensures.step)
 
 pub returns-clause-gives_back : goal.returns-clause-gives_back
 returns-clause-gives_back g c =
@@ -40,6 +40,6 @@ returns-clause-gives_back g c =
     let some : 0 < length c.args.local.now.locks.items = search rules in
     let u = c.restore_all.new.seat.me.0 in
     let least = c.newest-least.result + 1 in
-    let w = c.lift.new.seat.me.0 in
-    laws.gives-all f c.args.local.now c.args.seat.now.me.0.view c.requires.view some c.newest-least.result c.newest-least.ensures u.view c.restore_all.ensures.restores least c.lift.result w.view
-    (tells-of (orec_lift least) (FindsClock f) u c.lift.result w c.lift.ensures.step) c.release_all_above.new.seat.me.0.view c.release_all_above.ensures.releases
+    let w = c.raise_clock.new.seat.me.0 in
+    laws.gives-all f c.args.local.now c.args.seat.now.me.0.view c.requires.view some c.newest-least.result c.newest-least.ensures u.view c.restore_all.ensures.restores least c.raise_clock.result w.view
+    (tells-of (orec_raise_clock least) (FindsClock f) u c.raise_clock.result w c.raise_clock.ensures.step) c.release_all_above.new.seat.me.0.view c.release_all_above.ensures.releases

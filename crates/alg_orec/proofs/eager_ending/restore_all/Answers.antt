@@ -60,7 +60,7 @@ loop-i-preserved g c =
       more = restore_item a x ∷ i.more;
       seat = restored-step c.args.seat.now.me.0 s t i.more a x x step.0 i.seat step.3;
       ahead = subst (λ (cs : List Cell). IsAhead (c.loop-i.i + 1) us cs) (sym in_place) (ahead-more us c.loop-i.i s.view.owned.in_place c.item-a.result (omega (arith, c.loop-i-test.true, c.count-i-end.ensures.count)) c.item-a.ensures i.ahead);
-      steps = (let l = ap (λ (y : SeatView g.row.K.Denot). length y.view.steps.trail) step.3 in let q = i.steps in omega arith);
+      steps = (let l = ap (λ (y : SeatView g.row.K.Denot). length y.view.steps.step_trace) step.3 in let q = i.steps in omega arith);
     }
 
 pub returns-clause-restores : goal.returns-clause-restores

@@ -5,7 +5,7 @@ use Rattle.stm_rule.specs.declared.local.Local.{Local}
 use Rattle.stm_rule.specs.Attempts.{own_of}
 use Rattle.stm_rule.specs.Callers.{Handle}
 use Rattle.tx_answers.specs.declared.answers.Irrev.TheVariants as irrevs
-use Rattle.tx_answers.specs.Known.{Known, known_of}
+use Rattle.tx_answers.specs.CallerState.{CallerState, known_of}
 use Rattle.stm_gate.specs.Granting.{Grants}
 use Rattle.stm_gate.specs.Knowing.{known}
 use Rattle.stm_gate.specs.Opening.{opened, stands-after, tells-of}
@@ -20,26 +20,26 @@ grant_reads-requires-clause-attempt g c =
     let can = can-grant g.K.MemRule.good c.args.stm.now a c.requires.running OrecEager refl c.requires.algorithm c.requires.revocable c.requires.alone in
     laws.may-promote can
 
-pub take_back-requires-clause-view : goal.take_back-requires-clause-view
-take_back-requires-clause-view g c =
+pub abort-requires-clause-view : goal.abort-requires-clause-view
+abort-requires-clause-view g c =
     let a = opened g.K.MemRule.good c.args.stm.now c.desc.inside.number c.desc.inside.local c.desc.view_is refl c.desc.invariant.0.named c.desc.invariant.0.low c.desc.invariant.1 c.requires.stm in
     let can = can-grant g.K.MemRule.good c.args.stm.now a c.requires.running OrecEager refl c.requires.algorithm c.requires.revocable c.requires.alone in
-    laws.may-take_back can c.in-Err.ensures.promotes
+    laws.may-abort can c.in-Err.ensures.promotes
 
-pub take_back-requires-clause-holds : goal.take_back-requires-clause-holds
-take_back-requires-clause-holds g c =
+pub abort-requires-clause-holds : goal.abort-requires-clause-holds
+abort-requires-clause-holds g c =
     let a = opened g.K.MemRule.good c.args.stm.now c.desc.inside.number c.desc.inside.local c.desc.view_is refl c.desc.invariant.0.named c.desc.invariant.0.low c.desc.invariant.1 c.requires.stm in
     let can = can-grant g.K.MemRule.good c.args.stm.now a c.requires.running OrecEager refl c.requires.algorithm c.requires.revocable c.requires.alone in
     holds-kept can refl c.in-Err.ensures.promotes c.desc.invariant.1.holds
 
-pub take_back-requires-clause-named : goal.take_back-requires-clause-named
-take_back-requires-clause-named g c =
+pub abort-requires-clause-named : goal.abort-requires-clause-named
+abort-requires-clause-named g c =
     let a = opened g.K.MemRule.good c.args.stm.now c.desc.inside.number c.desc.inside.local c.desc.view_is refl c.desc.invariant.0.named c.desc.invariant.0.low c.desc.invariant.1 c.requires.stm in
     let can = can-grant g.K.MemRule.good c.args.stm.now a c.requires.running OrecEager refl c.requires.algorithm c.requires.revocable c.requires.alone in
     named-kept can refl c.in-Err.ensures.promotes
 
-pub take_back-requires-clause-fence : goal.take_back-requires-clause-fence
-take_back-requires-clause-fence g c =
+pub abort-requires-clause-fence : goal.abort-requires-clause-fence
+abort-requires-clause-fence g c =
     let a = opened g.K.MemRule.good c.args.stm.now c.desc.inside.number c.desc.inside.local c.desc.view_is refl c.desc.invariant.0.named c.desc.invariant.0.low c.desc.invariant.1 c.requires.stm in
     let can = can-grant g.K.MemRule.good c.args.stm.now a c.requires.running OrecEager refl c.requires.algorithm c.requires.revocable c.requires.alone in
     fence-kept can refl c.in-Err.ensures.promotes
@@ -48,15 +48,15 @@ pub returns-in-Err-clause-grants : goal.returns-in-Err-clause-grants
 returns-in-Err-clause-grants g c =
     let a = opened g.K.MemRule.good c.args.stm.now c.desc.inside.number c.desc.inside.local c.desc.view_is refl c.desc.invariant.0.named c.desc.invariant.0.low c.desc.invariant.1 c.requires.stm in
     let can = can-grant g.K.MemRule.good c.args.stm.now a c.requires.running OrecEager refl c.requires.algorithm c.requires.revocable c.requires.alone in
-    tells-of _ _ a (λ (n : ℕ) (v w : Known). Grants (g.K.MemRule.good c.args.stm.now.rule) c.args.stm.now.config n c.in-Err.refusal v w) (known_of c.take_back.new.seat.me.0.view (own_of c.take_back.new.local))
-    (laws.tells-refused can c.in-Err.ensures.promotes _ _ c.take_back.ensures.idle c.take_back.ensures.takes_back)
+    tells-of _ _ a (λ (n : ℕ) (v w : CallerState). Grants (g.K.MemRule.good c.args.stm.now.rule) c.args.stm.now.config n c.in-Err.refusal v w) (known_of c.abort.new.seat.me.0.view (own_of c.abort.new.local))
+    (laws.tells-refused can c.in-Err.ensures.promotes _ _ c.abort.ensures.idle c.abort.ensures.aborts)
 
 pub returns-clause-grants : goal.returns-clause-grants
 returns-clause-grants g c =
     let a = opened g.K.MemRule.good c.args.stm.now c.desc.inside.number c.desc.inside.local c.desc.view_is refl c.desc.invariant.0.named c.desc.invariant.0.low c.desc.invariant.1 c.requires.stm in
     let can = can-grant g.K.MemRule.good c.args.stm.now a c.requires.running OrecEager refl c.requires.algorithm c.requires.revocable c.requires.alone in
     let m : Local = record c.grant_reads.new.local { granted = true } in
-    tells-of _ _ a (λ (n : ℕ) (v w : Known). Grants (g.K.MemRule.good c.args.stm.now.rule) c.args.stm.now.config n irrevs.Granted v w) (known_of c.grant_reads.new.seat.me.0.view (own_of m))
+    tells-of _ _ a (λ (n : ℕ) (v w : CallerState). Grants (g.K.MemRule.good c.args.stm.now.rule) c.args.stm.now.config n irrevs.Granted v w) (known_of c.grant_reads.new.seat.me.0.view (own_of m))
     (laws.tells-granted can c.in_default.ensures.promotes m (ap (λ (x : Local). record x { granted = true }) c.in_default.ensures.promotes.local))
 
 pub invariant_of-desc-2 : goal.invariant_of-desc-2
@@ -73,11 +73,11 @@ returns-in-Err-clause-steps g c =
     let a = opened g.K.MemRule.good c.args.stm.now c.desc.inside.number c.desc.inside.local c.desc.view_is refl c.desc.invariant.0.named c.desc.invariant.0.low c.desc.invariant.1 c.requires.stm in
     let can = can-grant g.K.MemRule.good c.args.stm.now a c.requires.running OrecEager refl c.requires.algorithm c.requires.revocable c.requires.alone in
     let within : length c.desc.inside.local.locks.items ≤ c.desc.inside.local.undo.len = held-within f c.desc.inside.local c.desc.inside.seat.me.0.view (eager-of _ f _ _ _ can.inside can.named can.plain) in
-    let first = ap (λ (p : Handle g.row.K.Denot). length (known p).trail) c.desc.view_is in
+    let first = ap (λ (p : Handle g.row.K.Denot). length (known p).step_trace) c.desc.view_is in
     let words = ap (λ (p : Handle g.row.K.Denot). (known p).writes_limit) c.desc.view_is in
     let reads = ap (λ (p : Handle g.row.K.Denot). (known p).reads_limit) c.desc.view_is in
     let locks = ap (λ (x : Local). length x.locks.items) c.in-Err.ensures.promotes.local in
     let undo = ap (λ (x : Local). x.undo.len) c.in-Err.ensures.promotes.local in
     let validated = c.grant_reads.ensures.steps in
-    let back = c.take_back.ensures.steps in
+    let back = c.abort.ensures.steps in
     omega arith

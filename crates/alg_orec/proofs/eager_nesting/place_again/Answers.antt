@@ -54,7 +54,7 @@ loop-i-preserved g c =
       table = same.0 ∙ i.table;
       id = same.1 ∙ i.id;
       bare = same.2 ∙ i.bare;
-      steps = (let l = ap (λ (y : SeatView g.row.K.Denot). length y.view.steps.trail) step.3 in let q = i.steps in omega arith);
+      steps = (let l = ap (λ (y : SeatView g.row.K.Denot). length y.view.steps.step_trace) step.3 in let q = i.steps in omega arith);
       more = restore_item a x ∷ i.more;
       seat = again-step c.args.seat.now.me.0 s t i.more a x x step.0 i.seat step.3;
       in_place = ap (λ (y : SeatView g.row.K.Denot). items y.view.owned.in_place) step.3

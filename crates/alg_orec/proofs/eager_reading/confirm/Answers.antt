@@ -11,7 +11,7 @@ use Rattle.stm_rule.specs.Kept.{good_of}
 use Rattle.stm_rule.specs.StandLemmas.{tells-of}
 use Rattle.steps_orec.specs.RecordFindings.{FindsAgain}
 use Rattle.tx_answers.specs.declared.answers.Read.TheVariants as reads
-use Rattle.tx_answers.specs.Known.{Known}
+use Rattle.tx_answers.specs.CallerState.{CallerState}
 use Rattle.stm_gate.specs.Opening.{of-view, of-seen}
 use Rattle.alg_orec.proofs.EagerOpening.{EagerOpening, answers-read, counts, opens-eager, stays-read}
 use Rattle.alg_orec.proofs.RecordOpening.{answers-ended, place-here}
@@ -40,9 +40,9 @@ confirm-after-requires-clause-view g c =
     let at = (goal.at.confirm-after-requires-clause-view g c).After-desc in
     laws.may-confirm _ _ _ _ _ (opened g at).runs _ _ _ c.requires.inside (loaded g at)
 
-pub take_back-requires-clause-view : goal.take_back-requires-clause-view
-take_back-requires-clause-view g c =
-    let at = goal.at.take_back-requires-clause-view g c in
+pub abort-requires-clause-view : goal.abort-requires-clause-view
+abort-requires-clause-view g c =
+    let at = goal.at.abort-requires-clause-view g c in
     laws.may-take-moved _ _ _ _ _ (opened g at.After-desc).runs _ _ _ c.requires.inside (loaded g at.After-desc) c.confirm-after.result _ (again g at.After-confirm-after) (search rules)
 
 pub returns-then-after-word-clause-confirms : goal.returns-then-after-word-clause-confirms
@@ -50,8 +50,8 @@ returns-then-after-word-clause-confirms g c =
     let at = goal.at.returns-then-after-word-clause-confirms g c in
     let o = opened g at.After-desc in
     let cause = causes.Moved (c.args.a % c.args.stm.now.config.records) c.args.word c.confirm-after.result in
-    answers-ended _ _ o.call (λ (n : ℕ) (v w : Known). Confirms (g.K.MemRule.good c.args.stm.now.rule) c.args.stm.now.config n c.args.a c.args.word c.args.x (reads.Conflict cause) v w) c.take_back.new.seat.me.0.view _ c.take_back.ensures.idle
-    (laws.finds-moved _ _ _ _ _ o.runs _ _ _ c.requires.inside (loaded g at.After-desc) c.confirm-after.result _ (again g at.After-confirm-after) (search rules) o.call.opening.low _ c.take_back.ensures.takes_back)
+    answers-ended _ _ o.call (λ (n : ℕ) (v w : CallerState). Confirms (g.K.MemRule.good c.args.stm.now.rule) c.args.stm.now.config n c.args.a c.args.word c.args.x (reads.Conflict cause) v w) c.abort.new.seat.me.0.view _ c.abort.ensures.idle
+    (laws.finds-moved _ _ _ _ _ o.runs _ _ _ c.requires.inside (loaded g at.After-desc) c.confirm-after.result _ (again g at.After-confirm-after) (search rules) o.call.opening.low _ c.abort.ensures.aborts)
 
 pub push_at-requires-clause-place : goal.push_at-requires-clause-place
 push_at-requires-clause-place g c =
@@ -83,6 +83,6 @@ returns-clause-confirms g c =
 pub returns-then-after-word-clause-steps : goal.returns-then-after-word-clause-steps
 returns-then-after-word-clause-steps g c =
     let k = counts _ _ (opened g (goal.at.returns-then-after-word-clause-steps g c).After-desc) in
-    let step = ap (λ (y : SeatView g.row.K.Denot). length y.view.steps.trail) c.confirm-after.ensures.step.3 in
-    let back = c.take_back.ensures.steps in
+    let step = ap (λ (y : SeatView g.row.K.Denot). length y.view.steps.step_trace) c.confirm-after.ensures.step.3 in
+    let back = c.abort.ensures.steps in
     omega arith

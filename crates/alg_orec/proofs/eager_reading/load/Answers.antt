@@ -6,7 +6,7 @@ use Rattle.rule_orec.specs.OrecSteps.{orec_load}
 use Rattle.stm_rule.specs.Attempts.{own_of}
 use Rattle.stm_rule.specs.Callers.{handle_of}
 use Rattle.stm_rule.specs.StandLemmas.{tells-of}
-use Rattle.tx_answers.specs.Known.{Known}
+use Rattle.tx_answers.specs.CallerState.{CallerState}
 use Rattle.stm_gate.specs.Opening.{of-view, of-seen, shows}
 use Rattle.alg_orec.proofs.EagerOpening.{EagerOpening, opens-eager}
 use Rattle.alg_orec.proofs.RecordOpening.{stays-tied}
@@ -39,7 +39,7 @@ pub returns-clause-goes : goal.returns-clause-goes
 returns-clause-goes g c =
     let at = goal.at.returns-clause-goes g c in
     let o = opened g at.After-desc in
-    shows _ _ o.call.opening (λ (n : ℕ) (v w : Known). GoesOnReading (g.K.MemRule.good c.args.stm.now.rule) c.args.stm.now.config n c.args.a (load_of (Heap c.args.a) c.load.result ∷ []) v w) c.load.new.seat.me.0.view c.desc.inside.local refl
+    shows _ _ o.call.opening (λ (n : ℕ) (v w : CallerState). GoesOnReading (g.K.MemRule.good c.args.stm.now.rule) c.args.stm.now.config n c.args.a (load_of (Heap c.args.a) c.load.result ∷ []) v w) c.load.new.seat.me.0.view c.desc.inside.local refl
     (laws.reads-loaded _ _ _ _ _ o.runs c.args.a c.load.result _ (loaded g at.After-load) (of-view _ _ o.call.opening (λ n v. IsNew c.args.a v) c.requires.fresh))
 
 pub returns-clause-loads : goal.returns-clause-loads

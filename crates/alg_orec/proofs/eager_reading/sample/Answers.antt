@@ -8,7 +8,7 @@ use Rattle.stm_rule.specs.Attempts.{own_of}
 use Rattle.stm_rule.specs.Callers.{handle_of}
 use Rattle.tx_answers.specs.declared.answers.Read.TheVariants as reads
 use Rattle.tx_answers.specs.Answers.{HasRead}
-use Rattle.tx_answers.specs.Known.{Known, known_of}
+use Rattle.tx_answers.specs.CallerState.{CallerState, known_of}
 use Rattle.stm_gate.specs.Opening.{is-known, shows}
 use Rattle.alg_orec.proofs.EagerLaws as eager
 use Rattle.alg_orec.proofs.EagerOpening.{EagerOpening, counts, opens-eager}
@@ -33,14 +33,14 @@ pub returns-then-count-limit-clause-samples : goal.returns-then-count-limit-clau
 returns-then-count-limit-clause-samples g c =
     let at = (goal.at.returns-then-count-limit-clause-samples g c).After-desc in
     let o = opened g at in
-    answers-ended _ _ o.call (λ (n : ℕ) (v w : Known). HasRead (g.K.MemRule.good c.args.stm.now.rule) c.args.stm.now.config n c.args.a (reads.Full c.len-limit.result) v w) c.take_back.new.seat.me.0.view _ c.take_back.ensures.idle
-    (rw c.len-limit.ensures (records.reads-full (eager.reading _ _ _ _ _ o.runs) c.args.a _ (unlogged g at).0 (unlogged g at).1 (search rules) (eager.quits-here _ _ _ _ _ o.runs _ c.take_back.ensures.takes_back)))
+    answers-ended _ _ o.call (λ (n : ℕ) (v w : CallerState). HasRead (g.K.MemRule.good c.args.stm.now.rule) c.args.stm.now.config n c.args.a (reads.Full c.len-limit.result) v w) c.abort.new.seat.me.0.view _ c.abort.ensures.idle
+    (rw c.len-limit.ensures (records.reads-full (eager.reading _ _ _ _ _ o.runs) c.args.a _ (unlogged g at).0 (unlogged g at).1 (search rules) (eager.quits-here _ _ _ _ _ o.runs _ c.abort.ensures.aborts)))
 
-pub take_back-requires-clause-view : goal.take_back-requires-clause-view
-take_back-requires-clause-view g c = eager.may-take-here _ _ _ _ _ (opened g (goal.at.take_back-requires-clause-view g c).After-desc).runs
+pub abort-requires-clause-view : goal.abort-requires-clause-view
+abort-requires-clause-view g c = eager.may-take-here _ _ _ _ _ (opened g (goal.at.abort-requires-clause-view g c).After-desc).runs
 
-pub take_back-requires-clause-named : goal.take_back-requires-clause-named
-take_back-requires-clause-named g c = sym (opened g (goal.at.take_back-requires-clause-named g c).After-desc).runs.inside.named
+pub abort-requires-clause-named : goal.abort-requires-clause-named
+abort-requires-clause-named g c = sym (opened g (goal.at.abort-requires-clause-named g c).After-desc).runs.inside.named
 
 pub returns-then-is_some-clause-samples : goal.returns-then-is_some-clause-samples
 returns-then-is_some-clause-samples g c =
@@ -49,7 +49,7 @@ returns-then-is_some-clause-samples g c =
     let some : is_some (item_at (c.args.a % c.args.stm.now.config.records) c.desc.inside.local.locks.items) ≡ true = search rules in (
       refl,
       subst (λ (v : View). HoldsRecord c.args.stm.now.config c.args.a v) (sym o.call.opening.view) (taking.held-where _ _ _ o.runs.kept.locks some),
-      is-known _ _ o.call.opening (λ (n : ℕ) (v : Known). IsNew c.args.a v) (fresh g at (search rules)),
+      is-known _ _ o.call.opening (λ (n : ℕ) (v : CallerState). IsNew c.args.a v) (fresh g at (search rules)),
     )
 
 pub sample_valid-requires-clause-view : goal.sample_valid-requires-clause-view
@@ -72,26 +72,26 @@ returns-in-Ok-clause-samples g c =
     let at = (goal.at.returns-in-Ok-clause-samples g c).After-desc in
     let o = opened g at in
     let sampled = c.in-Ok.ensures.samples in (
-      shows _ _ o.call.opening (λ (n : ℕ) (v w : Known). FindsFree (g.K.MemRule.good c.args.stm.now.rule) c.args.stm.now.config n c.args.a c.in-Ok.word v w) c.sample_valid.new.seat.me.0.view c.sample_valid.new.local (ap own_of sampled.local)
+      shows _ _ o.call.opening (λ (n : ℕ) (v w : CallerState). FindsFree (g.K.MemRule.good c.args.stm.now.rule) c.args.stm.now.config n c.args.a c.in-Ok.word v w) c.sample_valid.new.seat.me.0.view c.sample_valid.new.local (ap own_of sampled.local)
           (laws.finds-free _ _ _ _ _ o.runs c.args.a c.in-Ok.word _ _ sampled (fresh g at (search rules))),
       laws.is-sampled _ _ _ _ _ o.runs c.args.a c.in-Ok.word _ _ sampled,
     )
 
-pub take_back-requires-in-Err-clause-view : goal.take_back-requires-in-Err-clause-view
-take_back-requires-in-Err-clause-view g c = eager.may-take-refused _ _ _ _ _ (opened g (goal.at.take_back-requires-in-Err-clause-view g c).After-desc).runs c.args.a c.in-Err.cause _ _ c.in-Err.ensures.samples
+pub abort-requires-in-Err-clause-view : goal.abort-requires-in-Err-clause-view
+abort-requires-in-Err-clause-view g c = eager.may-take-refused _ _ _ _ _ (opened g (goal.at.abort-requires-in-Err-clause-view g c).After-desc).runs c.args.a c.in-Err.cause _ _ c.in-Err.ensures.samples
 
 pub returns-in-Err-clause-samples : goal.returns-in-Err-clause-samples
 returns-in-Err-clause-samples g c =
     let at = (goal.at.returns-in-Err-clause-samples g c).After-desc in
     let o = opened g at in
     let refused = c.in-Err.ensures.samples in
-    answers-moved _ _ o.call (λ (n : ℕ) (v w : Known). HasRead (g.K.MemRule.good c.args.stm.now.rule) c.args.stm.now.config n c.args.a (reads.Conflict c.in-Err.cause) v w) c.sample_valid.new.local c.take_back-in-Err.new.seat.me.0.view _ refused.local c.take_back-in-Err.ensures.idle
-    (eager.reads-refused _ _ _ _ _ o.runs c.args.a c.in-Err.cause _ _ _ (unlogged g at).0 (unlogged g at).1 (search rules) refused c.take_back-in-Err.ensures.takes_back)
+    answers-moved _ _ o.call (λ (n : ℕ) (v w : CallerState). HasRead (g.K.MemRule.good c.args.stm.now.rule) c.args.stm.now.config n c.args.a (reads.Conflict c.in-Err.cause) v w) c.sample_valid.new.local c.abort-in-Err.new.seat.me.0.view _ refused.local c.abort-in-Err.ensures.idle
+    (eager.reads-refused _ _ _ _ _ o.runs c.args.a c.in-Err.cause _ _ _ (unlogged g at).0 (unlogged g at).1 (search rules) refused c.abort-in-Err.ensures.aborts)
 
 pub returns-then-count-limit-clause-steps : goal.returns-then-count-limit-clause-steps
 returns-then-count-limit-clause-steps g c =
     let k = counts _ _ (opened g (goal.at.returns-then-count-limit-clause-steps g c).After-desc) in
-    let back = c.take_back.ensures.steps in
+    let back = c.abort.ensures.steps in
     omega arith
 
 pub returns-in-Err-clause-steps : goal.returns-in-Err-clause-steps
@@ -101,5 +101,5 @@ returns-in-Err-clause-steps g c =
     let locks = ap (λ (x : Local). length x.locks.items) m in
     let undo = ap (λ (x : Local). x.undo.len) m in
     let sampled = c.sample_valid.ensures.steps in
-    let back = c.take_back-in-Err.ensures.steps in
+    let back = c.abort-in-Err.ensures.steps in
     omega arith

@@ -10,7 +10,7 @@ use Rattle.stm_rule.specs.RecordsKept.{cells_of}
 use Rattle.steps_orec.specs.RecordFindings.{FindsClock, FindsCommit}
 use Rattle.tx_answers.specs.declared.answers.Commit.TheVariants as commits
 use Rattle.tx_answers.specs.Answers as answers
-use Rattle.tx_answers.specs.Known.{known_of}
+use Rattle.tx_answers.specs.CallerState.{known_of}
 use Rattle.alg_orec.specs.Committing.{CanCommit}
 use Rattle.alg_orec.proofs.LazyEntryLaws as laws
 use Rattle.alg_orec.proofs.Proving.{own-ready, own-stopped, lazy-of}
@@ -47,46 +47,46 @@ tried : (g : _) (c : After-commit-now g) → let ws = cells_of c.prepare.new.loc
     c.prepare.new.seat.me.0.view c.commit-now.result c.commit-now.new.seat.me.0.view
 tried g c = let h = c.commit-now.ensures.step in (h.0, h.1, ap (λ (x : SeatView g.row.K.Denot). x.view) h.3)
 
-pub roll_back-requires-clause-view : goal.roll_back-requires-clause-view
-roll_back-requires-clause-view g c = c.in-Err.ensures.prepares.can
+pub abort-requires-clause-view : goal.abort-requires-clause-view
+abort-requires-clause-view g c = c.in-Err.ensures.prepares.can
 
-pub roll_back-requires-clause-holds : goal.roll_back-requires-clause-holds
-roll_back-requires-clause-holds g c = let s = c.in-Err.ensures.prepares in ap (λ (q : Local). q.holds) s.local
+pub abort-requires-clause-holds : goal.abort-requires-clause-holds
+abort-requires-clause-holds g c = let s = c.in-Err.ensures.prepares in ap (λ (q : Local). q.holds) s.local
     ∙ (c.requires.attempt.holds ∙ sym (ap (λ h. h.holds) s.gate))
 
-pub roll_back-requires-clause-named : goal.roll_back-requires-clause-named
-roll_back-requires-clause-named g c = let s = c.in-Err.ensures.prepares in ap (λ (q : Local). q.algorithm) s.local
+pub abort-requires-clause-named : goal.abort-requires-clause-named
+abort-requires-clause-named g c = let s = c.in-Err.ensures.prepares in ap (λ (q : Local). q.algorithm) s.local
     ∙ (sym c.requires.attempt.inside.named ∙ sym (ap (λ h. h.algorithm) s.gate))
 
 pub returns-in-Err-clause-commits : goal.returns-in-Err-clause-commits
 returns-in-Err-clause-commits g c =
     let l = c.args.local.now in
-    let z = c.roll_back.new.seat.me.0.view in
+    let z = c.abort.new.seat.me.0.view in
     let s = c.in-Err.ensures.prepares in
     let P = λ (p : Own). answers.Commits (g.K.MemRule.good c.args.stm.now.rule) c.args.stm.now.config c.args.caller
     (commits.Conflict c.in-Err.cause) (known_of c.args.seat.now.me.0.view (own_of l)) (known_of z p) in
-    subst (λ (q : Local). P (own_of q)) (sym c.roll_back.ensures.idle) (own-stopped l c.prepare.new.local s.local P
+    subst (λ (q : Local). P (own_of q)) (sym c.abort.ensures.idle) (own-stopped l c.prepare.new.local s.local P
     (laws.tells-stopped _ _ _ c.requires.caller _ _ c.requires.attempt (own_of l) refl refl c.in-Err.cause _ _ z s
-    c.roll_back.ensures.gives_up))
+    c.abort.ensures.gives_up))
 
 pub returns-in-Err-clause-stands : goal.returns-in-Err-clause-stands
 returns-in-Err-clause-stands g c =
     let m = c.prepare.new.local in
     let s = c.in-Err.ensures.prepares in
     subst (λ (q : Local). Stands (g.K.MemRule.good c.args.stm.now.rule) c.args.stm.now.config c.args.caller q
-    c.roll_back.new.seat.me.0.view) (sym c.roll_back.ensures.idle)
+    c.abort.new.seat.me.0.view) (sym c.abort.ensures.idle)
     (laws.ended-stands _ _ _ (record m { committing = false }) _
     (laws.stopped-lengths c.args.local.now m s.local s.len c.requires.attempt.lengths)
-    c.roll_back.ensures.gives_up.outside)
+    c.abort.ensures.gives_up.outside)
 
 pub limit-clock-requires-clause-view : goal.limit-clock-requires-clause-view
 limit-clock-requires-clause-view g c =
     let a = (goal.at.limit-clock-requires-clause-view g c).In_default in
     laws.has-orec _ _ _ c.requires.caller _ _ (ready g a) (own_of c.args.local.now) (buffered g a)
 
-pub roll_back-requires-then-start-ge-CLOCK_LIMIT-clause-view : goal.roll_back-requires-then-start-ge-CLOCK_LIMIT-clause-view
-roll_back-requires-then-start-ge-CLOCK_LIMIT-clause-view g c =
-    let at = goal.at.roll_back-requires-then-start-ge-CLOCK_LIMIT-clause-view g c in
+pub abort-requires-then-start-ge-CLOCK_LIMIT-clause-view : goal.abort-requires-then-start-ge-CLOCK_LIMIT-clause-view
+abort-requires-then-start-ge-CLOCK_LIMIT-clause-view g c =
+    let at = goal.at.abort-requires-then-start-ge-CLOCK_LIMIT-clause-view g c in
     laws.may-roll _ _ _ c.requires.caller _ _ (ready g at.In_default) (own_of c.args.local.now)
     (buffered g at.In_default) c.prepare.new.local.committing _ _ (asked g at.After-limit-clock)
 
@@ -94,8 +94,8 @@ pub returns-then-start-ge-CLOCK_LIMIT-clause-commits : goal.returns-then-start-g
 returns-then-start-ge-CLOCK_LIMIT-clause-commits g c =
     let at = goal.at.returns-then-start-ge-CLOCK_LIMIT-clause-commits g c in
     let r = c.in_default.ensures.prepares in
-    let b = c.roll_back-then-start-ge-CLOCK_LIMIT.ensures in
-    let z = c.roll_back-then-start-ge-CLOCK_LIMIT.new.seat.me.0.view in
+    let b = c.abort-then-start-ge-CLOCK_LIMIT.ensures in
+    let z = c.abort-then-start-ge-CLOCK_LIMIT.new.seat.me.0.view in
     let P = λ (p : Own). answers.Commits (g.K.MemRule.good c.args.stm.now.rule) c.args.stm.now.config c.args.caller
     (commits.ClockFull c.limit-clock.result) (known_of c.args.seat.now.me.0.view (own_of c.args.local.now))
     (known_of z p) in
@@ -105,9 +105,9 @@ returns-then-start-ge-CLOCK_LIMIT-clause-commits g c =
 
 pub returns-then-start-ge-CLOCK_LIMIT-clause-stands : goal.returns-then-start-ge-CLOCK_LIMIT-clause-stands
 returns-then-start-ge-CLOCK_LIMIT-clause-stands g c =
-    let b = c.roll_back-then-start-ge-CLOCK_LIMIT.ensures in
+    let b = c.abort-then-start-ge-CLOCK_LIMIT.ensures in
     subst (λ (q : Local). Stands (g.K.MemRule.good c.args.stm.now.rule) c.args.stm.now.config c.args.caller q
-    c.roll_back-then-start-ge-CLOCK_LIMIT.new.seat.me.0.view) (sym b.idle)
+    c.abort-then-start-ge-CLOCK_LIMIT.new.seat.me.0.view) (sym b.idle)
     (laws.ended-stands _ _ _ (record c.prepare.new.local { committing = false }) _
     (ready g (goal.at.returns-then-start-ge-CLOCK_LIMIT-clause-stands g c).In_default).lengths b.gives_up.outside)
 
@@ -173,15 +173,15 @@ pub returns-in-Err-clause-steps : goal.returns-in-Err-clause-steps
 returns-in-Err-clause-steps g c =
     let few = c.in-Err.ensures.prepares.few in
     let prepared = c.prepare.ensures.steps in
-    let back = c.roll_back.ensures.steps in
+    let back = c.abort.ensures.steps in
     omega arith
 
 pub returns-then-start-ge-CLOCK_LIMIT-clause-steps : goal.returns-then-start-ge-CLOCK_LIMIT-clause-steps
 returns-then-start-ge-CLOCK_LIMIT-clause-steps g c =
     let held = few g (goal.at.returns-then-start-ge-CLOCK_LIMIT-clause-steps g c).In_default in
     let prepared = c.prepare.ensures.steps in
-    let looked = ap (λ (y : SeatView g.row.K.Denot). length y.view.steps.trail) c.limit-clock.ensures.step.3 in
-    let back = c.roll_back-then-start-ge-CLOCK_LIMIT.ensures.steps in
+    let looked = ap (λ (y : SeatView g.row.K.Denot). length y.view.steps.step_trace) c.limit-clock.ensures.step.3 in
+    let back = c.abort-then-start-ge-CLOCK_LIMIT.ensures.steps in
     omega arith
 
 pub returns-clause-steps : goal.returns-clause-steps
@@ -189,6 +189,6 @@ returns-clause-steps g c =
     let held = few g (goal.at.returns-clause-steps g c).In_default in
     let words = ap (λ (x : Local). x.writes.len) c.in_default.ensures.prepares.local in
     let prepared = c.prepare.ensures.steps in
-    let entered = ap (λ (y : SeatView g.row.K.Denot). length y.view.steps.trail) c.commit-now.ensures.step.3 in
+    let entered = ap (λ (y : SeatView g.row.K.Denot). length y.view.steps.step_trace) c.commit-now.ensures.step.3 in
     let finished = c.finish.ensures.steps in
     grind (arith, held, words, prepared, entered, finished)

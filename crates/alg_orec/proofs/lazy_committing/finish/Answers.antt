@@ -56,7 +56,7 @@ returns-clause-finishes g c =
           base = ap (λ (y : View). y.steps.rises_at_begin) q.is ∙ ap (λ (y : View). y.steps.rises_at_begin) p.is;
           installs = ap (λ (y : View). y.steps.installs) q.is ∙ ap (λ (y : View). y.steps.installs) p.is;
           fence = ap (λ (y : View). y.fence) q.is ∙ ap (λ (y : View). y.fence) p.is;
-          trail = (q.more ++ p.more, ap (λ (y : View). y.steps.trail) q.is ∙ (ap (λ (y : View). q.more ++ y.steps.trail) p.is ∙ sym (append_assoc q.more p.more v.steps.trail)));
+          step_trace = (q.more ++ p.more, ap (λ (y : View). y.steps.step_trace) q.is ∙ (ap (λ (y : View). q.more ++ y.steps.step_trace) p.is ∙ sym (append_assoc q.more p.more v.steps.step_trace)));
           unlocked = ap (λ (y : View). y.lock.taken) q.is ∙ (ap (λ (y : View). y.lock.taken) p.is ∙ c.requires.view.unlocked);
           unwritten = ap (λ (y : View). y.tml.writer) q.is ∙ (ap (λ (y : View). y.tml.writer) p.is ∙ c.requires.view.unwritten);
         };

@@ -69,7 +69,7 @@ loop-i-preserved g c =
             table = ap (λ q. q.table_id) w.seat-is ∙ (same.0.0 ∙ i.table);
             id = ap (λ q. q.id) w.seat-is ∙ (same.0.1 ∙ i.id);
             bare = ap (λ q. q.me.1) w.seat-is ∙ (same.0.2 ∙ i.bare);
-            steps = (let e = ap (λ (y : SeatView g.row.K.Denot). length y.view.steps.trail) to_seat in let k = w.lock_record_of.ensures.steps in let q = i.steps in omega arith);
+            steps = (let e = ap (λ (y : SeatView g.row.K.Denot). length y.view.steps.step_trace) to_seat in let k = w.lock_record_of.ensures.steps in let q = i.steps in omega arith);
             seat = seat-on c.args.seat.now.me.0 u t.me.0 t.me.0.view i.seat (to_seat ∙ (same.1 ∙ ap (λ (y : SeatView g.row.K.Denot). record u { view = y.view }) (sym to_seat)));
             more = lock_item n r version (free_record version) ∷ load_of (Record r) (free_record version) ∷ i.more;
             locks = laws.locks-more f n l v r version m p u.view t.me.0.view i.more i.locks h low new (let one = turns.one-logged f n r version c.loop-i.i m p u.view t.me.0.view h i.room in let within = c.count-i-end.ensures.within in let count = c.count-i-end.ensures.count in omega arith);
@@ -87,7 +87,7 @@ loop-i-preserved g c =
             table = ap (λ q. q.table_id) w.seat-is ∙ i.table;
             id = ap (λ q. q.id) w.seat-is ∙ i.id;
             bare = ap (λ q. q.me.1) w.seat-is ∙ i.bare;
-            steps = (let e = ap (λ (y : SeatView g.row.K.Denot). length y.view.steps.trail) to_seat in let q = i.steps in omega arith);
+            steps = (let e = ap (λ (y : SeatView g.row.K.Denot). length y.view.steps.step_trace) to_seat in let q = i.steps in omega arith);
             seat = to_seat ∙ (i.seat ∙ ap (λ (y : SeatView g.row.K.Denot). record c.args.seat.now.me.0 { view = y.view }) (sym to_seat));
             more = i.more;
             locks = subst (λ (y : SeatView g.row.K.Denot). Locks f n l v p y.view i.more) (sym to_seat) (subst (λ (q : Local). Locks f n l v q u.view i.more) (sym w.local-is) i.locks);

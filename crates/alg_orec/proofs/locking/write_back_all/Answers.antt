@@ -53,7 +53,7 @@ loop-i-preserved g c =
     record {
       table = same.0 ∙ i.table;
       id = same.1 ∙ i.id;
-      steps = (let l = ap (λ (y : SeatView g.row.K.Denot). length y.view.steps.trail) step.3 in let q = i.steps in omega arith);
+      steps = (let l = ap (λ (y : SeatView g.row.K.Denot). length y.view.steps.step_trace) step.3 in let q = i.steps in omega arith);
       bare = same.2 ∙ i.bare;
       more = store_item a c.item-a.result.1 ∷ i.more;
       seat = written-step c.args.seat.now.me.0 s t i.more a c.item-a.result.1 step.0 i.seat step.3;

@@ -4,7 +4,7 @@ use Rattle.stm_model.specs.declared.alg.Alg.TheVariants.{OrecEager}
 use Rattle.rule_base.specs.Encodings.{fenced}
 use Rattle.stm_rule.specs.Callers.{Handle}
 use Rattle.tx_answers.specs.Answers.{HasRead}
-use Rattle.tx_answers.specs.Known.{IsRunning}
+use Rattle.tx_answers.specs.CallerState.{IsRunning}
 use Rattle.stm_gate.specs.Knowing.{known, number}
 use Rattle.alg_orec.proofs.EagerReadLaws as laws
 use Rattle.alg_orec.specs.EagerReading.{HoldsRecord, IsNew, Samples}

@@ -9,7 +9,7 @@ use Rattle.stm_rule.specs.Attempts.{own_of}
 use Rattle.stm_rule.specs.Callers.{handle_of}
 use Rattle.tx_answers.specs.declared.answers.Write.TheVariants as writes
 use Rattle.tx_answers.specs.Answers.{HasWritten}
-use Rattle.tx_answers.specs.Known.{Known}
+use Rattle.tx_answers.specs.CallerState.{CallerState}
 use Rattle.stm_gate.specs.Opening.{is-known, of-view}
 use Rattle.alg_orec.proofs.EagerCalls.{RunsEager}
 use Rattle.alg_orec.proofs.EagerLaws as reading
@@ -28,7 +28,7 @@ unlogged g c = unwritten _ _ (opened g c).call c.args.a c.requires.unwritten
 pub write_again-requires-clause-saved : goal.write_again-requires-clause-saved
 write_again-requires-clause-saved g c =
     let o = opened g (goal.at.write_again-requires-clause-saved g c).After-desc in
-    is-known _ _ o.call.opening (λ (n : ℕ) (v : Known). member v.kept c.args.a ≡ true) (laws.is-kept _ _ _ _ _ o.runs c.args.a ∙ search rules)
+    is-known _ _ o.call.opening (λ (n : ℕ) (v : CallerState). member v.kept c.args.a ≡ true) (laws.is-kept _ _ _ _ _ o.runs c.args.a ∙ search rules)
 
 -- where the record wasn't taken, only the start moved
 refused : (g : _) (c : In-Err g) → RunsEager (g.K.MemRule.good c.args.stm.now.rule) c.args.stm.now.config c.desc.inside.number c.desc.inside.local c.desc.inside.seat.me.0.view
@@ -46,11 +46,11 @@ pub returns-then-count-limit-clause-write : goal.returns-then-count-limit-clause
 returns-then-count-limit-clause-write g c =
     let at = (goal.at.returns-then-count-limit-clause-write g c).After-desc in
     let o = opened g at in
-    answers-ended _ _ o.call (λ (n : ℕ) (v w : Known). HasWritten (g.K.MemRule.good c.args.stm.now.rule) c.args.stm.now.config n c.args.a c.args.x (writes.Full c.len-limit.result) v w) c.take_back.new.seat.me.0.view _ c.take_back.ensures.idle
-    (rw c.len-limit.ensures (laws.writes-full _ _ _ _ _ o.runs c.args.a c.args.x _ (search rules) (search rules) c.take_back.ensures.takes_back))
+    answers-ended _ _ o.call (λ (n : ℕ) (v w : CallerState). HasWritten (g.K.MemRule.good c.args.stm.now.rule) c.args.stm.now.config n c.args.a c.args.x (writes.Full c.len-limit.result) v w) c.abort.new.seat.me.0.view _ c.abort.ensures.idle
+    (rw c.len-limit.ensures (laws.writes-full _ _ _ _ _ o.runs c.args.a c.args.x _ (search rules) (search rules) c.abort.ensures.aborts))
 
-pub take_back-requires-clause-view : goal.take_back-requires-clause-view
-take_back-requires-clause-view g c = reading.may-take-here _ _ _ _ _ (opened g (goal.at.take_back-requires-clause-view g c).After-desc).runs
+pub abort-requires-clause-view : goal.abort-requires-clause-view
+abort-requires-clause-view g c = reading.may-take-here _ _ _ _ _ (opened g (goal.at.abort-requires-clause-view g c).After-desc).runs
 
 pub take_record-requires-clause-view : goal.take_record-requires-clause-view
 take_record-requires-clause-view g c =
@@ -58,18 +58,18 @@ take_record-requires-clause-view g c =
     let o = opened g at in
     laws.may-take _ _ _ _ _ o.runs c.args.a c.requires.inside (search rules) o.lengths (unlogged g at) (search rules)
 
-pub take_back-requires-in-Err-clause-view : goal.take_back-requires-in-Err-clause-view
-take_back-requires-in-Err-clause-view g c = laws.may-take-refusal _ _ _ _ _ (opened g (goal.at.take_back-requires-in-Err-clause-view g c).After-desc).runs c.args.a c.in-Err.refusal _ _ c.in-Err.ensures.takes
+pub abort-requires-in-Err-clause-view : goal.abort-requires-in-Err-clause-view
+abort-requires-in-Err-clause-view g c = laws.may-take-refusal _ _ _ _ _ (opened g (goal.at.abort-requires-in-Err-clause-view g c).After-desc).runs c.args.a c.in-Err.refusal _ _ c.in-Err.ensures.takes
 
-pub take_back-requires-in-Err-clause-holds : goal.take_back-requires-in-Err-clause-holds
-take_back-requires-in-Err-clause-holds g c =
-    let at = goal.at.take_back-requires-in-Err-clause-holds g c in
+pub abort-requires-in-Err-clause-holds : goal.abort-requires-in-Err-clause-holds
+abort-requires-in-Err-clause-holds g c =
+    let at = goal.at.abort-requires-in-Err-clause-holds g c in
     let r = refused g at.In-Err (opened g at.After-desc).runs in
     ap (λ (y : Local). y.holds) r.0 ∙ (c.desc.invariant.1.holds ∙ sym (ap (λ (y : GateView). y.holds) r.1))
 
-pub take_back-requires-in-Err-clause-named : goal.take_back-requires-in-Err-clause-named
-take_back-requires-in-Err-clause-named g c =
-    let at = goal.at.take_back-requires-in-Err-clause-named g c in
+pub abort-requires-in-Err-clause-named : goal.abort-requires-in-Err-clause-named
+abort-requires-in-Err-clause-named g c =
+    let at = goal.at.abort-requires-in-Err-clause-named g c in
     let runs = (opened g at.After-desc).runs in
     let r = refused g at.In-Err runs in
     ap (λ (y : Local). y.algorithm) r.0 ∙ (sym runs.inside.named ∙ sym (ap (λ (y : GateView). y.algorithm) r.1))
@@ -78,14 +78,14 @@ pub returns-in-Err-clause-write : goal.returns-in-Err-clause-write
 returns-in-Err-clause-write g c =
     let at = goal.at.returns-in-Err-clause-write g c in
     let o = opened g at.After-desc in
-    answers-moved _ _ o.call (λ (n : ℕ) (v w : Known). HasWritten (g.K.MemRule.good c.args.stm.now.rule) c.args.stm.now.config n c.args.a c.args.x c.in-Err.refusal v w) c.take_record.new.local c.take_back-in-Err.new.seat.me.0.view _ (refused g at.In-Err o.runs).0 c.take_back-in-Err.ensures.idle
-    (laws.writes-refusal _ _ _ _ _ o.runs c.args.a c.args.x c.in-Err.refusal _ c.take_record.new.seat.me.0.view _ (search rules) (search rules) c.in-Err.ensures.takes c.take_back-in-Err.ensures.takes_back)
+    answers-moved _ _ o.call (λ (n : ℕ) (v w : CallerState). HasWritten (g.K.MemRule.good c.args.stm.now.rule) c.args.stm.now.config n c.args.a c.args.x c.in-Err.refusal v w) c.take_record.new.local c.abort-in-Err.new.seat.me.0.view _ (refused g at.In-Err o.runs).0 c.abort-in-Err.ensures.idle
+    (laws.writes-refusal _ _ _ _ _ o.runs c.args.a c.args.x c.in-Err.refusal _ c.take_record.new.seat.me.0.view _ (search rules) (search rules) c.in-Err.ensures.takes c.abort-in-Err.ensures.aborts)
 
 pub store_first-requires-clause-view : goal.store_first-requires-clause-view
 store_first-requires-clause-view g c =
     let at = (goal.at.store_first-requires-clause-view g c).After-desc in
     let o = opened g at in
-    laws.may-store _ _ _ _ _ o.runs c.args.a _ _ (of-view _ _ o.call.opening (λ (n : ℕ) (v : Known). fenced v.fence c.args.a ≡ false) c.requires.spared) o.lengths (unlogged g at) (search rules) (search rules) c.in_default.ensures.takes
+    laws.may-store _ _ _ _ _ o.runs c.args.a _ _ (of-view _ _ o.call.opening (λ (n : ℕ) (v : CallerState). fenced v.fence c.args.a ≡ false) c.requires.spared) o.lengths (unlogged g at) (search rules) (search rules) c.in_default.ensures.takes
 
 pub invariant_of-desc-2 : goal.invariant_of-desc-2
 invariant_of-desc-2 g c =
@@ -104,7 +104,7 @@ returns-clause-write g c =
 pub returns-then-count-limit-clause-steps : goal.returns-then-count-limit-clause-steps
 returns-then-count-limit-clause-steps g c =
     let k = counts _ _ (opened g (goal.at.returns-then-count-limit-clause-steps g c).After-desc) in
-    let back = c.take_back.ensures.steps in
+    let back = c.abort.ensures.steps in
     omega arith
 
 pub returns-in-Err-clause-steps : goal.returns-in-Err-clause-steps
@@ -116,5 +116,5 @@ returns-in-Err-clause-steps g c =
     let locks = ap (λ (x : Local). length x.locks.items) m in
     let undo = ap (λ (x : Local). x.undo.len) m in
     let taken = c.take_record.ensures.steps in
-    let back = c.take_back-in-Err.ensures.steps in
+    let back = c.abort-in-Err.ensures.steps in
     omega arith

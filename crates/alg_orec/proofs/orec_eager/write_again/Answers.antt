@@ -7,7 +7,7 @@ use Rattle.stm_rule.specs.Attempts.{own_of}
 use Rattle.stm_rule.specs.Callers.{handle_of}
 use Rattle.stm_rule.specs.StandLemmas.{tells-of}
 use Rattle.tx_answers.specs.Causes.{is_some}
-use Rattle.tx_answers.specs.Known.{Known}
+use Rattle.tx_answers.specs.CallerState.{CallerState}
 use Rattle.stm_gate.specs.Opening.{of-view}
 use Rattle.alg_orec.proofs.EagerOpening.{EagerOpening, answers-stored, opens-eager, stays-stored}
 use Rattle.alg_orec.proofs.EagerWriteLaws as laws
@@ -20,7 +20,7 @@ opened g c = opens-eager g.K.MemRule.good c.args.stm.now c.desc.inside.number c.
 -- its old value is kept
 there : (g : _) (c : After-desc g) → is_some (item_at c.args.a c.desc.inside.local.undo.items) ≡ true
 there g c = let o = opened g c in
-    sym (laws.is-kept _ _ _ _ _ o.runs c.args.a) ∙ of-view _ _ o.call.opening (λ (n : ℕ) (v : Known). member v.kept c.args.a ≡ true) c.requires.saved
+    sym (laws.is-kept _ _ _ _ _ o.runs c.args.a) ∙ of-view _ _ o.call.opening (λ (n : ℕ) (v : CallerState). member v.kept c.args.a ≡ true) c.requires.saved
 
 pub place-requires-clause-view : goal.place-requires-clause-view
 place-requires-clause-view g c =

@@ -13,7 +13,7 @@ use Rattle.stm_rule.specs.Attempts.{HasRoom, good_by, own_of}
 use Rattle.stm_rule.specs.Callers.{Handle, handle_of}
 use Rattle.tx_answers.specs.declared.answers.Read.TheVariants as reads
 use Rattle.tx_answers.specs.Answers.{HasRead}
-use Rattle.tx_answers.specs.Known.{known_of}
+use Rattle.tx_answers.specs.CallerState.{known_of}
 use Rattle.stm_gate.specs.Knowing.{known}
 use Rattle.stm_gate.specs.Standing.{runs-of}
 use Rattle.stm_gate.specs.Told.{told, running-by, stands-in}
@@ -41,11 +41,11 @@ returns-then-count-limit-clause-read g c =
     let unwritten : item_at a d.local.writes.items ≡ None = ap (item_at a) (sym (laws.written-here good f d.number d.local s.view i lazy plain quiet k)) ∙ subst (λ (p : Handle g.row.K.Denot). item_at a (known p).log.writes ≡ None) (sym c.desc.view_is) c.requires.unwritten in
     let unread : item_at a d.local.reads.items ≡ None = ap (item_at a) k.reads ∙ subst (λ (p : Handle g.row.K.Denot). item_at a (known p).log.reads ≡ None) (sym c.desc.view_is) c.requires.unread in
     let count : length d.local.reads.items ≡ d.local.reads.len = search rules in
-    let w = c.roll_back.new.seat.me.0 in
-    told (λ n v w. HasRead good f n a (reads.Full c.len-limit.result) v w) h e d.number w c.roll_back.new.local c.desc.view_is (ap (λ (y : SeatView g.row.K.Denot). y.who) c.roll_back.ensures.same.1) c.desc.invariant.0.named
-    (subst (λ (p : Own). HasRead good f d.number a (reads.Full c.len-limit.result) (known_of s.view o) (known_of w.view p)) (sym (calls.ended-own d.local c.roll_back.new.local quiet c.roll_back.ensures.idle))
+    let w = c.abort.new.seat.me.0 in
+    told (λ n v w. HasRead good f n a (reads.Full c.len-limit.result) v w) h e d.number w c.abort.new.local c.desc.view_is (ap (λ (y : SeatView g.row.K.Denot). y.who) c.abort.ensures.same.1) c.desc.invariant.0.named
+    (subst (λ (p : Own). HasRead good f d.number a (reads.Full c.len-limit.result) (known_of s.view o) (known_of w.view p)) (sym (calls.ended-own d.local c.abort.new.local quiet c.abort.ensures.idle))
     (subst (λ (q : ℕ). HasRead good f d.number a (reads.Full q) (known_of s.view o) (known_of w.view o)) (sym c.len-limit.ensures)
-    (laws.reads-full good f d.number d.local s.view i lazy plain quiet k a w.view unwritten unread count c.roll_back.ensures.gives_up)))
+    (laws.reads-full good f d.number d.local s.view i lazy plain quiet k a w.view unwritten unread count c.abort.ensures.gives_up)))
 
 pub push_at-requires-clause-place : goal.push_at-requires-clause-place
 push_at-requires-clause-place g c =
@@ -184,10 +184,10 @@ returns-in-Err-clause-read g c =
     let who = ap (λ (y : SeatView g.row.K.Denot). y.who) c.load_valid.ensures.same.1 in
     let cause = c.in-Err.cause in
     let refused = c.in-Err.ensures.loads in
-    let b = c.roll_back-in-Err.ensures in
-    let w = c.roll_back-in-Err.new.seat.me.0 in
-    told (λ n v w. HasRead good f n a (reads.Conflict cause) v w) h e d.number w c.roll_back-in-Err.new.local c.desc.view_is (ap (λ (y : SeatView g.row.K.Denot). y.who) b.same.1 ∙ who) c.desc.invariant.0.named
-    (subst (λ (p : Own). HasRead good f d.number a (reads.Conflict cause) (known_of s.view o) (known_of w.view p)) (sym (calls.ended-moved d.local m c.roll_back-in-Err.new.local quiet refused.local b.idle))
+    let b = c.abort-in-Err.ensures in
+    let w = c.abort-in-Err.new.seat.me.0 in
+    told (λ n v w. HasRead good f n a (reads.Conflict cause) v w) h e d.number w c.abort-in-Err.new.local c.desc.view_is (ap (λ (y : SeatView g.row.K.Denot). y.who) b.same.1 ∙ who) c.desc.invariant.0.named
+    (subst (λ (p : Own). HasRead good f d.number a (reads.Conflict cause) (known_of s.view o) (known_of w.view p)) (sym (calls.ended-moved d.local m c.abort-in-Err.new.local quiet refused.local b.idle))
     (laws.reads-refused good f d.number d.local s.view i lazy plain quiet k a cause m u.view w.view unwritten unread room refused b.gives_up))
 
 pub returns-then-count-limit-clause-steps : goal.returns-then-count-limit-clause-steps
@@ -204,9 +204,9 @@ returns-then-count-limit-clause-steps g c =
     let plain : d.local.granted ≡ false = calls.plain-of good f d.number d.local s.view i lazy o (subst (λ (p : Handle g.row.K.Denot). (known p).granted ≡ false) (sym c.desc.view_is) c.requires.revocable) in
     let k = laws.lazy-of good f d.number d.local s.view i lazy plain in
     let none : length d.local.locks.items ≡ 0 = ap length k.locks ∙ ap (λ (cs : List Cell). length (items cs)) (k.open_handed quiet) in
-    let first = ap (λ (p : Handle g.row.K.Denot). length (known p).trail) c.desc.view_is in
+    let first = ap (λ (p : Handle g.row.K.Denot). length (known p).step_trace) c.desc.view_is in
     let limit = ap (λ (p : Handle g.row.K.Denot). (known p).reads_limit) c.desc.view_is in
-    let few = c.roll_back.ensures.steps in
+    let few = c.abort.ensures.steps in
     omega arith
 
 pub returns-in-Err-clause-steps : goal.returns-in-Err-clause-steps
@@ -223,9 +223,9 @@ returns-in-Err-clause-steps g c =
     let plain : d.local.granted ≡ false = calls.plain-of good f d.number d.local s.view i lazy o (subst (λ (p : Handle g.row.K.Denot). (known p).granted ≡ false) (sym c.desc.view_is) c.requires.revocable) in
     let k = laws.lazy-of good f d.number d.local s.view i lazy plain in
     let none : length d.local.locks.items ≡ 0 = ap length k.locks ∙ ap (λ (cs : List Cell). length (items cs)) (k.open_handed quiet) in
-    let first = ap (λ (p : Handle g.row.K.Denot). length (known p).trail) c.desc.view_is in
+    let first = ap (λ (p : Handle g.row.K.Denot). length (known p).step_trace) c.desc.view_is in
     let limit = ap (λ (p : Handle g.row.K.Denot). (known p).reads_limit) c.desc.view_is in
-    let few = c.roll_back-in-Err.ensures.steps in
+    let few = c.abort-in-Err.ensures.steps in
     let same = ap (λ (x : Local). length x.locks.items) c.in-Err.ensures.loads.local in
     let loaded = c.load_valid.ensures.steps in
     omega arith

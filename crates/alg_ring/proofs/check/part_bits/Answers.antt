@@ -28,7 +28,7 @@ loop-i-preserved g c =
       bare = c.word-in-loop-i.ensures.same.2 ∙ c.loop-i.invariant.bare;
       seat = seat-on c.args.seat.now.me.0 c.loop-i.seat.me.0 c.word-in-loop-i.new.seat.me.0 (view_after (ring_word c.args.stm.now.config.ring c.args.time c.loop-i.i) c.word-in-loop-i.ensures.step.0 c.loop-i.seat.me.0.view c.word-in-loop-i.result) c.loop-i.invariant.seat c.word-in-loop-i.ensures.step.3;
       low = (let l = c.loop-i.invariant.low in omega arith);
-      steps = (let l = ap (λ (y : SeatView g.row.K.Denot). length y.view.steps.trail) c.word-in-loop-i.ensures.step.3 in let q = c.loop-i.invariant.steps in let w = c.loop-i.invariant.low in omega arith);
+      steps = (let l = ap (λ (y : SeatView g.row.K.Denot). length y.view.steps.step_trace) c.word-in-loop-i.ensures.step.3 in let q = c.loop-i.invariant.steps in let w = c.loop-i.invariant.low in omega arith);
       loads = part-next c.args.stm.now.config.ring c.args.time c.args.filter.now c.args.part c.loop-i.i c.args.seat.now.me.0.view c.loop-i.seat.me.0.view c.word-in-loop-i.new.seat.me.0.view c.word-in-loop-i.result c.loop-i.invariant.loads (tells-of (ring_word c.args.stm.now.config.ring c.args.time c.loop-i.i) Nothing _ _ _ c.word-in-loop-i.ensures.step) c.loop-i.invariant.low
           (ap (λ (k : ℕ). bit_and k c.word-in-loop-i.result) (sym c.word.ensures) ∙ c.if-bits-ne0.false);
     }

@@ -47,7 +47,7 @@ loop-i-preserved g c =
     record {
       table = same.0 ∙ c.loop-i.invariant.table;
       id = same.1 ∙ c.loop-i.invariant.id;
-      steps = (let l = ap (λ (y : SeatView g.row.K.Denot). length y.view.steps.trail) c.slot.ensures.step.3 in let q = c.loop-i.invariant.steps in omega arith);
+      steps = (let l = ap (λ (y : SeatView g.row.K.Denot). length y.view.steps.step_trace) c.slot.ensures.step.3 in let q = c.loop-i.invariant.steps in omega arith);
       bare = same.2 ∙ c.loop-i.invariant.bare;
       writes = (cells_of c.args.local.now.writes.items);
       more = record { place = Slot (slot_place c.args.stm.now.config.ring c.args.time c.loop-i.i); act = Store (slot_filter.word (cells_of c.args.local.now.writes.items) c.loop-i.i); found = None } ∷ c.loop-i.invariant.more;

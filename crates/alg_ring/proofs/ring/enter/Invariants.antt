@@ -1,6 +1,6 @@
 use Rattle.std.proofs.Common.{◌≡◌, ◌<◌, List}
 use Rattle.rule_base.specs.declared.entries.Cell.{Cell}
-use Rattle.rule_base.specs.declared.views.TrailItem.{TrailItem}
+use Rattle.rule_base.specs.declared.views.TracedStep.{TracedStep}
 use Rattle.stm_rule.specs.RecordsKept.{cells_of}
 use Rattle.stm_rule.specs.Counting.{TakesAtMost}
 use Rattle.alg_ring.proofs.Entering.{slotted_at}
@@ -12,7 +12,7 @@ invariant-loop-i g l = record {
   id : l.seat.id ≡ l.initial.seat.id;
   bare : l.seat.me.1 ≡ l.initial.seat.me.1;
   writes : List Cell;
-  more : List TrailItem;
+  more : List TracedStep;
   same : 0 < l.i → cells_of l.local.writes.items ≡ writes;
   seat : l.seat.me.0 ≡ record l.initial.seat.me.0 { view = slotted_at l.initial.seat.me.0.view l.i writes more };
   steps : TakesAtMost l.i l.initial.seat.me.0.view l.seat.me.0.view;

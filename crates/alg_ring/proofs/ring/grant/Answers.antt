@@ -6,7 +6,7 @@ use Rattle.stm_rule.specs.Attempts.{own_of}
 use Rattle.stm_rule.specs.Findings.{FindsWithin}
 use Rattle.stm_rule.specs.StandLemmas.{tells-of}
 use Rattle.tx_answers.specs.declared.answers.Irrev.TheVariants as irrevs
-use Rattle.tx_answers.specs.Known.{Known, known_of}
+use Rattle.tx_answers.specs.CallerState.{CallerState, known_of}
 use Rattle.stm_gate.specs.Granting.{Grants}
 use Rattle.stm_gate.specs.Standing.{who-of}
 use Rattle.alg_ring.specs.Opening.{opened, stands-after}
@@ -27,7 +27,7 @@ leave-requires-clause-view g c =
 pub returns-then-clock-ge-CLOCK_LIMIT-clause-grants : goal.returns-then-clock-ge-CLOCK_LIMIT-clause-grants
 returns-then-clock-ge-CLOCK_LIMIT-clause-grants g c =
     let a = opened g.K.MemRule.good c.args.stm.now c.desc.inside.number c.desc.inside.local c.desc.view_is refl c.desc.invariant.0.named c.desc.invariant.0.low c.desc.invariant.1 c.requires.stm in
-    let P = λ (n : ℕ) (v w : Known). Grants (g.K.MemRule.good c.args.stm.now.rule) c.args.stm.now.config n (irrevs.ClockFull c.settle-clock.result) v w in
+    let P = λ (n : ℕ) (v w : CallerState). Grants (g.K.MemRule.good c.args.stm.now.rule) c.args.stm.now.config n (irrevs.ClockFull c.settle-clock.result) v w in
     opening.tells-of g.K.MemRule.good c.args.stm.now a P (known_of c.leave.new.seat.me.0.view (own_of c.leave.new.local)) (subst (λ (m : Local). P c.desc.inside.number (known_of c.desc.inside.seat.me.0.view (own_of c.desc.inside.local)) (known_of c.leave.new.seat.me.0.view (own_of m))) (sym c.leave.ensures.idle)
     (laws.tells-full _ _ _ _ _ (can-grant g.K.MemRule.good c.args.stm.now a c.requires.running c.requires.algorithm c.requires.revocable c.requires.alone) c.settle-clock.result c.settle-clock.new.seat.me.0.view (tells-of settle FindsWithin _ _ _ c.settle-clock.ensures.step) (search rules) c.leave.new.seat.me.0.view (ap (λ q. q.view) c.leave.ensures.left)))
 
@@ -52,7 +52,7 @@ leave-requires-in-Err-clause-named g c =
 pub returns-in-Err-clause-grants : goal.returns-in-Err-clause-grants
 returns-in-Err-clause-grants g c =
     let a = opened g.K.MemRule.good c.args.stm.now c.desc.inside.number c.desc.inside.local c.desc.view_is refl c.desc.invariant.0.named c.desc.invariant.0.low c.desc.invariant.1 c.requires.stm in
-    let P = λ (n : ℕ) (v w : Known). Grants (g.K.MemRule.good c.args.stm.now.rule) c.args.stm.now.config n (irrevs.Conflict c.in-Err.cause) v w in
+    let P = λ (n : ℕ) (v w : CallerState). Grants (g.K.MemRule.good c.args.stm.now.rule) c.args.stm.now.config n (irrevs.Conflict c.in-Err.cause) v w in
     opening.tells-of g.K.MemRule.good c.args.stm.now a P (known_of c.leave-in-Err.new.seat.me.0.view (own_of c.leave-in-Err.new.local)) (subst (λ (m : Local). P c.desc.inside.number (known_of c.desc.inside.seat.me.0.view (own_of c.desc.inside.local)) (known_of c.leave-in-Err.new.seat.me.0.view (own_of m))) (sym c.leave-in-Err.ensures.idle)
     (laws.tells-conflict _ _ _ _ _ (can-grant g.K.MemRule.good c.args.stm.now a c.requires.running c.requires.algorithm c.requires.revocable c.requires.alone) c.settle-clock.result c.settle-clock.new.seat.me.0.view (tells-of settle FindsWithin _ _ _ c.settle-clock.ensures.step) c.in-Err.cause c.check_to_grant.new.seat.me.0.view c.in-Err.ensures.checks a.low c.leave-in-Err.new.seat.me.0.view (ap (λ q. q.view) c.leave-in-Err.ensures.left)))
 
@@ -76,5 +76,5 @@ invariant_of-desc-in-Ok g c =
 pub returns-in-Ok-clause-grants : goal.returns-in-Ok-clause-grants
 returns-in-Ok-clause-grants g c =
     let a = opened g.K.MemRule.good c.args.stm.now c.desc.inside.number c.desc.inside.local c.desc.view_is refl c.desc.invariant.0.named c.desc.invariant.0.low c.desc.invariant.1 c.requires.stm in
-    opening.tells-of g.K.MemRule.good c.args.stm.now a (λ (n : ℕ) (v w : Known). Grants (g.K.MemRule.good c.args.stm.now.rule) c.args.stm.now.config n irrevs.Granted v w) (known_of c.store_all.new.seat.me.0.view (own_of (record c.desc.inside.local { start = c.in-Ok.start; granted = true })))
+    opening.tells-of g.K.MemRule.good c.args.stm.now a (λ (n : ℕ) (v w : CallerState). Grants (g.K.MemRule.good c.args.stm.now.rule) c.args.stm.now.config n irrevs.Granted v w) (known_of c.store_all.new.seat.me.0.view (own_of (record c.desc.inside.local { start = c.in-Ok.start; granted = true })))
     (laws.promotes _ _ _ _ _ (can-grant g.K.MemRule.good c.args.stm.now a c.requires.running c.requires.algorithm c.requires.revocable c.requires.alone) c.settle-clock.result c.settle-clock.new.seat.me.0.view (tells-of settle FindsWithin _ _ _ c.settle-clock.ensures.step) (search rules) c.in-Ok.start c.check_to_grant.new.seat.me.0.view c.in-Ok.ensures.checks c.store_all.new.seat.me.0.view c.store_all.ensures.stores).told

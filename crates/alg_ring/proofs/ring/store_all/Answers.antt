@@ -38,7 +38,7 @@ loop-i-preserved g c =
     record {
       table = c.direct_store.ensures.same.0 ∙ c.loop-i.invariant.table;
       id = c.direct_store.ensures.same.1 ∙ c.loop-i.invariant.id;
-      steps = (let l = ap (λ (y : SeatView g.row.K.Denot). length y.view.steps.trail) c.direct_store.ensures.step.3 in let q = c.loop-i.invariant.steps in omega arith);
+      steps = (let l = ap (λ (y : SeatView g.row.K.Denot). length y.view.steps.step_trace) c.direct_store.ensures.step.3 in let q = c.loop-i.invariant.steps in omega arith);
       bare = c.direct_store.ensures.same.2 ∙ c.loop-i.invariant.bare;
       more = record { place = Heap c.item-a.result.0; act = Store c.item-a.result.1; found = None } ∷ c.loop-i.invariant.more;
       seat = c.direct_store.ensures.step.3 ∙ (ap (λ (y : SeatView g.row.K.Denot). record y { view = view_after (direct_store c.item-a.result.0 c.item-a.result.1) c.direct_store.ensures.step.0 y.view c.item-a.result.1 }) c.loop-i.invariant.seat

@@ -45,7 +45,7 @@ loop-i-preserved g c =
     record {
       table = c.write_back.ensures.same.0 ∙ c.loop-i.invariant.table;
       id = c.write_back.ensures.same.1 ∙ c.loop-i.invariant.id;
-      steps = (let l = ap (λ (y : SeatView g.row.K.Denot). length y.view.steps.trail) c.write_back.ensures.step.3 in let q = c.loop-i.invariant.steps in omega arith);
+      steps = (let l = ap (λ (y : SeatView g.row.K.Denot). length y.view.steps.step_trace) c.write_back.ensures.step.3 in let q = c.loop-i.invariant.steps in omega arith);
       bare = c.write_back.ensures.same.2 ∙ c.loop-i.invariant.bare;
       more = record { place = Heap c.item-a.result.0; act = Store c.item-a.result.1; found = None } ∷ c.loop-i.invariant.more;
       seat = c.write_back.ensures.step.3 ∙ (ap (λ (y : SeatView g.row.K.Denot). record y { view = view_after (ring_write c.item-a.result.0 c.item-a.result.1) c.write_back.ensures.step.0 y.view c.item-a.result.1 }) c.loop-i.invariant.seat

@@ -41,7 +41,7 @@ loop-i-preserved g c =
       table = c.store_heap.ensures.same.0 ∙ c.loop-i.invariant.table;
       id = c.store_heap.ensures.same.1 ∙ c.loop-i.invariant.id;
       bare = c.store_heap.ensures.same.2 ∙ c.loop-i.invariant.bare;
-      steps = (let l = ap (λ (y : SeatView g.row.K.Denot). length y.view.steps.trail) c.store_heap.ensures.step.3 in let q = c.loop-i.invariant.steps in omega arith);
+      steps = (let l = ap (λ (y : SeatView g.row.K.Denot). length y.view.steps.step_trace) c.store_heap.ensures.step.3 in let q = c.loop-i.invariant.steps in omega arith);
       more = record { place = Heap c.item-a.result.0; act = Store c.item-a.result.1; found = None } ∷ c.loop-i.invariant.more;
       seat = stored-step c.args.seat.now.me.0 c.loop-i.seat.me.0 c.store_heap.new.seat.me.0 c.loop-i.invariant.more c.item-a.result.0 c.item-a.result.1 c.store_heap.ensures.step.0 c.loop-i.invariant.seat c.store_heap.ensures.step.3;
       stores = ap (λ (y : SeatView g.row.K.Denot). items y.view.attempt.stores) c.store_heap.ensures.step.3

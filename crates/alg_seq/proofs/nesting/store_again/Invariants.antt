@@ -1,5 +1,5 @@
 use Rattle.std.proofs.Common.{◌≡◌, ◌++◌, List, take, drop}
-use Rattle.rule_base.specs.declared.views.TrailItem.{TrailItem}
+use Rattle.rule_base.specs.declared.views.TracedStep.{TracedStep}
 use Rattle.rule_base.specs.Bridge.{items}
 use Rattle.stm_rule.specs.Counting.{TakesAtMost}
 use Rattle.alg_seq.proofs.Undoing.{taken}
@@ -10,7 +10,7 @@ invariant-loop-i g l = record {
   table : l.seat.table_id ≡ l.initial.seat.table_id;
   id : l.seat.id ≡ l.initial.seat.id;
   bare : l.seat.me.1 ≡ l.initial.seat.me.1;
-  more : List TrailItem;
+  more : List TracedStep;
   seat : l.seat.me.0 ≡ record l.initial.seat.me.0 { view = taken l.initial.seat.me.0.view l.seat.me.0.view.attempt.stores more };
   stores : items l.seat.me.0.view.attempt.stores ≡ take l.i l.writes.items ++ drop l.i (items l.initial.seat.me.0.view.attempt.stores);
   steps : TakesAtMost l.i l.initial.seat.me.0.view l.seat.me.0.view;

@@ -22,11 +22,11 @@ log_old-requires-clause-place g c = subst (λ (b : Bool). HasPlace b c.args.a c.
 pub returns-then-not-has_place-clause-keeps : goal.returns-then-not-has_place-clause-keeps
 returns-then-not-has_place-clause-keeps g c =
     let good = g.K.MemRule.good c.args.stm.now.rule in
-    let r = c.roll_back.ensures in (
+    let r = c.abort.ensures in (
       r.ended,
       r.gives_up.outside,
       λ o own. (
-        quits-back good c.args.stm.now.config c.args.caller c.args.local.now c.args.seat.now.me.0.view c.requires.attempt c.requires.serial c.args.seat.now.me.0.view c.roll_back.new.seat.me.0.view o c.if-local.false (record { more = []; is = refl }) r.gives_up,
+        quits-back good c.args.stm.now.config c.args.caller c.args.local.now c.args.seat.now.me.0.view c.requires.attempt c.requires.serial c.args.seat.now.me.0.view c.abort.new.seat.me.0.view o c.if-local.false (record { more = []; is = refl }) r.gives_up,
         full-by good c.args.stm.now.config c.args.caller c.args.local.now c.args.seat.now.me.0.view c.requires.attempt c.requires.serial c.args.a o c.if-local.false own.1 (subst (λ (b : Bool). HasPlace b c.args.a c.args.local.now.undo) c.if-not-has_place.true c.has_place.ensures),
         c.len-limit.ensures ∙ sym own.1,
       ),
@@ -35,13 +35,13 @@ returns-then-not-has_place-clause-keeps g c =
 pub returns-in-Err-clause-keeps : goal.returns-in-Err-clause-keeps
 returns-in-Err-clause-keeps g c =
     let good = g.K.MemRule.good c.args.stm.now.rule in
-    let r = c.roll_back-in-Err.ensures in (
+    let r = c.abort-in-Err.ensures in (
       r.ended,
       r.gives_up.outside,
       λ o own. (
-        quits-back good c.args.stm.now.config c.args.caller c.args.local.now c.args.seat.now.me.0.view c.requires.attempt c.requires.serial c.below_limit.new.seat.me.0.view c.roll_back-in-Err.new.seat.me.0.view o c.if-local.false c.in-Err.ensures.below.0 r.gives_up,
+        quits-back good c.args.stm.now.config c.args.caller c.args.local.now c.args.seat.now.me.0.view c.requires.attempt c.requires.serial c.below_limit.new.seat.me.0.view c.abort-in-Err.new.seat.me.0.view o c.if-local.false c.in-Err.ensures.below.0 r.gives_up,
         ap asks_at_write (named good c.args.stm.now.config c.args.caller c.args.local.now c.args.seat.now.me.0.view c.requires.attempt c.requires.serial),
-        full-after good c.args.stm.now.config c.args.caller c.args.local.now c.args.seat.now.me.0.view c.requires.attempt c.requires.serial c.in-Err.clock c.below_limit.new.seat.me.0.view c.roll_back-in-Err.new.seat.me.0.view o c.in-Err.ensures.below.2 (c.in-Err.ensures.below.3 o) r.gives_up,
+        full-after good c.args.stm.now.config c.args.caller c.args.local.now c.args.seat.now.me.0.view c.requires.attempt c.requires.serial c.in-Err.clock c.below_limit.new.seat.me.0.view c.abort-in-Err.new.seat.me.0.view o c.in-Err.ensures.below.2 (c.in-Err.ensures.below.3 o) r.gives_up,
         room-by good c.args.stm.now.config c.args.caller c.args.local.now c.args.seat.now.me.0.view c.requires.attempt c.requires.serial c.args.a o c.if-local.false own.1 (subst (λ (b : Bool). HasPlace b c.args.a c.args.local.now.undo) c.if-not-has_place.false c.has_place.ensures),
       ),
     )

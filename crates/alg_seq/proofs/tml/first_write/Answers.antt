@@ -9,7 +9,7 @@ use Rattle.stm_rule.specs.Kept.{good_of}
 use Rattle.stm_rule.specs.StandLemmas.{tells-of}
 use Rattle.tx_answers.specs.declared.answers.Write.TheVariants as writes
 use Rattle.tx_answers.specs.Answers.{HasWritten}
-use Rattle.tx_answers.specs.Known.{Known}
+use Rattle.tx_answers.specs.CallerState.{CallerState}
 use Rattle.stm_gate.specs.Opening.{opened, shows, stands-after}
 use Rattle.stm_gate.specs.Told.{stands-on}
 use Rattle.alg_seq.proofs.TmlLaws as laws
@@ -30,14 +30,14 @@ pub returns-then-clock-start-clause-write : goal.returns-then-clock-start-clause
 returns-then-clock-start-clause-write g c =
     let a = opened g.K.MemRule.good c.args.stm.now c.desc.inside.number c.desc.inside.local c.desc.view_is refl c.desc.invariant.0.named c.desc.invariant.0.low c.desc.invariant.1 c.requires.stm in
     let p = revocable g.K.MemRule.good c.args.stm.now a c.requires.running.0 c.requires.algorithm c.requires.revocable in
-    shows _ _ a (λ (n : ℕ) (v w : Known). HasWritten (g.K.MemRule.good c.args.stm.now.rule) c.args.stm.now.config n c.args.a c.args.x (writes.Conflict (causes.Clock c.desc.inside.local.start c.tml_again-clock.result)) v w) c.withdraw.new.seat.me.0.view c.withdraw.new.local (ap own_of c.withdraw.ensures.idle)
+    shows _ _ a (λ (n : ℕ) (v w : CallerState). HasWritten (g.K.MemRule.good c.args.stm.now.rule) c.args.stm.now.config n c.args.a c.args.x (writes.Conflict (causes.Clock c.desc.inside.local.start c.tml_again-clock.result)) v w) c.withdraw.new.seat.me.0.view c.withdraw.new.local (ap own_of c.withdraw.ensures.idle)
     (laws.refused-asked _ _ _ p.attempt c.args.a c.args.x _ _ _ a.low p.clean (search rules) (tells-of tml_again (FindsAgain _ _) _ _ _ c.tml_again-clock.ensures.step) (ap (λ q. q.view) c.withdraw.ensures.left))
 
 pub returns-then-clock-ge-CLOCK_LIMIT-clause-write : goal.returns-then-clock-ge-CLOCK_LIMIT-clause-write
 returns-then-clock-ge-CLOCK_LIMIT-clause-write g c =
     let a = opened g.K.MemRule.good c.args.stm.now c.desc.inside.number c.desc.inside.local c.desc.view_is refl c.desc.invariant.0.named c.desc.invariant.0.low c.desc.invariant.1 c.requires.stm in
     let p = revocable g.K.MemRule.good c.args.stm.now a c.requires.running.0 c.requires.algorithm c.requires.revocable in
-    shows _ _ a (λ (n : ℕ) (v w : Known). HasWritten (g.K.MemRule.good c.args.stm.now.rule) c.args.stm.now.config n c.args.a c.args.x (writes.ClockFull c.tml_again-clock.result) v w) c.withdraw-then-clock-ge-CLOCK_LIMIT.new.seat.me.0.view c.withdraw-then-clock-ge-CLOCK_LIMIT.new.local (ap own_of c.withdraw-then-clock-ge-CLOCK_LIMIT.ensures.idle)
+    shows _ _ a (λ (n : ℕ) (v w : CallerState). HasWritten (g.K.MemRule.good c.args.stm.now.rule) c.args.stm.now.config n c.args.a c.args.x (writes.ClockFull c.tml_again-clock.result) v w) c.withdraw-then-clock-ge-CLOCK_LIMIT.new.seat.me.0.view c.withdraw-then-clock-ge-CLOCK_LIMIT.new.local (ap own_of c.withdraw-then-clock-ge-CLOCK_LIMIT.ensures.idle)
     (laws.refused-full _ _ _ p.attempt c.args.a c.args.x _ _ _ p.clean (search rules) (tells-of tml_again (FindsAgain _ _) _ _ _ c.tml_again-clock.ensures.step) (ap (λ q. q.view) c.withdraw-then-clock-ge-CLOCK_LIMIT.ensures.left))
 
 pub tml_write-found-requires-clause-view : goal.tml_write-found-requires-clause-view
@@ -54,7 +54,7 @@ pub returns-then-found-start-clause-write : goal.returns-then-found-start-clause
 returns-then-found-start-clause-write g c =
     let a = opened g.K.MemRule.good c.args.stm.now c.desc.inside.number c.desc.inside.local c.desc.view_is refl c.desc.invariant.0.named c.desc.invariant.0.low c.desc.invariant.1 c.requires.stm in
     let p = revocable g.K.MemRule.good c.args.stm.now a c.requires.running.0 c.requires.algorithm c.requires.revocable in
-    shows _ _ a (λ (n : ℕ) (v w : Known). HasWritten (g.K.MemRule.good c.args.stm.now.rule) c.args.stm.now.config n c.args.a c.args.x (writes.Conflict (causes.Clock c.desc.inside.local.start c.tml_write-found.result)) v w) c.withdraw-then-found-start.new.seat.me.0.view c.withdraw-then-found-start.new.local (ap own_of c.withdraw-then-found-start.ensures.idle)
+    shows _ _ a (λ (n : ℕ) (v w : CallerState). HasWritten (g.K.MemRule.good c.args.stm.now.rule) c.args.stm.now.config n c.args.a c.args.x (writes.Conflict (causes.Clock c.desc.inside.local.start c.tml_write-found.result)) v w) c.withdraw-then-found-start.new.seat.me.0.view c.withdraw-then-found-start.new.local (ap own_of c.withdraw-then-found-start.ensures.idle)
     (laws.refused-tried _ _ _ p.attempt c.args.a c.args.x _ _ _ _ _ a.low p.clean (search rules) (tells-of tml_again (FindsAgain _ _) _ _ _ c.tml_again-clock.ensures.step) (tells-of (tml_write c.desc.inside.local.start) (FindsSole c.args.stm.now.config) _ _ _ c.tml_write-found.ensures.step) (ap (λ q. q.view) c.withdraw-then-found-start.ensures.left))
 
 pub invariant_of-desc-2 : goal.invariant_of-desc-2
@@ -71,5 +71,5 @@ pub returns-clause-write : goal.returns-clause-write
 returns-clause-write g c =
     let a = opened g.K.MemRule.good c.args.stm.now c.desc.inside.number c.desc.inside.local c.desc.view_is refl c.desc.invariant.0.named c.desc.invariant.0.low c.desc.invariant.1 c.requires.stm in
     let p = revocable g.K.MemRule.good c.args.stm.now a c.requires.running.0 c.requires.algorithm c.requires.revocable in
-    shows _ _ a (λ (n : ℕ) (v w : Known). HasWritten (g.K.MemRule.good c.args.stm.now.rule) c.args.stm.now.config n c.args.a c.args.x writes.Done v w) c.tml_store.new.seat.me.0.view (record c.desc.inside.local { wrote = true }) refl
+    shows _ _ a (λ (n : ℕ) (v w : CallerState). HasWritten (g.K.MemRule.good c.args.stm.now.rule) c.args.stm.now.config n c.args.a c.args.x writes.Done v w) c.tml_store.new.seat.me.0.view (record c.desc.inside.local { wrote = true }) refl
     (laws.tells-first _ _ _ p.attempt c.args.a c.args.x _ _ _ _ _ p.clean (search rules) (tells-of tml_again (FindsAgain _ _) _ _ _ c.tml_again-clock.ensures.step) (tells-of (tml_write c.desc.inside.local.start) (FindsSole c.args.stm.now.config) _ _ _ c.tml_write-found.ensures.step) (tells-of (tml_store c.args.a c.args.x) Nothing _ c.args.x _ c.tml_store.ensures.step))

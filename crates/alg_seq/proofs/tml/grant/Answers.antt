@@ -6,7 +6,7 @@ use Rattle.stm_rule.specs.Attempts.{own_of}
 use Rattle.stm_rule.specs.Findings.{FindsSole}
 use Rattle.stm_rule.specs.StandLemmas.{tells-of}
 use Rattle.tx_answers.specs.declared.answers.Irrev.TheVariants as irrevs
-use Rattle.tx_answers.specs.Known.{Known}
+use Rattle.tx_answers.specs.CallerState.{CallerState}
 use Rattle.stm_gate.specs.Standing.{who-of}
 use Rattle.stm_gate.specs.Granting.{IsAlone, Grants}
 use Rattle.stm_gate.specs.Told.{stands-on}
@@ -30,7 +30,7 @@ pub returns-then-clock-ge-CLOCK_LIMIT-clause-grants : goal.returns-then-clock-ge
 returns-then-clock-ge-CLOCK_LIMIT-clause-grants g c =
     let a = opened g.K.MemRule.good c.args.stm.now c.desc.inside.number c.desc.inside.local c.desc.view_is refl c.desc.invariant.0.named c.desc.invariant.0.low c.desc.invariant.1 c.requires.stm in
     let p = revocable g.K.MemRule.good c.args.stm.now a c.requires.running.0 c.requires.algorithm c.requires.revocable in
-    shows _ _ a (λ (n : ℕ) (v w : Known). Grants (g.K.MemRule.good c.args.stm.now.rule) c.args.stm.now.config n (irrevs.ClockFull c.tml_grant-clock.result) v w) c.leave.new.seat.me.0.view c.leave.new.local (ap own_of c.leave.ensures.idle)
+    shows _ _ a (λ (n : ℕ) (v w : CallerState). Grants (g.K.MemRule.good c.args.stm.now.rule) c.args.stm.now.config n (irrevs.ClockFull c.tml_grant-clock.result) v w) c.leave.new.seat.me.0.view c.leave.new.local (ap own_of c.leave.ensures.idle)
     (laws.grants-full _ _ _ p.attempt c.tml_grant-clock.result c.tml_grant-clock.new.seat.me.0.view c.leave.new.seat.me.0.view p.clean (search rules) (tells-of tml_grant (FindsSole c.args.stm.now.config) _ _ _ c.tml_grant-clock.ensures.step) (ap (λ q. q.view) c.leave.ensures.left))
 
 pub leave-requires-then-clock-start-clause-view : goal.leave-requires-then-clock-start-clause-view
@@ -42,7 +42,7 @@ pub returns-then-clock-start-clause-grants : goal.returns-then-clock-start-claus
 returns-then-clock-start-clause-grants g c =
     let a = opened g.K.MemRule.good c.args.stm.now c.desc.inside.number c.desc.inside.local c.desc.view_is refl c.desc.invariant.0.named c.desc.invariant.0.low c.desc.invariant.1 c.requires.stm in
     let p = revocable g.K.MemRule.good c.args.stm.now a c.requires.running.0 c.requires.algorithm c.requires.revocable in
-    shows _ _ a (λ (n : ℕ) (v w : Known). Grants (g.K.MemRule.good c.args.stm.now.rule) c.args.stm.now.config n (irrevs.Conflict (causes.Clock c.desc.inside.local.start c.tml_grant-clock.result)) v w) c.leave-then-clock-start.new.seat.me.0.view c.leave-then-clock-start.new.local (ap own_of c.leave-then-clock-start.ensures.idle)
+    shows _ _ a (λ (n : ℕ) (v w : CallerState). Grants (g.K.MemRule.good c.args.stm.now.rule) c.args.stm.now.config n (irrevs.Conflict (causes.Clock c.desc.inside.local.start c.tml_grant-clock.result)) v w) c.leave-then-clock-start.new.seat.me.0.view c.leave-then-clock-start.new.local (ap own_of c.leave-then-clock-start.ensures.idle)
     (laws.grants-moved _ _ _ p.attempt c.tml_grant-clock.result c.tml_grant-clock.new.seat.me.0.view c.leave-then-clock-start.new.seat.me.0.view a.low p.clean (search rules) (tells-of tml_grant (FindsSole c.args.stm.now.config) _ _ _ c.tml_grant-clock.ensures.step) (ap (λ q. q.view) c.leave-then-clock-start.ensures.left))
 
 pub invariant_of-desc-2 : goal.invariant_of-desc-2
@@ -61,5 +61,5 @@ pub returns-clause-grants : goal.returns-clause-grants
 returns-clause-grants g c =
     let a = opened g.K.MemRule.good c.args.stm.now c.desc.inside.number c.desc.inside.local c.desc.view_is refl c.desc.invariant.0.named c.desc.invariant.0.low c.desc.invariant.1 c.requires.stm in
     let p = revocable g.K.MemRule.good c.args.stm.now a c.requires.running.0 c.requires.algorithm c.requires.revocable in
-    shows _ _ a (λ (n : ℕ) (v w : Known). Grants (g.K.MemRule.good c.args.stm.now.rule) c.args.stm.now.config n irrevs.Granted v w) c.tml_grant-clock.new.seat.me.0.view (record c.desc.inside.local { granted = true }) refl
+    shows _ _ a (λ (n : ℕ) (v w : CallerState). Grants (g.K.MemRule.good c.args.stm.now.rule) c.args.stm.now.config n irrevs.Granted v w) c.tml_grant-clock.new.seat.me.0.view (record c.desc.inside.local { granted = true }) refl
     (laws.grants-so _ _ _ p.attempt c.tml_grant-clock.result c.tml_grant-clock.new.seat.me.0.view p.clean (search rules) (search rules) (of-seen _ _ a (IsAlone c.args.stm.now.config.callers) c.requires.alone) (tells-of tml_grant (FindsSole c.args.stm.now.config) _ _ _ c.tml_grant-clock.ensures.step))

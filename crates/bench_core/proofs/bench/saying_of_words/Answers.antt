@@ -1,7 +1,7 @@
 use Rattle.std.proofs.Common.{subst}
 use Rattle.std.specs.Prelude.{Option, MatchOption}
-use Rattle.stm_words.specs.declared.command.Command.{Command}
-use Rattle.stm_words.specs.Asking.{Asks, texts_of}
+use Rattle.stm_cli.specs.declared.command.Command.{Command}
+use Rattle.stm_cli.specs.Asking.{Asks, texts_of}
 use Rattle.bench_core.proofs.Sayings.{made-asked, run-asked, check-asked}
 use Rattle.bench_core.proofs.bench.saying_of_words.Goals as goal
 

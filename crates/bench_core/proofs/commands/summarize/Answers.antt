@@ -24,5 +24,5 @@ unreachable-unreachable g c =
     let w = c.in_ok-workload.workload in
     let full = subst (HasRun (ruling Fixed w.header.policy) w) c.in-ToLimit.is c.in_ok-outcome.ensures in
     let opens : w.header.clock ≡ 0 = ap (λ (v : Workload). v.header.clock) c.in_ok-workload.ensures.generated in
-    let few : length w.items ≤ 65536 = c.in_ok-workload.ensures.built.count in
+    let few : length w.items ≤ 65536 = c.in_ok-workload.ensures.is_parsed.count in
     never-full (ruling Fixed w.header.policy) w c.in-ToLimit.clock c.in-ToLimit.closed opens few full

@@ -2,7 +2,7 @@ use Rattle.std.proofs.Common.{◌≡◌, ◌≤◌, ◌++◌, [], ◌∷◌, rep
 use Rattle.nekchhaul.specs.Config.{Config}
 use Rattle.nekchhaul.specs.Histories.{IsLegal, memory_at}
 use Rattle.nekchhaul.specs.Closings.{AllTold}
-use Rattle.nekchhaul.specs.KnownLaws.{carries-refl}
+use Rattle.nekchhaul.specs.CallerStateLaws.{carries-refl}
 use Rattle.nekchhaul.specs.Descs.{known, number}
 use Rattle.nekchhaul.specs.CallerLaws.{closed-seen}
 use Rattle.example_buffer.specs.declared.day.TheConstants.{CONFIG}

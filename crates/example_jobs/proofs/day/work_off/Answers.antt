@@ -7,7 +7,7 @@ use Rattle.nekchhaul.specs.HistoryLaws.{Within}
 use Rattle.nekchhaul.specs.Queues.{IsQueue}
 use Rattle.nekchhaul.specs.QueueStatements.{PutsLast, GetsFirst, ZerosAreEmpty}
 use Rattle.nekchhaul.specs.Answer.{Answer}
-use Rattle.nekchhaul.specs.Outcome.{Outcome}
+use Rattle.nekchhaul.specs.ClosedMemory.{ClosedMemory}
 use Rattle.nekchhaul.specs.Stories.{IsStory}
 use Rattle.example_jobs.specs.declared.hands.Hand.{Hand}
 use Rattle.example_jobs.specs.declared.plan.Plan.{Plan}
@@ -17,11 +17,11 @@ use Rattle.example_jobs.proofs.day.work_off.Goals as goal
 
 -- a memory of the plan's sizes, where it was opened
 module _ {E : Type 0} (alg : Alg) (plan : Plan) (config : Config) (words : config.words ≡ plan.room + 2) (callers : config.callers ≡ plan.producers + plan.workers) where
-  opened-whole : (r : Result (Outcome Hand) E) → IfOk r (λ came. length came.words.items ≡ config.words) → IfOk r (λ came. length came.answers.items ≡ config.callers) → IfOk r (IsWhole plan)
+  opened-whole : (r : Result (ClosedMemory Hand) E) → IfOk r (λ came. length came.words.items ≡ config.words) → IfOk r (λ came. length came.answers.items ≡ config.callers) → IfOk r (IsWhole plan)
   opened-whole (Ok day) count answers = (count ∙ words, answers ∙ callers)
   opened-whole (Err e) count answers = tt
 
-  opened-day : IsPlan plan → PutsLast → GetsFirst → ZerosAreEmpty → (r : Result (Outcome Hand) E)
+  opened-day : IsPlan plan → PutsLast → GetsFirst → ZerosAreEmpty → (r : Result (ClosedMemory Hand) E)
       → IfOk r (λ came. length came.words.items ≡ config.words)
       → IfOk r (λ came. length came.answers.items ≡ config.callers)
       → IfOk r (λ came. IsLegal (IsQueue (queue_of plan)) (replicate config.words 0) config.clock came.closed.history)

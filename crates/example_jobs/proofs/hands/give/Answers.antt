@@ -1,6 +1,6 @@
 use Rattle.std.proofs.Common.{rules, [], ◌∷◌, ◌∙◌, subst}
 use Rattle.nekchhaul.specs.Descs.{known, number}
-use Rattle.nekchhaul.specs.Known.{no_log}
+use Rattle.nekchhaul.specs.CallerState.{no_log}
 use Rattle.nekchhaul.specs.Attempts.{TookEffect}
 use Rattle.nekchhaul.specs.CallerLaws.{worked-refl, worked-trans}
 use Rattle.nekchhaul.specs.Effects.{DoesOver}
@@ -41,5 +41,5 @@ returns-in-Some-Added-clause-gave g c =
     let u = known c.loop.caller.desc in
     let w = known c.run.new.self.desc in
     let came = subst (λ (r : Put). TookEffect (IsQueue q) s.config n (λ log. DoesOver (IsQueue q) s.config.words (put_in q c.args.job) no_log r log) u.front u w) c.in-Some-Added.field-0-is c.in-Some-Added.ensures.took in
-    let did = subst (λ b. HasDone q s.config.words (c.args.job ∷ []) [] b w.made) c.loop.invariant.made (gave q s.config n u w c.args.job c.ranges.job.fits came) in
+    let did = subst (λ b. HasDone q s.config.words (c.args.job ∷ []) [] b w.made) c.loop.invariant.made (gave q s.config n u w c.args.job c.ranges.job.precondition came) in
     rw c.loop.invariant.same at did

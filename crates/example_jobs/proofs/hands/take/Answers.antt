@@ -1,6 +1,6 @@
 use Rattle.std.proofs.Common.{rules, ℕ, [], ◌∷◌, ◌∙◌, Option, subst}
 use Rattle.nekchhaul.specs.Descs.{known, number}
-use Rattle.nekchhaul.specs.Known.{no_log}
+use Rattle.nekchhaul.specs.CallerState.{no_log}
 use Rattle.nekchhaul.specs.Attempts.{TookEffect}
 use Rattle.nekchhaul.specs.CallerLaws.{worked-refl, worked-trans}
 use Rattle.nekchhaul.specs.Effects.{DoesOver}

@@ -3,7 +3,7 @@ use Rattle.nekchhaul.specs.Config.{Config}
 use Rattle.nekchhaul.specs.Histories.{IsLegal, made_by, memory_at}
 use Rattle.nekchhaul.specs.Handles.{AllOpened}
 use Rattle.nekchhaul.specs.Closings.{AllTold}
-use Rattle.nekchhaul.specs.KnownLaws.{carries-refl}
+use Rattle.nekchhaul.specs.CallerStateLaws.{carries-refl}
 use Rattle.nekchhaul.specs.Trees.{IsTree}
 use Rattle.nekchhaul.specs.Descs.{known, number}
 use Rattle.nekchhaul.specs.CallerLaws.{closed-made, closed-seen, opened-made}

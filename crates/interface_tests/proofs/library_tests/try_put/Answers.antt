@@ -2,7 +2,7 @@ use Rattle.std.proofs.Common.{arith, refl, ◌≡◌, ◌+◌, true, sym, ap, su
 use Rattle.std.specs.Prelude.{◌⊎◌}
 use Rattle.stm_model.specs.Logs.{Writes, Keeps}
 use Rattle.stm_model.specs.Memories.{overlay, Explains}
-use Rattle.tx_answers.specs.Known.{wrote}
+use Rattle.tx_answers.specs.CallerState.{wrote}
 use Rattle.stm_rule.specs.Callers.{Handle}
 use Rattle.interface_tests.specs.declared.library_tests.Shelf.{Shelf}
 use Rattle.stm_tx.specs.Descs.{known, number}

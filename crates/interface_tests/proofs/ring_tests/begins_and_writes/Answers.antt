@@ -6,11 +6,11 @@ use Rattle.stm_model.specs.declared.alg.Alg.TheVariants.{RingSw}
 use Rattle.stm_model.specs.Logs.{Log, Writes}
 use Rattle.stm_model.specs.Memories.{item_at, is_empty}
 use Rattle.stm_model.specs.PlainLaws.{put-item}
-use Rattle.tx_answers.specs.Known.{Known, is_irrevocable, wrote}
+use Rattle.tx_answers.specs.CallerState.{CallerState, is_irrevocable, wrote}
 use Rattle.stm_tx.specs.Descs.{known}
 use Rattle.interface_tests.proofs.ring_tests.begins_and_writes.Goals as goal
 
-still-revocable : (k : Known) → k.alg ≡ RingSw → k.granted ≡ false → is_irrevocable k ≡ false
+still-revocable : (k : CallerState) → k.alg ≡ RingSw → k.granted ≡ false → is_irrevocable k ≡ false
 still-revocable k alg granted = λ j. irrevocable_under (alg j) (granted j) (wrote k)
 
 -- what was written is in the log

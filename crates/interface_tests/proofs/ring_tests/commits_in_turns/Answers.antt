@@ -2,7 +2,7 @@ use Rattle.std.proofs.Common.{ℕ, List, sym, ap, refl, subst, rules, ◌∙◌}
 use Rattle.stm_model.specs.declared.rule.AnyMem.{AnyMem}
 use Rattle.rule_base.specs.declared.seats.SeatView.{SeatView}
 use Rattle.stm_rule.specs.declared.local.Local.{Local}
-use Rattle.tx_answers.specs.Known.{is_irrevocable, wrote}
+use Rattle.tx_answers.specs.CallerState.{is_irrevocable, wrote}
 use Rattle.alg_ring.specs.Calls.{CanFinish, TookTurn}
 use Rattle.alg_ring.specs.Opening.{opened, has-attempt, stands-after}
 use Rattle.interface_tests.proofs.ring_tests.commits_in_turns.Goals as goal

@@ -5,16 +5,16 @@ use Rattle.nekchhaul_c.specs.Opens.{EachNewBoxed, HoldsNew}
 use Rattle.nekchhaul_c.proofs.Dealing.{dealt-more, each-first, each-last, at-none}
 use Rattle.nekchhaul_c.proofs.opening.deal.Goals as goal
 
-pub loop-member-preserved : goal.loop-member-preserved
-loop-member-preserved c =
-    let at = c.loop-member.invariant in
+pub loop-checked_caller-preserved : goal.loop-checked_caller-preserved
+loop-checked_caller-preserved c =
+    let at = c.loop-checked_caller.invariant in
     let config = c.args.config in
     let alg = c.args.alg in
-    let callers = c.loop-member.callers in
-    let box = c.in-Some.member in
+    let callers = c.loop-checked_caller.callers in
+    let box = c.in-Some.checked_caller in
     let rest = c.pop.new.self.items in
     let place = c.len.result in
-    let popped : c.loop-member.members.items ≡ rest ++ box ∷ [] = c.in-Some.ensures.items in
+    let popped : c.loop-checked_caller.checked_callers.items ≡ rest ++ box ∷ [] = c.in-Some.ensures.items in
     let many = ap length popped ∙ length-append rest (box ∷ []) in
     let here : place ≡ length rest = c.len.ensures ∙ c.pop.new.self.ok.0 in
     let was = at.low in
@@ -32,5 +32,5 @@ loop-member-preserved c =
 pub returns : goal.returns
 returns c =
     let empty = at-none _ _ c.pop.result c.in_default.not-Some c.pop.ensures.cases in
-    let long : length c.loop-member.members.items ≡ 0 = sym c.loop-member.members.ok.0 ∙ empty.0 in
-    λ i h lt. c.loop-member.invariant.dealt i h (omega (arith, long)) lt
+    let long : length c.loop-checked_caller.checked_callers.items ≡ 0 = sym c.loop-checked_caller.checked_callers.ok.0 ∙ empty.0 in
+    λ i h lt. c.loop-checked_caller.invariant.dealt i h (omega (arith, long)) lt

@@ -1,13 +1,13 @@
 use Rattle.std.proofs.Common.{◌≡◌, length, take}
-use Rattle.tx_checked.specs.Members.{IsSameMember}
+use Rattle.tx_checked.specs.CheckedCallers.{IsSameCheckedCaller}
 use Rattle.nekchhaul_c.specs.Reads.{ReadsInTurn}
 use Rattle.nekchhaul_c.proofs.InTurn.{IsKeptFrom}
 use Rattle.nekchhaul_c.proofs.reading.read_each.Given as goal
 
 abbrev pub invariant-loop-i : goal.invariant-loop-i
 invariant-loop-i l = record {
-  same : IsSameMember l.fn.member l.member;
+  same : IsSameCheckedCaller l.fn.checked_caller l.checked_caller;
   beyond : IsKeptFrom l.i l.fn.values l.values;
   count : length l.values ≡ length l.fn.values;
-  read : ReadsInTurn (take l.i l.addresses) (take l.i l.values) l.fn.member l.member;
+  read : ReadsInTurn (take l.i l.addresses) (take l.i l.values) l.fn.checked_caller l.checked_caller;
 }

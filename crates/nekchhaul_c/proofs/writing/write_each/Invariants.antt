@@ -1,10 +1,10 @@
 use Rattle.std.proofs.Common.{take}
-use Rattle.tx_checked.specs.Members.{IsSameMember}
+use Rattle.tx_checked.specs.CheckedCallers.{IsSameCheckedCaller}
 use Rattle.nekchhaul_c.specs.Writes.{WritesInTurn}
 use Rattle.nekchhaul_c.proofs.writing.write_each.Given as goal
 
 abbrev pub invariant-loop-i : goal.invariant-loop-i
 invariant-loop-i l = record {
-  same : IsSameMember l.fn.member l.member;
-  wrote : WritesInTurn (take l.i l.addresses) (take l.i l.values) l.fn.member l.member;
+  same : IsSameCheckedCaller l.fn.checked_caller l.checked_caller;
+  wrote : WritesInTurn (take l.i l.addresses) (take l.i l.values) l.fn.checked_caller l.checked_caller;
 }

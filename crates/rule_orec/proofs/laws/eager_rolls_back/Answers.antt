@@ -21,7 +21,7 @@ low r = by (0 == r)
     by false = omega arith
 
 eager_rolls_back_lem : (good : (ℕ → ℕ) → Type 0) (c : Config) → EagerRollsBack good c
-eager_rolls_back_lem good c gates phase alg plain calm callers words home =
+eager_rolls_back_lem good c gates phase alg plain quiescent callers words home =
     let recs : has_records (gates 0).algorithm ≡ true = ap has_records alg in
     let eager : is_eager (gates 0).algorithm ≡ true = ap is_eager alg in
     let held : touches one_held (0 % c.records) ≡ true = ap (touches one_held) home in (
@@ -40,7 +40,7 @@ eager_rolls_back_lem good c gates phase alg plain calm callers words home =
                   (
                     (callers, record { opens = record { has = record { runs = record { phase = phase; algorithm = recs; plain = plain }; inside = refl }; open_yet = refl }; eager = eager; held = held; unwritten = refl; inside = words }),
                     (
-                      (callers, record { has = record { runs = record { phase = phase; algorithm = recs; plain = plain }; inside = refl }; restored = refl; uncalm = λ e. absurd (let f : true ≡ false = sym e ∙ calm in cc); limit = omega arith; above = λ r e. low r; greatest = (0, refl, refl) }),
+                      (callers, record { has = record { runs = record { phase = phase; algorithm = recs; plain = plain }; inside = refl }; restored = refl; not_quiescent = λ e. absurd (let f : true ≡ false = sym e ∙ quiescent in cc); limit = omega arith; above = λ r e. low r; greatest = (0, refl, refl) }),
                       (
                         (callers, record { gives = record { has = record { runs = record { phase = phase; algorithm = recs; plain = plain }; inside = refl }; held = refl; clear = record { back = λ a e. refl; undo = λ a e. refl } }; undone = refl; raised = refl; next = refl }),
                         tt,

@@ -2,7 +2,7 @@ use Rattle.rule_orec.specs.OrecSteps.{orec_release, CanOrecUp}
 use Rattle.rule_base.specs.StepKinds.{Nothing}
 use Rattle.rule_base.specs.Ranks.{home_of}
 use Rattle.stm_rule.specs.Kept.{good_of}
-use Rattle.stm_rule.specs.Product.{Whole}
+use Rattle.stm_rule.specs.Product.{Invariant}
 use Rattle.stm_rule.specs.Lifted.{orec_ups}
 use Rattle.stm_rule.specs.Allowing.{law_of}
 use Rattle.steps_orec.proofs.eager.release_above.Goals as goal
@@ -12,4 +12,4 @@ store_as-requires-clause-law g c =
     let f = c.args.stm.now.config in
     let m = good_of g.K.MemRule.good f c.args.stm.now.rule in
     let n = c.args.caller in
-    law_of (Whole m f) (orec_release c.args.r c.args.version) Nothing n (CanOrecUp (home_of f) c.args.r c.args.version) c.args.seat.now.me.0.view (orec_ups m f n c.args.r c.args.version) c.requires.view
+    law_of (Invariant m f) (orec_release c.args.r c.args.version) Nothing n (CanOrecUp (home_of f) c.args.r c.args.version) c.args.seat.now.me.0.view (orec_ups m f n c.args.r c.args.version) c.requires.view

@@ -1,7 +1,7 @@
 use Rattle.rule_orec.specs.OrecSteps.{orec_limit, HasOrec}
 use Rattle.steps_orec.specs.RecordFindings.{FindsClock}
 use Rattle.stm_rule.specs.Kept.{good_of}
-use Rattle.stm_rule.specs.Product.{Whole}
+use Rattle.stm_rule.specs.Product.{Invariant}
 use Rattle.steps_orec.specs.RecordFindingLaws.{limits_beside}
 use Rattle.stm_rule.specs.Allowing.{law_of}
 use Rattle.steps_orec.proofs.lazy.limit.Goals as goal
@@ -11,4 +11,4 @@ load_as-requires-clause-law g c =
     let f = c.args.stm.now.config in
     let m = good_of g.K.MemRule.good f c.args.stm.now.rule in
     let n = c.args.caller in
-    law_of (Whole m f) orec_limit (FindsClock f) n HasOrec c.args.seat.now.me.0.view (limits_beside m f n) c.requires.view
+    law_of (Invariant m f) orec_limit (FindsClock f) n HasOrec c.args.seat.now.me.0.view (limits_beside m f n) c.requires.view

@@ -1,7 +1,7 @@
 use Rattle.rule_orec.specs.OrecSteps.{orec_lock, CanOrecLock}
 use Rattle.steps_orec.specs.RecordFindings.{FindsRecord}
 use Rattle.stm_rule.specs.Kept.{good_of}
-use Rattle.stm_rule.specs.Product.{Whole}
+use Rattle.stm_rule.specs.Product.{Invariant}
 use Rattle.steps_orec.specs.RecordFindingLaws.{locks_beside}
 use Rattle.stm_rule.specs.Allowing.{law_of}
 use Rattle.steps_orec.proofs.lazy.lock.Goals as goal
@@ -11,4 +11,4 @@ exchange_as-requires-clause-law g c =
     let f = c.args.stm.now.config in
     let m = good_of g.K.MemRule.good f c.args.stm.now.rule in
     let n = c.args.caller in
-    law_of (Whole m f) (orec_lock n c.args.r c.args.version) (FindsRecord f n c.args.r) n (CanOrecLock c.args.version) c.args.seat.now.me.0.view (locks_beside m f n c.args.r c.args.version) c.requires.view
+    law_of (Invariant m f) (orec_lock n c.args.r c.args.version) (FindsRecord f n c.args.r) n (CanOrecLock c.args.version) c.args.seat.now.me.0.view (locks_beside m f n c.args.r c.args.version) c.requires.view

@@ -1,7 +1,7 @@
 use Rattle.rule_promoted.specs.PromotedSteps.{direct_release, CanDirectRelease}
 use Rattle.rule_base.specs.StepKinds.{Nothing}
 use Rattle.stm_rule.specs.Kept.{good_of}
-use Rattle.stm_rule.specs.Product.{Whole}
+use Rattle.stm_rule.specs.Product.{Invariant}
 use Rattle.stm_rule.specs.Lifted.{direct_releases}
 use Rattle.stm_rule.specs.Allowing.{law_of}
 use Rattle.steps_orec.proofs.promoting.direct_release.Goals as goal
@@ -11,4 +11,4 @@ store_as-requires-clause-law g c =
     let f = c.args.stm.now.config in
     let m = good_of g.K.MemRule.good f c.args.stm.now.rule in
     let n = c.args.caller in
-    law_of (Whole m f) (direct_release c.args.r c.args.time) Nothing n (CanDirectRelease c.args.r c.args.time) c.args.seat.now.me.0.view (direct_releases m f n c.args.r c.args.time) c.requires.view
+    law_of (Invariant m f) (direct_release c.args.r c.args.time) Nothing n (CanDirectRelease c.args.r c.args.time) c.args.seat.now.me.0.view (direct_releases m f n c.args.r c.args.time) c.requires.view

@@ -4,7 +4,7 @@ use Rattle.rule_base.specs.Ranks.{home_of}
 use Rattle.steps_orec.specs.Validating.{to_validate}
 use Rattle.steps_orec.specs.Validating.{can-validate}
 use Rattle.stm_rule.specs.Kept.{good_of}
-use Rattle.stm_rule.specs.Product.{Whole}
+use Rattle.stm_rule.specs.Product.{Invariant}
 use Rattle.steps_orec.specs.RecordFindingLaws.{clocks_beside}
 use Rattle.stm_rule.specs.Allowing.{law_of}
 use Rattle.steps_orec.proofs.reading.clock.Goals as goal
@@ -15,4 +15,4 @@ load_as-requires-clause-law g c =
     let m = good_of g.K.MemRule.good f c.args.stm.now.rule in
     let n = c.args.caller in
     let v = c.args.seat.now.me.0.view in
-    law_of (Whole m f) (orec_clock (to_validate (home_of f) v)) (FindsClock f) n (CanOrecClock (home_of f) (to_validate (home_of f) v)) v (clocks_beside m f n (to_validate (home_of f) v)) (can-validate (home_of f) v c.requires.view)
+    law_of (Invariant m f) (orec_clock (to_validate (home_of f) v)) (FindsClock f) n (CanOrecClock (home_of f) (to_validate (home_of f) v)) v (clocks_beside m f n (to_validate (home_of f) v)) (can-validate (home_of f) v c.requires.view)

@@ -3,7 +3,7 @@ use Rattle.steps_orec.specs.RecordFindings.{FindsAll}
 use Rattle.rule_base.specs.Ranks.{home_of}
 use Rattle.std.specs.Prelude.{[]}
 use Rattle.stm_rule.specs.Kept.{good_of}
-use Rattle.stm_rule.specs.Product.{Whole}
+use Rattle.stm_rule.specs.Product.{Invariant}
 use Rattle.steps_orec.specs.RecordFindingLaws.{clocks_all_beside}
 use Rattle.stm_rule.specs.Allowing.{law_of}
 use Rattle.steps_orec.proofs.reading.clock_all.Goals as goal
@@ -13,4 +13,4 @@ load_as-requires-clause-law g c =
     let f = c.args.stm.now.config in
     let m = good_of g.K.MemRule.good f c.args.stm.now.rule in
     let n = c.args.caller in
-    law_of (Whole m f) orec_clock_all (FindsAll m f) n (CanOrecClock (home_of f) []) c.args.seat.now.me.0.view (clocks_all_beside m f n) c.requires.view
+    law_of (Invariant m f) orec_clock_all (FindsAll m f) n (CanOrecClock (home_of f) []) c.args.seat.now.me.0.view (clocks_all_beside m f n) c.requires.view

@@ -2,7 +2,7 @@ use Rattle.rule_orec.specs.OrecSteps.{orec_load, CanOrecLoad}
 use Rattle.rule_base.specs.StepKinds.{Nothing}
 use Rattle.stm_rule.specs.Kept.{good_of}
 use Rattle.stm_rule.specs.Lifting.{IsSpared}
-use Rattle.stm_rule.specs.Product.{Whole}
+use Rattle.stm_rule.specs.Product.{Invariant}
 use Rattle.stm_rule.specs.Lifted.{orec_loads}
 use Rattle.stm_rule.specs.Allowing.{law_of}
 use Rattle.steps_orec.proofs.reading.load.Goals as goal
@@ -12,4 +12,4 @@ load_as-requires-clause-law g c =
     let f = c.args.stm.now.config in
     let m = good_of g.K.MemRule.good f c.args.stm.now.rule in
     let n = c.args.caller in
-    law_of (Whole m f) (orec_load c.args.a) Nothing n (λ v. CanOrecLoad c.args.a v × IsSpared c.args.a v) c.args.seat.now.me.0.view (orec_loads m f n c.args.a) (c.requires.view, c.requires.spared)
+    law_of (Invariant m f) (orec_load c.args.a) Nothing n (λ v. CanOrecLoad c.args.a v × IsSpared c.args.a v) c.args.seat.now.me.0.view (orec_loads m f n c.args.a) (c.requires.view, c.requires.spared)

@@ -2,7 +2,7 @@ use Rattle.rule_ring.specs.RingSteps.{ring_free, CanRingFree}
 use Rattle.rule_base.specs.StepKinds.{Nothing}
 use Rattle.stm_rule.specs.Lifted.{ring_frees}
 use Rattle.stm_rule.specs.Kept.{good_of}
-use Rattle.stm_rule.specs.Product.{Whole}
+use Rattle.stm_rule.specs.Product.{Invariant}
 use Rattle.stm_rule.specs.Allowing.{law_of}
 use Rattle.steps_ring.proofs.committing.free.Goals as goal
 
@@ -11,4 +11,4 @@ store_as-requires-clause-law g c =
     let f = c.args.stm.now.config in
     let m = good_of g.K.MemRule.good f c.args.stm.now.rule in
     let n = c.args.caller in
-    law_of (Whole m f) ring_free Nothing n CanRingFree c.args.seat.now.me.0.view (ring_frees m f n) c.requires.view
+    law_of (Invariant m f) ring_free Nothing n CanRingFree c.args.seat.now.me.0.view (ring_frees m f n) c.requires.view

@@ -2,7 +2,7 @@ use Rattle.rule_ring.specs.RingSteps.{ring_lock, CanRingLock}
 use Rattle.stm_rule.specs.Findings.{FindsLock}
 use Rattle.stm_rule.specs.Lifted.{ring_locks}
 use Rattle.stm_rule.specs.Kept.{good_of}
-use Rattle.stm_rule.specs.Product.{Whole}
+use Rattle.stm_rule.specs.Product.{Invariant}
 use Rattle.stm_rule.specs.Allowing.{law_of}
 use Rattle.steps_ring.proofs.committing.lock.Goals as goal
 
@@ -11,4 +11,4 @@ exchange_as-requires-clause-law g c =
     let f = c.args.stm.now.config in
     let m = good_of g.K.MemRule.good f c.args.stm.now.rule in
     let n = c.args.caller in
-    law_of (Whole m f) (ring_lock n) (FindsLock f n) n CanRingLock c.args.seat.now.me.0.view (ring_locks m f n) c.requires.view
+    law_of (Invariant m f) (ring_lock n) (FindsLock f n) n CanRingLock c.args.seat.now.me.0.view (ring_locks m f n) c.requires.view

@@ -2,7 +2,7 @@ use Rattle.rule_promoted.specs.PromotedSteps.{ring_look_grant, CanRingGrant}
 use Rattle.steps_ring.specs.RingFindings.{FindsLook}
 use Rattle.steps_ring.specs.RingFindingLaws.{look_grants_beside}
 use Rattle.stm_rule.specs.Kept.{good_of}
-use Rattle.stm_rule.specs.Product.{Whole}
+use Rattle.stm_rule.specs.Product.{Invariant}
 use Rattle.stm_rule.specs.Allowing.{law_of}
 use Rattle.steps_ring.proofs.promoting.look_grant.Goals as goal
 
@@ -11,4 +11,4 @@ load_as-requires-clause-law g c =
     let f = c.args.stm.now.config in
     let m = good_of g.K.MemRule.good f c.args.stm.now.rule in
     let n = c.args.caller in
-    law_of (Whole m f) ring_look_grant (FindsLook m f) n CanRingGrant c.args.seat.now.me.0.view (look_grants_beside m f n) c.requires.view
+    law_of (Invariant m f) ring_look_grant (FindsLook m f) n CanRingGrant c.args.seat.now.me.0.view (look_grants_beside m f n) c.requires.view

@@ -3,7 +3,7 @@ use Rattle.steps_ring.specs.RingFindings.{FindsMove}
 use Rattle.steps_ring.specs.RingFindingLaws.{moves_beside}
 use Rattle.rule_ring.specs.SlotFilter.{slot_filter}
 use Rattle.stm_rule.specs.Kept.{good_of}
-use Rattle.stm_rule.specs.Product.{Whole}
+use Rattle.stm_rule.specs.Product.{Invariant}
 use Rattle.stm_rule.specs.Allowing.{law_of}
 use Rattle.steps_ring.proofs.reading.advance.Goals as goal
 
@@ -12,4 +12,4 @@ load_as-requires-clause-law g c =
     let f = c.args.stm.now.config in
     let m = good_of g.K.MemRule.good f c.args.stm.now.rule in
     let n = c.args.caller in
-    law_of (Whole m f) ring_move (FindsMove m f) n (CanRingMove slot_filter) c.args.seat.now.me.0.view (moves_beside m f n) c.requires.view
+    law_of (Invariant m f) ring_move (FindsMove m f) n (CanRingMove slot_filter) c.args.seat.now.me.0.view (moves_beside m f n) c.requires.view

@@ -2,7 +2,7 @@ use Rattle.rule_ring.specs.RingSteps.{ring_look, CanRingLook}
 use Rattle.steps_ring.specs.RingFindings.{FindsLook}
 use Rattle.steps_ring.specs.RingFindingLaws.{looks_beside}
 use Rattle.stm_rule.specs.Kept.{good_of}
-use Rattle.stm_rule.specs.Product.{Whole}
+use Rattle.stm_rule.specs.Product.{Invariant}
 use Rattle.stm_rule.specs.Allowing.{law_of}
 use Rattle.steps_ring.proofs.reading.look.Goals as goal
 
@@ -11,4 +11,4 @@ load_as-requires-clause-law g c =
     let f = c.args.stm.now.config in
     let m = good_of g.K.MemRule.good f c.args.stm.now.rule in
     let n = c.args.caller in
-    law_of (Whole m f) ring_look (FindsLook m f) n CanRingLook c.args.seat.now.me.0.view (looks_beside m f n) c.requires.view
+    law_of (Invariant m f) ring_look (FindsLook m f) n CanRingLook c.args.seat.now.me.0.view (looks_beside m f n) c.requires.view

@@ -6,7 +6,7 @@ use Rattle.rule_base.specs.declared.layout.At.TheVariants.{Slot}
 use Rattle.rule_base.specs.declared.layout.TheConstants.{SLOT_WORDS}
 use Rattle.rule_ring.specs.Slots.{slot_place, slot_place-inside}
 use Rattle.stm_rule.specs.Kept.{good_of}
-use Rattle.stm_rule.specs.Product.{Whole}
+use Rattle.stm_rule.specs.Product.{Invariant}
 use Rattle.stm_rule.specs.Allowing.{law_of}
 use Rattle.steps_ring.proofs.reading.word.Goals as goal
 
@@ -15,7 +15,7 @@ load_as-requires-clause-law g c =
     let f = c.args.stm.now.config in
     let m = good_of g.K.MemRule.good f c.args.stm.now.rule in
     let n = c.args.caller in
-    law_of (Whole m f) (ring_word f.ring c.args.time c.args.index) Nothing n (CanRingWord f.ring c.args.time c.args.index) c.args.seat.now.me.0.view (ring_words m f n c.args.time c.args.index) c.requires.view
+    law_of (Invariant m f) (ring_word f.ring c.args.time c.args.index) Nothing n (CanRingWord f.ring c.args.time c.args.index) c.args.seat.now.me.0.view (ring_words m f n c.args.time c.args.index) c.requires.view
 
 pub load_as-requires-clause-place : goal.load_as-requires-clause-place
 unfolding slot_place

@@ -6,7 +6,7 @@ use Rattle.stm_script.specs.declared.report.Report.{Report}
 use Rattle.stm_script.specs.declared.workload.Workload.{Workload}
 use Rattle.stm_script.specs.Reports.{Replays, zeros, nonzero}
 use Rattle.stm_check.specs.Verdicts.{AreRight, AllHaveRows, IsFirstFault, alike, Judges}
-use Rattle.stm_check.specs.Wanted.{IsItem, WantsBehind, IsWanted, Wants, word_of}
+use Rattle.stm_check.specs.Wanted.{IsItem, WantsAfter, IsWanted, Wants, word_of}
 use Rattle.stm_check.specs.declared.verdict.Verdict.{Verdict}
 use Rattle.stm_check.specs.declared.verdict.Verdict.TheVariants.{No}
 use Rattle.stm_check.specs.declared.wanted.Wanted.{Wanted}
@@ -36,18 +36,18 @@ left-not told left same s lt q = let e = alike-self left in let a = ap (λ x. al
 wants-no : (w : Workload) (r : Report) (v : Verdict) (o : Option Wanted) (line : ℕ) (x : Wanted) → v ≡ No line → o ≡ Some x → IsWanted w r x → Wants w r v o
 wants-no w r v o line x p q h = subst (λ u. Wants w r u o) (sym p) (subst (λ m. MatchOption m ⊥ (IsWanted w r)) (sym q) h)
 
--- what is wanted behind the rows, where the memory that they leave is told so
+-- what is wanted after the rows, where the memory that they leave is told so
 abbrev WantsIn : Workload → Report → List (ℕ × ℕ) → Wanted → Type 0
 WantsIn w r left (wants.Word address value) = AllHaveRows w r.rows × IsItem left (alike r.memory left) (address, value)
 WantsIn w r left wants.End = AllHaveRows w r.rows × (alike r.memory left ≡ length left) × (length left < length r.memory)
 WantsIn w r left x = ⊥
 
--- the word behind those that are alike, or the end
+-- the word after those that are alike, or the end
 behind-word : (w : Workload) (r : Report) (last : List ℕ) (left : List (ℕ × ℕ)) (same : ℕ) (x : Wanted) → AreRight w [] (zeros w.header.words) r.rows last → AllHaveRows w r.rows → left ≡ nonzero 0 last
     → same ≡ alike r.memory left → same ≤ length left → (same < length left → x ≡ word_of (get_or left same (0, 0))) → (length left ≤ same → x ≡ wants.End) → (same < length r.memory) ⊎ (same < length left) → IsWanted w r x
 behind-word w r last left same x right all l s le word end more = inr (last, right, behind x (subst (λ k. WantsIn w r k x) l (by (ltb same (length left)) refl)))
   where
-    behind : (y : Wanted) → WantsIn w r (nonzero 0 last) y → WantsBehind w r last y
+    behind : (y : Wanted) → WantsIn w r (nonzero 0 last) y → WantsAfter w r last y
     behind (wants.Word address value) h = h
     behind wants.End h = h
     behind wants.Later h = absurd h

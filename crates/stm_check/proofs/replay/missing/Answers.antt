@@ -5,7 +5,7 @@ use Rattle.stm_script.specs.declared.report.Row.{Row}
 use Rattle.stm_script.specs.declared.workload.Workload.{Workload}
 use Rattle.stm_script.specs.Reports.{rows_of, scripts_of, regions_of}
 use Rattle.stm_script.specs.Workloads.{ItemsFit}
-use Rattle.stm_check.specs.Standing.{IsAt, StandsBehind}
+use Rattle.stm_check.specs.Standing.{IsAt, StandsAfter}
 use Rattle.stm_check.specs.declared.replay.Standing.{Standing}
 use Rattle.stm_check.proofs.StandingLaws.{none-left, scripts-none}
 use Rattle.stm_check.proofs.replay.missing.Goals as goal
@@ -18,7 +18,7 @@ one-more w above k before here n lt = by (n == k) refl
     by true e = let q : k ≡ n = grind (arith, nat_tests) in subst (λ j. length (rows_of j above) ≡ length (scripts_of j w.items)) q here
     by false e = before n (let q : n ≢ k = grind (arith, nat_tests) in omega arith)
 
-all-of : (w : Workload) (above : List Row) (s : Standing) (k : ℕ) → ItemsFit (regions_of w.header) w.header w.items → StandsBehind w above s → w.header.callers ≤ k → ((n : ℕ) → n < k → length (rows_of n above) ≡ length (scripts_of n w.items))
+all-of : (w : Workload) (above : List Row) (s : Standing) (k : ℕ) → ItemsFit (regions_of w.header) w.header w.items → StandsAfter w above s → w.header.callers ≤ k → ((n : ℕ) → n < k → length (rows_of n above) ≡ length (scripts_of n w.items))
     → (n : ℕ) → length (rows_of n above) ≡ length (scripts_of n w.items)
 all-of w above s k fit stands le before n = by (ltb n k) refl
   where

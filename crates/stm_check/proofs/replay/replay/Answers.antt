@@ -11,7 +11,7 @@ use Rattle.stm_check.specs.declared.wanted.Wanted.{Wanted}
 use Rattle.stm_script.specs.declared.report.Report.{Report}
 use Rattle.stm_script.specs.declared.workload.Workload.{Workload}
 use Rattle.std.specs.Prelude.{Option, Some, MatchOption}
-use Rattle.stm_check.specs.Standing.{StandsBehind}
+use Rattle.stm_check.specs.Standing.{StandsAfter}
 use Rattle.stm_check.proofs.VerdictLaws.{fault-refutes}
 use Rattle.stm_check.proofs.StandingLaws.{right-more, wants-more, wants-here, take-row}
 use Rattle.stm_check.proofs.WantedLaws.{wants-at}
@@ -45,7 +45,7 @@ loop-i-preserved c =
     let lt : i < length rows = subst (λ (l : List Row). i < length l) e c.loop-i-test.true in
     let memory = k.memory none in
     record {
-      stands = subst (λ (l : List Row). StandsBehind w l c.wanted_for.new.standing) (ap (λ (l : List Row). take i l ++ r ∷ []) e ∙ take-row rows i r lt at) (k.stands none);
+      stands = subst (λ (l : List Row). StandsAfter w l c.wanted_for.new.standing) (ap (λ (l : List Row). take i l ++ r ∷ []) e ∙ take-row rows i r lt at) (k.stands none);
       right = λ last h. c.loop-i.invariant.right last (right-more w rows i r m now lt at right memory last h);
       wants = λ n wanted h. subst (λ j. WantsAt w [] (zeros w.header.words) rows j wanted) (let s : i + suc n ≡ i + 1 + n = omega arith in s) (c.loop-i.invariant.wants (suc n) wanted (wants-more w rows i r m now lt at right memory n wanted h));
     }
@@ -94,4 +94,4 @@ pub judge_end-requires-clause-stands : goal.judge_end-requires-clause-stands
 judge_end-requires-clause-stands c =
     let rows = c.args.report.now.rows in
     let past = subst (λ (l : List Row). length l ≤ c.loop-i.i) c.as_slice-rows.ensures c.loop-i-test.false in
-    subst (λ (l : List Row). StandsBehind c.args.workload.now l c.loop-i.standing) (take_all c.loop-i.i rows past) c.loop-i.invariant.stands
+    subst (λ (l : List Row). StandsAfter c.args.workload.now l c.loop-i.standing) (take_all c.loop-i.i rows past) c.loop-i.invariant.stands

@@ -4,12 +4,12 @@ use Rattle.stm_script.specs.Reports.{zeros}
 use Rattle.stm_check.specs.Verdicts.{AreRight}
 use Rattle.stm_check.specs.Wanted.{WantsAt}
 use Rattle.stm_check.specs.declared.wanted.Wanted.{Wanted}
-use Rattle.stm_check.specs.Standing.{StandsBehind}
+use Rattle.stm_check.specs.Standing.{StandsAfter}
 use Rattle.stm_check.proofs.replay.replay.Given as goal
 
 abbrev pub invariant-loop-i : goal.invariant-loop-i
 invariant-loop-i l = record {
-  stands : StandsBehind l.workload (take l.i l.report.rows) l.standing;
+  stands : StandsAfter l.workload (take l.i l.report.rows) l.standing;
   right : (last : List ℕ) → AreRight l.workload (take l.i l.report.rows) (openings l.standing.ledger) (drop l.i l.report.rows) last → AreRight l.workload [] (zeros l.workload.header.words) l.report.rows last;
   wants : (n : ℕ) (wanted : Wanted) → WantsAt l.workload (take l.i l.report.rows) (openings l.standing.ledger) (drop l.i l.report.rows) n wanted → WantsAt l.workload [] (zeros l.workload.header.words) l.report.rows (l.i + n) wanted;
 }

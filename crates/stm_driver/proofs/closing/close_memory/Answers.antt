@@ -7,7 +7,7 @@ use Rattle.stm_script.specs.declared.report.Row.{Row}
 use Rattle.stm_trace.specs.declared.said.Phase.TheVariants.{Between}
 use Rattle.stm_worker.specs.declared.worker.Worker.{Worker}
 use Rattle.stm_driver.specs.AllWorkers.{workers_in, descs_of, rows_of}
-use Rattle.stm_driver.specs.declared.outcome.Outcome.TheVariants.{ToEnd, ToLimit, OutOfMemory}
+use Rattle.stm_driver.specs.declared.outcome.RunOutcome.TheVariants.{ToEnd, ToLimit, OutOfMemory}
 use Rattle.stm_driver.specs.declared.schedule.Halt.{Halt}
 use Rattle.stm_driver.specs.ClosedRuns.{Came, CutShort, IsReport, Reported}
 use Rattle.stm_driver.specs.Schedules.{AreSound}

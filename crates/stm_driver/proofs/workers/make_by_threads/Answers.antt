@@ -2,7 +2,7 @@ use Rattle.std.proofs.Common.{rules, ◌≡◌, ◌+◌, [], length, map, slice_
 use Rattle.std.proofs.Math.ListN.{get_or-map}
 use Rattle.std.proofs.lemmas.List.{length-map}
 use Rattle.std.proofs.lemmas.Result.{IfOk-weaker}
-use Rattle.tx_answers.specs.Known.{caller_of}
+use Rattle.tx_answers.specs.CallerState.{caller_of}
 use Rattle.stm_driver.specs.AllWorkers.{AreMadeOf, IsMadeOf, workers_in}
 use Rattle.stm_driver.proofs.WorkersLaws.{made-of}
 use Rattle.stm_driver.proofs.workers.make_by_threads.Goals as goal

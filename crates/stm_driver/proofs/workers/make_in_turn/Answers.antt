@@ -2,7 +2,7 @@ use Rattle.std.proofs.Common.{◌≡◌, ◌<◌, ◌+◌, ◌++◌, ◌∷◌, 
 use Rattle.std.specs.Vec.Iter.{into_iter_items}
 use Rattle.std.proofs.Math.Seq.{get_or-append_seam}
 use Rattle.std.proofs.lemmas.List.{map-append}
-use Rattle.tx_answers.specs.Known.{caller_of}
+use Rattle.tx_answers.specs.CallerState.{caller_of}
 use Rattle.stm_driver.specs.AllWorkers.{AreMadeOf, IsMadeOf, worker_in, workers_in}
 use Rattle.stm_driver.proofs.WorkersLaws.{made-more}
 use Rattle.stm_driver.proofs.workers.make_in_turn.Goals as goal

@@ -8,7 +8,7 @@ use Rattle.stm_rule.specs.Attempts.{good_by, own_of, Stands}
 use Rattle.stm_rule.specs.Callers.{Handle, handle_of}
 use Rattle.stm_rule.specs.StandLemmas.{tells-of, closing-of}
 use Rattle.tx_answers.specs.Answers.{HoldsClosed, Installs, SeesQuiet}
-use Rattle.tx_answers.specs.Known.{Known, caller_of}
+use Rattle.tx_answers.specs.CallerState.{CallerState, caller_of}
 use Rattle.stm_gate.specs.Knowing.{known, number}
 use Rattle.stm_gate.specs.Standing.{shown-of, who-of}
 use Rattle.stm_gate.proofs.InstallLaws.{tells-installed, closing-installed, closing-flags, stands-closing}
@@ -20,7 +20,7 @@ returns-clause-installs g c =
     let holds = subst (λ (p : Handle g.row.K.Denot). HoldsClosed (known p)) (sym c.desc.view_is) c.requires.closing in
     let closing = closing-of (good_by g.K.MemRule.good c.desc.inside.seat.me.0.who.rule) c.desc.inside.seat.me.0.who.config c.desc.inside.number c.desc.inside.local c.desc.inside.seat.me.0.view holds.phase c.desc.invariant.1 in
     let name : caller_of c.desc.inside.seat.me.0.who.role ≡ c.desc.inside.number = ap caller_of c.desc.invariant.0.named in
-    shown-of (λ (n : ℕ) (v w : Known). Installs good c.args.stm.now.config n c.args.alg v w) _ _ _ c.install.new.seat.me.0.view c.desc.inside.local c.desc.inside.local c.desc.view_is refl name
+    shown-of (λ (n : ℕ) (v w : CallerState). Installs good c.args.stm.now.config n c.args.alg v w) _ _ _ c.install.new.seat.me.0.view c.desc.inside.local c.desc.inside.local c.desc.view_is refl name
     (tells-installed good c.args.stm.now.config c.desc.inside.number c.desc.inside.local.fence c.args.alg c.settle_for-clock.result c.desc.inside.seat.me.0.view c.settle_for-clock.new.seat.me.0.view c.store_base.new.seat.me.0.view c.store_done.new.seat.me.0.view c.install.new.seat.me.0.view (own_of c.desc.inside.local) holds
     (subst (λ (k : ℕ). SeesQuiet good c.args.stm.now.config k (known (handle_of c.desc.inside.seat (own_of c.desc.inside.local)))) name (subst (λ (p : Handle g.row.K.Denot). SeesQuiet good c.args.stm.now.config (number p) (known p)) (sym c.desc.view_is) c.requires.quiet)) closing.ungranted closing.clear c.settle_for-clock.ensures.settles (tells-of (store_base c.settle_for-clock.result) Nothing _ c.settle_for-clock.result _ c.store_base.ensures.step)
     (tells-of (store_done c.settle_for-clock.result) Nothing _ c.settle_for-clock.result _ c.store_done.ensures.step) (tells-of (install c.desc.inside.number c.desc.inside.local.fence c.args.alg) Nothing _ (gate_word c.desc.inside.local.fence (1 + c.desc.inside.number) c.args.alg) _ c.install.ensures.step))

@@ -4,7 +4,7 @@ use Rattle.rule_base.specs.StepKinds.{Nothing}
 use Rattle.stm_rule.specs.Attempts.{HasLooked}
 use Rattle.stm_rule.specs.Callers.{Handle}
 use Rattle.stm_rule.specs.StandLemmas.{tells-of}
-use Rattle.tx_answers.specs.Known.{caller_of}
+use Rattle.tx_answers.specs.CallerState.{caller_of}
 use Rattle.stm_gate.specs.Knowing.{number}
 use Rattle.stm_gate.specs.Looking.{Finds, LooksOn}
 use Rattle.stm_gate.specs.LookingLaws.{looks-none, looks-one, finds-one}

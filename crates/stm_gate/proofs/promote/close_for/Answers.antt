@@ -10,7 +10,7 @@ use Rattle.stm_rule.specs.Callers.{Handle, handle_of}
 use Rattle.stm_rule.specs.Findings.{FindsGate, FindsTaken}
 use Rattle.stm_rule.specs.StandLemmas.{tells-of}
 use Rattle.tx_answers.specs.Answers.{IsOpaque}
-use Rattle.tx_answers.specs.Known.{caller_of, is_irrevocable}
+use Rattle.tx_answers.specs.CallerState.{caller_of, is_irrevocable}
 use Rattle.stm_gate.specs.Knowing.{known, number}
 use Rattle.stm_gate.specs.Opacity.{opaque-inside}
 use Rattle.stm_gate.specs.Promoting.{ClosesFor}

@@ -2,7 +2,7 @@ use Rattle.std.proofs.Common.{◌≡◌, ◌%◌, List, [], ◌∷◌, ◌++◌,
 use Rattle.stm_script.specs.declared.op.Op.{Op}
 use Rattle.stm_script.specs.declared.workload.Item.{Item}
 use Rattle.stm_script.specs.declared.workload.Item.TheVariants.{Tx}
-use Rattle.stm_gen.specs.Generated.{items_for, operation, switch_behind}
+use Rattle.stm_gen.specs.Generated.{items_for, operation, switch_after}
 use Rattle.stm_gen.proofs.DrawLaws.{items-on}
 use Rattle.stm_gen.proofs.generate.make_items.Goals as goal
 
@@ -13,7 +13,7 @@ loop-i-preserved c =
     let before : c.loop-i.items.items ≡ items_for c.loop-i.i c.args.callers c.args.seed = c.loop-i.invariant.items in
     let pushed : c.push-in-loop-i.new.self.items ≡ items_for c.loop-i.i c.args.callers c.args.seed ++ Tx (c.loop-i.i % c.args.callers) (operation c.args.seed c.loop-i.i ∷ []) ∷ [] = c.in_ok-push-2.ensures.items ∙ (λ k. before k ++ item k ∷ []) in
     record {
-      items = c.in_ok-put_switch.ensures.items ∙ (ap (λ (is : List Item). is ++ switch_behind c.loop-i.i) pushed ∙ items-on c.loop-i.i c.args.callers c.args.seed);
+      items = c.in_ok-put_switch.ensures.items ∙ (ap (λ (is : List Item). is ++ switch_after c.loop-i.i) pushed ∙ items-on c.loop-i.i c.args.callers c.args.seed);
       draws = op.1;
       alg = c.in_ok-put_switch.ensures.alg;
     }

@@ -11,7 +11,7 @@ returns-in-Space-clause-step c =
     let seen = c.first_word-i.ensures.visible in
     let t = c.past.result.now in
     let at = space-at c.first_word-i.result.1 i s t c.in-Space.is c.first_word-i.ensures.end c.past.ensures in
-    c.behind_one.ensures.step ∙ sym (read-space (by_words c.args.mode c.args.draft.now) s i t seen at)
+    c.after_one.ensures.step ∙ sym (read-space (by_words c.args.mode c.args.draft.now) s i t seen at)
 
 pub returns-in-Space-clause-rest : goal.returns-in-Space-clause-rest
 returns-in-Space-clause-rest c =
@@ -20,7 +20,7 @@ returns-in-Space-clause-rest c =
     let seen = c.first_word-i.ensures.visible in
     let t = c.past.result.now in
     let at = space-at c.first_word-i.result.1 i s t c.in-Space.is c.first_word-i.ensures.end c.past.ensures in
-    on-space c.behind_one.result.0 s i t c.behind_one.result.1.now seen at c.behind_one.ensures.rest
+    on-space c.after_one.result.0 s i t c.after_one.result.1.now seen at c.after_one.ensures.rest
 
 pub returns-in-Line-clause-step : goal.returns-in-Line-clause-step
 returns-in-Line-clause-step c =

@@ -14,7 +14,7 @@ use Rattle.stm_rule.specs.StandLemmas.{tells-of, outside-of}
 use Rattle.stm_gate.specs.Standing.{who-of, shown-of}
 use Rattle.tx_answers.specs.declared.answers.Begin.TheVariants.{Begun, Closed}
 use Rattle.tx_answers.specs.Answers.{Begins}
-use Rattle.tx_answers.specs.Known.{known_of, caller_of}
+use Rattle.tx_answers.specs.CallerState.{known_of, caller_of}
 use Rattle.stm_gate.specs.Starts.{CanBegin, Starts}
 use Rattle.stm_rule.specs.RecordsKept.{cells_of}
 use Rattle.stm_gate.specs.Told.{stands-in}

@@ -4,18 +4,18 @@ use Rattle.stm_model.specs.Algorithms.{closes_gate}
 use Rattle.stm_model.specs.declared.alg.Alg.{Alg}
 use Rattle.stm_model.specs.declared.alg.Alg.TheVariants.{Cgl, Tml, OrecLazy, OrecEager, RingSw, Serial}
 use Rattle.rule_base.specs.declared.views.View.{View}
-use Rattle.rule_base.specs.Fence.{veil}
+use Rattle.rule_base.specs.Fence.{without_fence}
 use Rattle.stm_rule.specs.FencedRest.{rest-of, at-rest-of}
 use Rattle.stm_rule.specs.Kept.{good_of}
 use Rattle.stm_rule.specs.RestLaws.{quiet-rests, granted-rests}
-use Rattle.tx_answers.specs.Known.{granted_under}
+use Rattle.tx_answers.specs.CallerState.{granted_under}
 use Rattle.stm_tx.proofs.laws.rest_is_answered.Goals as goal
 
 pub returns : goal.returns
 returns g c = record {
-  quiet = λ rule config n own w r closed quiet. at-rest-of (good_of g.K.MemRule.good config rule) config n w r (quiet-rests (good_of g.K.MemRule.good config rule) config n (veil w) r.core (record { closing = closed.phase; checked = quiet }));
-  granted = λ rule config n own w r closes granted. rest-of (good_of g.K.MemRule.good config rule) config n w r (granted-rests (good_of g.K.MemRule.good config rule) config n (veil w) r.core (promoted (w.views n) (w.views n).gate.algorithm closes granted));
-  installed = λ rule config n own w r closed settled. let s = all-three (w.views n).gate.calm (w.views n).gate.rebased (w.views n).gate.completed settled in
+  quiet = λ rule config n own w r closed quiet. at-rest-of (good_of g.K.MemRule.good config rule) config n w r (quiet-rests (good_of g.K.MemRule.good config rule) config n (without_fence w) r.core (record { closing = closed.phase; checked = quiet }));
+  granted = λ rule config n own w r closes granted. rest-of (good_of g.K.MemRule.good config rule) config n w r (granted-rests (good_of g.K.MemRule.good config rule) config n (without_fence w) r.core (promoted (w.views n) (w.views n).gate.algorithm closes granted));
+  installed = λ rule config n own w r closed settled. let s = all-three (w.views n).gate.quiescent (w.views n).gate.rebased (w.views n).gate.completed settled in
       let t = r.core.install.time n s.0 in
       ((r.core.install.rebased n s.1).1 ∙ sym t, (r.core.install.completed n s.2).1 ∙ sym t);
 }

@@ -3,7 +3,7 @@ use Rattle.stm_rule.specs.Attempts.{HasRoom, IsInside, good_by, own_of}
 use Rattle.stm_rule.specs.Callers.{Handle}
 use Rattle.stm_rule.specs.StandLemmas.{inside-of}
 use Rattle.tx_answers.specs.Answers.{IsMarked}
-use Rattle.tx_answers.specs.Known.{known_of, is_in}
+use Rattle.tx_answers.specs.CallerState.{known_of, is_in}
 use Rattle.tx_logs.specs.LogStates.{LogState}
 use Rattle.stm_gate.specs.Standing.{in-of}
 use Rattle.stm_gate.specs.Told.{stands-on}

@@ -3,8 +3,8 @@ use Rattle.std.specs.Prelude.{if◌then◌else◌}
 use Rattle.stm_rule.specs.Callers.{Handle, IsSameCaller}
 use Rattle.stm_rule.specs.declared.stm.Stm.{Stm}
 use Rattle.tx_answers.specs.Answers.{HoldsClosed, Stays}
-use Rattle.tx_answers.specs.Known.{IsIdle, caller_of, owed}
-use Rattle.tx_answers.specs.KnownLaws.{grows-same}
+use Rattle.tx_answers.specs.CallerState.{IsIdle, caller_of, owed}
+use Rattle.tx_answers.specs.CallerStateLaws.{grows-same}
 use Rattle.stm_tx.specs.Descs.{known}
 use Rattle.stm_trace.specs.declared.said.Phase.TheVariants.{Between}
 use Rattle.stm_worker.specs.declared.worker.Worker.{Worker}

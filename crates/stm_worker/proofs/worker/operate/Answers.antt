@@ -1,5 +1,5 @@
 use Rattle.std.proofs.Common.{rules}
-use Rattle.tx_answers.specs.Known.{caller_of}
+use Rattle.tx_answers.specs.CallerState.{caller_of}
 use Rattle.stm_tx.specs.Descs.{known}
 use Rattle.stm_worker.proofs.StopLaws.{stopped-by}
 use Rattle.stm_worker.proofs.worker.operate.Goals as goal

@@ -1,5 +1,5 @@
 use Rattle.std.proofs.Common.{rules, refl, leb, subst}
-use Rattle.tx_answers.specs.KnownLaws.{carries-refl, grows-trans}
+use Rattle.tx_answers.specs.CallerStateLaws.{carries-refl, grows-trans}
 use Rattle.stm_tx.specs.Descs.{known, number}
 use Rattle.tx_atomic.specs.Attempts.{TookEffect}
 use Rattle.tx_atomic.specs.AttemptLaws.{same-number, took-since}
@@ -78,6 +78,6 @@ returns-in-Ok-clause-took g c =
     let u = known c.args.desc.now in
     let v = known c.loop.desc in
     let w = known c.attempt.new.desc in
-    let tells = g.T.Transaction.tells c.args.transaction.now stm.rule stm.config.words c.in-Ok.output in
-    let now = subst (λ n. TookEffect good stm.config n tells v.front v w) (same-number c.args.desc.now c.loop.desc inv.same) c.in-Ok.ensures.took in
-    took-since good stm.config (number c.args.desc.now) tells v.front u.front u v w inv.made inv.grew inv.grew.front_rose now
+    let postcondition = g.T.Transaction.postcondition c.args.transaction.now stm.rule stm.config.words c.in-Ok.output in
+    let now = subst (λ n. TookEffect good stm.config n postcondition v.front v w) (same-number c.args.desc.now c.loop.desc inv.same) c.in-Ok.ensures.took in
+    took-since good stm.config (number c.args.desc.now) postcondition v.front u.front u v w inv.made inv.grew inv.grew.front_rose now

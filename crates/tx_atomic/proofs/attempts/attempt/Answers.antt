@@ -1,7 +1,7 @@
 use Rattle.std.proofs.Common.{◌∙◌, subst}
 use Rattle.std.specs.Prelude.{Some, None, MatchResult}
 use Rattle.std.proofs.lemmas.Result.{err_from_is_err_and, IfOk-weaker, on_err_weaker}
-use Rattle.tx_answers.specs.KnownLaws.{grows-trans}
+use Rattle.tx_answers.specs.CallerStateLaws.{grows-trans}
 use Rattle.stm_tx.specs.Descs.{known, number}
 use Rattle.tx_atomic.specs.Attempts.{TookEffect}
 use Rattle.tx_atomic.specs.AttemptLaws.{same-number, took-since}
@@ -25,9 +25,9 @@ returns-clause-took g c =
     let v = known c.open.new.desc in
     let w = known c.run.new.desc in
     IfOk-weaker c.run.result _ _ (λ output took.
-    let tells = g.T.Transaction.tells c.args.transaction.now stm.rule stm.config.words output in
-    let now = subst (λ n. TookEffect good stm.config n tells v.start v w) (same-number c.args.desc.now c.open.new.desc c.open.ensures.same) took in
-    took-since good stm.config (number c.args.desc.now) tells v.start u.front u v w c.open.ensures.made c.open.ensures.grew c.in_ok-open.ensures.later now) c.run.ensures.took
+    let postcondition = g.T.Transaction.postcondition c.args.transaction.now stm.rule stm.config.words output in
+    let now = subst (λ n. TookEffect good stm.config n postcondition v.start v w) (same-number c.args.desc.now c.open.new.desc c.open.ensures.same) took in
+    took-since good stm.config (number c.args.desc.now) postcondition v.start u.front u v w c.open.ensures.made c.open.ensures.grew c.in_ok-open.ensures.later now) c.run.ensures.took
 
 pub returns-clause-none : goal.returns-clause-none
 returns-clause-none g c = on_err_weaker c.run.result (λ made. made ∙ c.open.ensures.made) c.run.ensures.none

@@ -2,8 +2,8 @@ use Rattle.stm_tx.specs.Descs.{known, number}
 use Rattle.std.proofs.Common.{ℕ, ◌≡◌, ◌≢◌, Bool, true, false, sym, subst}
 use Rattle.std.specs.Prelude.{◌==◌, ◌&&◌, not, if◌then◌else◌, Some, None, is_some}
 use Rattle.rule_base.specs.Encodings.{fence_from, fence_count}
-use Rattle.tx_answers.specs.Known.{Known}
-use Rattle.tx_answers.specs.KnownLaws.{carries-refl}
+use Rattle.tx_answers.specs.CallerState.{CallerState}
+use Rattle.tx_answers.specs.CallerStateLaws.{carries-refl}
 use Rattle.stm_tx.specs.Fencing.{fence_seen}
 use Rattle.tx_atomic.specs.AttemptLaws.{commits-grow}
 use Rattle.tx_atomic.specs.declared.tally.Ended.{Ended}
@@ -17,7 +17,7 @@ returns-then-is_some-clause-grew g c =
     commits-grow (g.K.MemRule.good stm.rule) stm.config (number c.try_begin.new.desc) c.turn_back.ensures.commits.0 (known c.args.desc.now) (known c.try_begin.new.desc) (known c.turn_back.new.desc) c.in-Begun.ensures.begins.grows c.turn_back.ensures.commits.1
 
 -- who sees a range knows of a fence
-seen : (v : Known) → is_some {T = ℕ × ℕ} (fence_seen v) ≡ true → v.fence ≢ 0
+seen : (v : CallerState) → is_some {T = ℕ × ℕ} (fence_seen v) ≡ true → v.fence ≢ 0
 seen v some none = by v.running v.fence none some where
   by : (running : Bool) (fence : ℕ) → fence ≡ 0 → is_some {T = ℕ × ℕ} (if running && not (fence == 0) then Some (fence_from fence, fence_count fence) else None) ≡ true → ⊥
   by true fence none some = let s = subst (λ (f : ℕ). is_some {T = ℕ × ℕ} (if true && not (f == 0) then Some (fence_from f, fence_count f) else None) ≡ true) none some in cc

@@ -4,10 +4,10 @@ use Rattle.stm_model.specs.declared.config.Config.{Config}
 use Rattle.stm_model.specs.declared.alg.Alg.{Alg}
 use Rattle.stm_model.specs.Logs.{Log, Keeps}
 use Rattle.tx_answers.specs.Answers.{Commits}
-use Rattle.tx_answers.specs.KnownLaws.{carries-refl}
+use Rattle.tx_answers.specs.CallerStateLaws.{carries-refl}
 use Rattle.stm_tx.specs.Descs.{known, number}
 use Rattle.tx_atomic.specs.AttemptLaws.{commits-grow, same-number, took-by}
-use Rattle.tx_answers.specs.Known.{Known}
+use Rattle.tx_answers.specs.CallerState.{CallerState}
 use Rattle.tx_atomic.specs.declared.tally.Ended.{Ended}
 use Rattle.tx_atomic.specs.declared.tally.Ended.TheVariants as ends
 use Rattle.tx_atomic.specs.declared.tally.Ended.TheVariants.{Again}
@@ -52,11 +52,11 @@ loop-preserved g c =
     search (rules, grew, went, again)
 
 -- what came of the calls, and the last of them
-finishes : (good : List ℕ → Type 0) (config : Config) (n m : ℕ) (o : Option Ended) (u v w : Known) (s t : Tally) → m ≡ n → (k : ℕ) × FindsAgain good config n k u v × (t ≡ noted_times k Again s) → FinishesBy good config m o v w → Finishes good config n o u w s t
+finishes : (good : List ℕ → Type 0) (config : Config) (n m : ℕ) (o : Option Ended) (u v w : CallerState) (s t : Tally) → m ≡ n → (k : ℕ) × FindsAgain good config n k u v × (t ≡ noted_times k Again s) → FinishesBy good config m o v w → Finishes good config n o u w s t
 finishes good config n m o u v w s t same again h = record { again = again.0; before = v; waits = again.1; last = subst (λ i. FinishesBy good config i o v w) same h; counted = again.2 }
 
 -- the same of a refusal, which the pacing keeps
-refused : (good : List ℕ → Type 0) (config : Config) (n m : ℕ) (e last : Ended) (u v w : Known) (s t t' : Tally) → last ≡ e → t' ≡ t → m ≡ n → (k : ℕ) × FindsAgain good config n k u v × (t ≡ noted_times k Again s) → FinishesBy good config m (Some e) v w → Finishes good config n (Some last) u w s t'
+refused : (good : List ℕ → Type 0) (config : Config) (n m : ℕ) (e last : Ended) (u v w : CallerState) (s t t' : Tally) → last ≡ e → t' ≡ t → m ≡ n → (k : ℕ) × FindsAgain good config n k u v × (t ≡ noted_times k Again s) → FinishesBy good config m (Some e) v w → Finishes good config n (Some last) u w s t'
 refused good config n m e last u v w s t t' is kept same again h = subst (λ (d : Ended). Finishes good config n (Some d) u w s t') (sym is) (finishes good config n m (Some e) u v w s t' same (again.0, again.1, kept ∙ again.2) h)
 
 pub returns-in-Committed-clause-finishes : goal.returns-in-Committed-clause-finishes

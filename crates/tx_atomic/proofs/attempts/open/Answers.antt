@@ -1,4 +1,4 @@
-use Rattle.tx_answers.specs.KnownLaws.{grows-trans}
+use Rattle.tx_answers.specs.CallerStateLaws.{grows-trans}
 use Rattle.std.proofs.Common.{sym, subst}
 use Rattle.std.proofs.lemmas.Result.{err_from_is_err_and}
 use Rattle.std.specs.Prelude.{Some, None}

@@ -1,12 +1,12 @@
 use Rattle.std.proofs.Common.{ℕ, suc, ◌≡◌, ◌∙◌, List, rules, refl, ap, sym, subst}
 use Rattle.std.specs.Prelude.{Some}
 use Rattle.stm_model.specs.declared.config.Config.{Config}
-use Rattle.tx_answers.specs.KnownLaws.{carries-refl}
+use Rattle.tx_answers.specs.CallerStateLaws.{carries-refl}
 use Rattle.stm_tx.specs.Descs.{known, number}
 use Rattle.tx_atomic.specs.AttemptLaws.{same-number, still-revocable, cancels-grow, cancels-idle, cancels-made, irrevs-grow}
 use Rattle.tx_answers.specs.declared.answers.Irrev.TheVariants as grants
 use Rattle.tx_answers.specs.Answers.{Irrevs}
-use Rattle.tx_answers.specs.Known.{Known}
+use Rattle.tx_answers.specs.CallerState.{CallerState}
 use Rattle.tx_atomic.specs.declared.tally.Ended.{Ended}
 use Rattle.tx_atomic.specs.declared.tally.Ended.TheVariants as ends
 use Rattle.tx_atomic.specs.declared.tally.Ended.TheVariants.{Busy}
@@ -48,7 +48,7 @@ loop-preserved g c =
     search (rules, grew, waits, busy)
 
 -- what came of the calls, and the last of them, which the pacing keeps
-asks : (good : List ℕ → Type 0) (config : Config) (n m : ℕ) (e last : Ended) (u v w : Known) (s t t' : Tally) → last ≡ e → t' ≡ t → m ≡ n → (k : ℕ) × FindsBusy good config n k u v × (t ≡ noted_times k Busy s) → EndsPromotion good config m e v w → Asks good config n (Some last) u w s t'
+asks : (good : List ℕ → Type 0) (config : Config) (n m : ℕ) (e last : Ended) (u v w : CallerState) (s t t' : Tally) → last ≡ e → t' ≡ t → m ≡ n → (k : ℕ) × FindsBusy good config n k u v × (t ≡ noted_times k Busy s) → EndsPromotion good config m e v w → Asks good config n (Some last) u w s t'
 asks good config n m e last u v w s t t' is kept same busy h = subst (λ (d : Ended). Asks good config n (Some d) u w s t') (sym is) (record { busy = busy.0; asked = v; waits = busy.1; last = subst (λ i. EndsPromotion good config i e v w) same h; counted = kept ∙ busy.2 })
 
 pub returns-in-Granted-clause-asks : goal.returns-in-Granted-clause-asks

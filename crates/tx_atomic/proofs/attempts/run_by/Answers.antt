@@ -3,7 +3,7 @@ use Rattle.std.specs.Prelude.{◌⊎◌, Some, None}
 use Rattle.std.proofs.lemmas.Result.{err_from_is_err_and}
 use Rattle.tx_answers.specs.declared.answers.Commit.TheVariants.{Committed, ReadOnly}
 use Rattle.tx_answers.specs.Answers.{Commits}
-use Rattle.tx_answers.specs.KnownLaws.{grows-trans}
+use Rattle.tx_answers.specs.CallerStateLaws.{grows-trans}
 use Rattle.stm_model.specs.declared.alg.Alg.{Alg}
 use Rattle.stm_tx.specs.Descs.{known, number}
 use Rattle.tx_atomic.specs.AttemptLaws.{same-number}
@@ -38,7 +38,7 @@ returns-in_err-end-clause-runs g c =
     let p = err_from_is_err_and c.from_residual-in_err-end.result c.from_residual-in_err-end.ensures.1 in
     rw p.1 runs
 
--- what an attempt was not behind its work it was not before
+-- what an attempt was not after its work it was not before
 was_not : (a b : Bool) → (a ≡ true → b ≡ true) → b ≡ false → a ≡ false
 was_not true b stays is = let yes : b ≡ true = stays refl in let wrong : true ≡ false = sym yes ∙ is in absurd cc
 was_not false b stays is = refl
@@ -71,7 +71,7 @@ returns-clause-took g c =
     let t = c.in_ok-end.ensures.took in
     record {
       before = t.before;
-      told = subst (λ l. g.T.Transaction.tells c.args.transaction.now stm.rule stm.config.words c.in_ok-output.output l) (sym t.told) c.in_ok-output.ensures.tells;
+      told = subst (λ l. g.T.Transaction.postcondition c.args.transaction.now stm.rule stm.config.words c.in_ok-output.output l) (sym t.told) c.in_ok-output.ensures.postcondition;
       made = t.made ∙ c.act.ensures.made;
       grows = grows-trans u v t.before c.act.ensures.grew t.grows;
       later = (let b = c.in_ok-output.ensures.later in let d = t.later in omega (arith, b, d));

@@ -1,6 +1,6 @@
 use Rattle.std.proofs.Common.{◌≡◌}
 use Rattle.stm_rule.specs.Callers.{IsSameCaller}
-use Rattle.tx_answers.specs.Known.{Grows, IsIdle}
+use Rattle.tx_answers.specs.CallerState.{Grows, IsIdle}
 use Rattle.stm_tx.specs.Descs.{known}
 use Rattle.tx_atomic.proofs.switching.close_alone.Given as goal
 

@@ -1,7 +1,7 @@
 use Rattle.std.proofs.Common.{◌≡◌}
 use Rattle.stm_rule.specs.Callers.{IsSameCaller}
 use Rattle.tx_answers.specs.Answers.{HoldsClosed}
-use Rattle.tx_answers.specs.Known.{Grows}
+use Rattle.tx_answers.specs.CallerState.{Grows}
 use Rattle.stm_tx.specs.Descs.{known}
 use Rattle.tx_atomic.proofs.switching.see_others_leave.Given as goal
 

@@ -1,4 +1,4 @@
-use Rattle.tx_answers.specs.KnownLaws.{grows-trans}
+use Rattle.tx_answers.specs.CallerStateLaws.{grows-trans}
 use Rattle.stm_tx.specs.Descs.{known}
 use Rattle.tx_atomic.proofs.switching.switch_to.Goals as goal
 

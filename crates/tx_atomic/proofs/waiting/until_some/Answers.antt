@@ -1,6 +1,6 @@
 use Rattle.std.proofs.Common.{ℕ, suc, rules, refl, ◌∙◌, subst}
 use Rattle.std.specs.Prelude.{Some, None}
-use Rattle.tx_answers.specs.KnownLaws.{carries-refl, grows-trans}
+use Rattle.tx_answers.specs.CallerStateLaws.{carries-refl, grows-trans}
 use Rattle.stm_tx.specs.Descs.{known, number}
 use Rattle.tx_atomic.specs.Attempts.{TookEffect}
 use Rattle.tx_atomic.specs.AttemptLaws.{same-number, took-nothing, took-since}
@@ -21,10 +21,10 @@ loop-preserved g c =
     let stm = c.args.stm.now in
     let v = known c.loop.desc in
     let w = known c.atomically.new.desc in
-    let tells = g.T.Transaction.tells c.args.transaction.now stm.rule stm.config.words None in
-    let took = subst (λ r. TookEffect (g.K.MemRule.good stm.rule) stm.config (number c.loop.desc) (g.T.Transaction.tells c.args.transaction.now stm.rule stm.config.words r) v.front v w) c.in-Some-None.field-0-is c.in-Some-None.ensures.took in
+    let postcondition = g.T.Transaction.postcondition c.args.transaction.now stm.rule stm.config.words None in
+    let took = subst (λ r. TookEffect (g.K.MemRule.good stm.rule) stm.config (number c.loop.desc) (g.T.Transaction.postcondition c.args.transaction.now stm.rule stm.config.words r) v.front v w) c.in-Some-None.field-0-is c.in-Some-None.ensures.took in
     let grew = grows-trans (known c.args.desc.now) v w c.loop.invariant.grew c.atomically.ensures.grew in
-    let made = took-nothing (g.K.MemRule.good stm.rule) stm.config (number c.loop.desc) tells v.front v w c.requires.waits took ∙ c.loop.invariant.made in
+    let made = took-nothing (g.K.MemRule.good stm.rule) stm.config (number c.loop.desc) postcondition v.front v w c.requires.waits took ∙ c.loop.invariant.made in
     let good = g.K.MemRule.good stm.rule in
     let n = number c.args.desc.now in
     let ran = subst (λ i. Ran good stm.config i None v w c.loop.pace.tally c.atomically.new.pace.tally) (same-number c.args.desc.now c.loop.desc c.loop.invariant.same) c.in-Some-None.ensures.ran in
@@ -53,10 +53,10 @@ returns-in-Some-Some-clause-took g c =
     let u = known c.args.desc.now in
     let v = known c.loop.desc in
     let w = known c.atomically.new.desc in
-    let tells = g.T.Transaction.tells c.args.transaction.now stm.rule stm.config.words in
-    let took = subst (λ r. TookEffect good stm.config (number c.loop.desc) (tells r) v.front v w) c.in-Some-Some.field-0-is c.in-Some-Some.ensures.took in
-    let now = subst (λ n. TookEffect good stm.config n (tells (Some c.in-Some-Some.answer)) v.front v w) (same-number c.args.desc.now c.loop.desc inv.same) took in
-    took-since good stm.config (number c.args.desc.now) (tells (Some c.in-Some-Some.answer)) v.front u.front u v w inv.made inv.grew inv.grew.front_rose now
+    let postcondition = g.T.Transaction.postcondition c.args.transaction.now stm.rule stm.config.words in
+    let took = subst (λ r. TookEffect good stm.config (number c.loop.desc) (postcondition r) v.front v w) c.in-Some-Some.field-0-is c.in-Some-Some.ensures.took in
+    let now = subst (λ n. TookEffect good stm.config n (postcondition (Some c.in-Some-Some.answer)) v.front v w) (same-number c.args.desc.now c.loop.desc inv.same) took in
+    took-since good stm.config (number c.args.desc.now) (postcondition (Some c.in-Some-Some.answer)) v.front u.front u v w inv.made inv.grew inv.grew.front_rose now
 
 pub returns-in-None-atomically-clause-gave_up : goal.returns-in-None-atomically-clause-gave_up
 returns-in-None-atomically-clause-gave_up g c =

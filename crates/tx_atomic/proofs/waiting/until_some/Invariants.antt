@@ -1,6 +1,6 @@
 use Rattle.std.proofs.Common.{ℕ, ◌≡◌}
 use Rattle.stm_rule.specs.Callers.{IsSameCaller}
-use Rattle.tx_answers.specs.Known.{Grows, IsIdle}
+use Rattle.tx_answers.specs.CallerState.{Grows, IsIdle}
 use Rattle.stm_tx.specs.Descs.{known, number}
 use Rattle.tx_atomic.specs.Tries.{HaveRun}
 use Rattle.tx_atomic.proofs.waiting.until_some.Given as goal

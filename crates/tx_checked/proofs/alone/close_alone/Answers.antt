@@ -1,9 +1,9 @@
 use Rattle.std.proofs.Common.{ℕ, subst}
 use Rattle.stm_tx.specs.Descs.{known, number}
 use Rattle.tx_answers.specs.Answers.{Looks}
-use Rattle.tx_answers.specs.KnownLaws.{grows-trans}
+use Rattle.tx_answers.specs.CallerStateLaws.{grows-trans}
 use Rattle.tx_atomic.specs.AttemptLaws.{same-number}
-use Rattle.tx_checked.specs.Stands.{Any}
+use Rattle.tx_checked.specs.Phases.{Any}
 use Rattle.tx_checked.proofs.alone.close_alone.Goals as goal
 
 pub returns-in-Quiet-clause-grew : goal.returns-in-Quiet-clause-grew

@@ -9,10 +9,10 @@ use Rattle.tx_checked.proofs.opening.open.Goals as goal
 
 pub returns-in-Ok-enlist-clause-new : goal.returns-in-Ok-enlist-clause-new
 returns-in-Ok-enlist-clause-new c =
-    let members = c.in-Ok-enlist.members.items in
+    let checked_callers = c.in-Ok-enlist.checked_callers.items in
     let sizes = ap (λ (s : Stm AnyMem). s.config) c.in-Ok-new-2.ensures.ok ∙ c.in-Ok.ensures.stm.0 in
-    let unused = subst (λ (k : Config). All (IsUnused k) members) sizes c.in-Ok-enlist.ensures.unused in
-    all-new c.in-Ok.opened.0 c.args.config c.args.alg c.install_first.new.descs.items members c.in-Ok-install_first.ensures.fresh c.in-Ok-enlist.ensures.descs unused
+    let unused = subst (λ (k : Config). All (IsUnused k) checked_callers) sizes c.in-Ok-enlist.ensures.unused in
+    all-new c.in-Ok.opened.0 c.args.config c.args.alg c.install_first.new.descs.items checked_callers c.in-Ok-install_first.ensures.fresh c.in-Ok-enlist.ensures.descs unused
 
 pub install_first-requires-clause-some : goal.install_first-requires-clause-some
 install_first-requires-clause-some c =

@@ -1,7 +1,7 @@
 use Rattle.std.proofs.Common.{subst}
 use Rattle.stm_tx.specs.Descs.{known, number}
-use Rattle.tx_answers.specs.Known.{Known, Grows}
-use Rattle.tx_answers.specs.KnownLaws.{grows-trans}
+use Rattle.tx_answers.specs.CallerState.{CallerState, Grows}
+use Rattle.tx_answers.specs.CallerStateLaws.{grows-trans}
 use Rattle.tx_atomic.specs.AttemptLaws.{same-number}
 use Rattle.tx_checked.proofs.Beside.{beside-between}
 use Rattle.tx_checked.proofs.Refused.{finds-taken}
@@ -15,7 +15,7 @@ pub returns-in-Taken-clause-kept : goal.returns-in-Taken-clause-kept
 returns-in-Taken-clause-kept c =
     let v = known c.close_alone.new.desc in
     let x = known c.reopen.new.desc in
-    grows-trans (known c.args.desc.now) v x c.close_alone.ensures.grew (subst (λ (k : Known). Grows k x) c.in-Taken.ensures.fences.0 c.reopen.ensures.reopens.grows)
+    grows-trans (known c.args.desc.now) v x c.close_alone.ensures.grew (subst (λ (k : CallerState). Grows k x) c.in-Taken.ensures.fences.0 c.reopen.ensures.reopens.grows)
 
 pub returns-in-Taken-clause-refused : goal.returns-in-Taken-clause-refused
 returns-in-Taken-clause-refused c =

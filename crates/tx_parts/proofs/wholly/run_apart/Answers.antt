@@ -20,12 +20,12 @@ returns-in_ok-settle-in-Ok-Some-clause-comes g c =
     let words = a.words s.below in
     let first : over s.room.items l ≡ l = ap (λ (is : List (ℕ × ℕ)). over is l) c.requires.empty.0 in
     let came = c.in-Ok-Some.ensures in
-    let told = rw c.in-Ok-Some.field-0-is at came.tells in
+    let told = rw c.in-Ok-Some.field-0-is at came.postcondition in
     let kept = rw c.in-Ok-Some.field-0-is at came.kept in
     let same = c.in_ok-settle-in-Ok-Some.ensures.lays in
     let only = (came.keeps.1.marks came.goes).2 in
     rw c.in-Ok-Some.field-0-is (
-      (j, subst (λ (q : Log). g.P.Part.tells c.args.part.now c.args.rule.now words (Some c.in-Ok-Some.done) q j) first told, same),
+      (j, subst (λ (q : Log). g.P.Part.postcondition c.args.part.now c.args.rule.now words (Some c.in-Ok-Some.done) q j) first told, same),
       (only.0.0, same.0 ∙ only.0.1),
       λ h. keeps-like good words j k same kept,
     )
@@ -40,9 +40,9 @@ returns-in-Ok-None-clause-comes g c =
     let words = a.words s.below in
     let first : over s.room.items l ≡ l = ap (λ (is : List (ℕ × ℕ)). over is l) c.requires.empty.0 in
     let came = c.in-Ok-None.ensures in
-    let told = rw c.in-Ok-None.field-0-is at came.tells in
+    let told = rw c.in-Ok-None.field-0-is at came.postcondition in
     let only = (came.keeps.1.marks came.goes).2 in
-    ((j, subst (λ (q : Log). g.P.Part.tells c.args.part.now c.args.rule.now words None q j) first told, (λ i. record { reads = (a.log t.below).reads; writes = only.1 i })), only)
+    ((j, subst (λ (q : Log). g.P.Part.postcondition c.args.part.now c.args.rule.now words None q j) first told, (λ i. record { reads = (a.log t.below).reads; writes = only.1 i })), only)
 
 pub returns-in-Ok-None-clause-goes : goal.returns-in-Ok-None-clause-goes
 returns-in-Ok-None-clause-goes g c =

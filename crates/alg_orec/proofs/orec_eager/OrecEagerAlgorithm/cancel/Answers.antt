@@ -3,7 +3,7 @@ use Rattle.stm_rule.specs.declared.local.Local.{Local}
 use Rattle.stm_rule.specs.Attempts.{own_of}
 use Rattle.tx_answers.specs.declared.answers.Cancel.TheVariants.{Cancelled}
 use Rattle.tx_answers.specs.Answers.{Cancels}
-use Rattle.tx_answers.specs.Known.{Known, known_of}
+use Rattle.tx_answers.specs.CallerState.{CallerState, known_of}
 use Rattle.stm_gate.specs.Opening.{Opened, opened, tells-of}
 use Rattle.alg_orec.proofs.CommitOpening.{Unpromoted, unpromoted, irrevocable-known}
 use Rattle.alg_orec.proofs.EagerCommitLaws as laws
@@ -29,12 +29,12 @@ returns-then-desc-clause-cancels g c =
           (search rules),
     )
 
-pub take_back-requires-clause-view : goal.take_back-requires-clause-view
-take_back-requires-clause-view g c = laws.may-take-here (here g (goal.at.take_back-requires-clause-view g c).After-desc
+pub abort-requires-clause-view : goal.abort-requires-clause-view
+abort-requires-clause-view g c = laws.may-take-here (here g (goal.at.abort-requires-clause-view g c).After-desc
     (search rules))
 
-pub take_back-requires-clause-named : goal.take_back-requires-clause-named
-take_back-requires-clause-named g c = sym (here g (goal.at.take_back-requires-clause-named g c).After-desc
+pub abort-requires-clause-named : goal.abort-requires-clause-named
+abort-requires-clause-named g c = sym (here g (goal.at.abort-requires-clause-named g c).After-desc
     (search rules)).inside.named
 
 pub returns-clause-cancels : goal.returns-clause-cancels
@@ -43,19 +43,19 @@ returns-clause-cancels g c =
     let f = c.args.stm.now.config in
     let good = g.K.MemRule.good c.args.stm.now.rule in
     let d = c.desc.inside in
-    let w = c.take_back.new.seat.me.0.view in
+    let w = c.abort.new.seat.me.0.view in
     tells-of g.K.MemRule.good c.args.stm.now (opens g a)
-    (λ (n : ℕ) (v w : Known). Cancels good f n (Cancelled d.local.start) v w)
-    (known_of w (own_of c.take_back.new.local))
+    (λ (n : ℕ) (v w : CallerState). Cancels good f n (Cancelled d.local.start) v w)
+    (known_of w (own_of c.abort.new.local))
     (subst (λ (m : Local). Cancels good f d.number (Cancelled d.local.start)
-    (known_of d.seat.me.0.view (own_of d.local)) (known_of w (own_of m))) (sym c.take_back.ensures.idle)
-    (laws.tells-cancelled (here g a (search rules)) w (own_of d.local) c.take_back.ensures.takes_back))
+    (known_of d.seat.me.0.view (own_of d.local)) (known_of w (own_of m))) (sym c.abort.ensures.idle)
+    (laws.tells-cancelled (here g a (search rules)) w (own_of d.local) c.abort.ensures.aborts))
 
 pub returns-clause-steps : goal.returns-clause-steps
 returns-clause-steps g c =
     let a = (goal.at.returns-clause-steps g c).After-desc in
     let within = held-within _ _ _ (laws.k (here g a (search rules))) in
-    let first = ap (λ (k : Known). length k.trail) (opens g a).knows in
-    let words = ap (λ (k : Known). k.writes_limit) (opens g a).knows in
-    let back = c.take_back.ensures.steps in
+    let first = ap (λ (k : CallerState). length k.step_trace) (opens g a).knows in
+    let words = ap (λ (k : CallerState). k.writes_limit) (opens g a).knows in
+    let back = c.abort.ensures.steps in
     omega arith

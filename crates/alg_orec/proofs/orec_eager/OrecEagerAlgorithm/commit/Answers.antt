@@ -4,7 +4,7 @@ use Rattle.stm_rule.specs.declared.local.Local.{Local}
 use Rattle.stm_rule.specs.Attempts.{own_of}
 use Rattle.tx_answers.specs.declared.answers.Commit.TheVariants.{ReadOnly}
 use Rattle.tx_answers.specs.Answers.{Commits, KeepsRule}
-use Rattle.tx_answers.specs.Known.{Known, known_of}
+use Rattle.tx_answers.specs.CallerState.{CallerState, known_of}
 use Rattle.stm_gate.specs.Opening.{Opened, opened, of-view, shows, tells-of}
 use Rattle.stm_gate.specs.Peeling.{no-items}
 use Rattle.alg_orec.proofs.CommitOpening.{Unpromoted, unpromoted, granted-known}
@@ -47,7 +47,7 @@ pub returns-then-count-eq0-clause-commits : goal.returns-then-count-eq0-clause-c
 returns-then-count-eq0-clause-commits g c =
     let a = (goal.at.returns-then-count-eq0-clause-commits g c).After-desc in
     let d = c.desc.inside in
-    let P = λ (n : ℕ) (v w : Known). Commits (g.K.MemRule.good c.args.stm.now.rule) c.args.stm.now.config n
+    let P = λ (n : ℕ) (v w : CallerState). Commits (g.K.MemRule.good c.args.stm.now.rule) c.args.stm.now.config n
     (ReadOnly d.local.start) v w in
     shows g.K.MemRule.good c.args.stm.now (opens g a) P c.leave.new.seat.me.0.view c.leave.new.local
     (ap own_of c.leave.ensures.idle)
@@ -58,14 +58,14 @@ pub returns-else-count-eq0-clause-commits : goal.returns-else-count-eq0-clause-c
 returns-else-count-eq0-clause-commits g c =
     let a = (goal.at.returns-else-count-eq0-clause-commits g c).After-desc in
     let d = c.desc.inside in
-    let w = c.take_back.new.seat.me.0.view in
-    let P = λ (n : ℕ) (v w : Known). Commits (g.K.MemRule.good c.args.stm.now.rule) c.args.stm.now.config n
+    let w = c.abort.new.seat.me.0.view in
+    let P = λ (n : ℕ) (v w : CallerState). Commits (g.K.MemRule.good c.args.stm.now.rule) c.args.stm.now.config n
     (ReadOnly d.local.start) v w in
-    tells-of g.K.MemRule.good c.args.stm.now (opens g a) P (known_of w (own_of c.take_back.new.local))
+    tells-of g.K.MemRule.good c.args.stm.now (opens g a) P (known_of w (own_of c.abort.new.local))
     (subst (λ (m : Local). P d.number (known_of d.seat.me.0.view (own_of d.local)) (known_of w (own_of m)))
-    (sym c.take_back.ensures.idle)
+    (sym c.abort.ensures.idle)
     (laws.tells-unwritten (here g a (search rules)) (search rules) w (own_of d.local)
-    c.take_back.ensures.takes_back))
+    c.abort.ensures.aborts))
 
 pub commit_placed-requires-clause-attempt : goal.commit_placed-requires-clause-attempt
 commit_placed-requires-clause-attempt g c =
@@ -80,15 +80,15 @@ commit_placed-requires-clause-keeps g c =
 pub returns-clause-commits : goal.returns-clause-commits
 returns-clause-commits g c =
     tells-of g.K.MemRule.good c.args.stm.now (opens g (goal.at.returns-clause-commits g c).After-desc)
-    (λ (n : ℕ) (v w : Known). Commits (g.K.MemRule.good c.args.stm.now.rule) c.args.stm.now.config n
+    (λ (n : ℕ) (v w : CallerState). Commits (g.K.MemRule.good c.args.stm.now.rule) c.args.stm.now.config n
     c.commit_placed.result v w) _ c.commit_placed.ensures.commits
 
-pub take_back-requires-clause-view : goal.take_back-requires-clause-view
-take_back-requires-clause-view g c = laws.may-take-here (here g (goal.at.take_back-requires-clause-view g c).After-desc
+pub abort-requires-clause-view : goal.abort-requires-clause-view
+abort-requires-clause-view g c = laws.may-take-here (here g (goal.at.abort-requires-clause-view g c).After-desc
     (search rules))
 
-pub take_back-requires-clause-named : goal.take_back-requires-clause-named
-take_back-requires-clause-named g c = sym (here g (goal.at.take_back-requires-clause-named g c).After-desc
+pub abort-requires-clause-named : goal.abort-requires-clause-named
+abort-requires-clause-named g c = sym (here g (goal.at.abort-requires-clause-named g c).After-desc
     (search rules)).inside.named
 
 within : (g : _) (c : After-desc g) → c.desc.inside.local.granted ≡ false → length
@@ -99,17 +99,17 @@ pub returns-else-count-eq0-clause-steps : goal.returns-else-count-eq0-clause-ste
 returns-else-count-eq0-clause-steps g c =
     let a = (goal.at.returns-else-count-eq0-clause-steps g c).After-desc in
     let few = within g a (search rules) in
-    let first = ap (λ (k : Known). length k.trail) (opens g a).knows in
-    let words = ap (λ (k : Known). k.writes_limit) (opens g a).knows in
-    let back = c.take_back.ensures.steps in
+    let first = ap (λ (k : CallerState). length k.step_trace) (opens g a).knows in
+    let words = ap (λ (k : CallerState). k.writes_limit) (opens g a).knows in
+    let back = c.abort.ensures.steps in
     omega arith
 
 pub returns-clause-steps : goal.returns-clause-steps
 returns-clause-steps g c =
     let a = (goal.at.returns-clause-steps g c).After-desc in
     let few = within g a (search rules) in
-    let first = ap (λ (k : Known). length k.trail) (opens g a).knows in
-    let words = ap (λ (k : Known). k.writes_limit) (opens g a).knows in
-    let reads = ap (λ (k : Known). k.reads_limit) (opens g a).knows in
+    let first = ap (λ (k : CallerState). length k.step_trace) (opens g a).knows in
+    let words = ap (λ (k : CallerState). k.writes_limit) (opens g a).knows in
+    let reads = ap (λ (k : CallerState). k.reads_limit) (opens g a).knows in
     let placed = c.commit_placed.ensures.steps in
     omega arith

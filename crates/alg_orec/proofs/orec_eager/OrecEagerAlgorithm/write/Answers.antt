@@ -4,7 +4,7 @@ use Rattle.rule_base.specs.History.{member}
 use Rattle.stm_rule.specs.Attempts.{own_of}
 use Rattle.stm_rule.specs.Callers.{handle_of}
 use Rattle.tx_answers.specs.Causes.{is_some}
-use Rattle.tx_answers.specs.Known.{Known}
+use Rattle.tx_answers.specs.CallerState.{CallerState}
 use Rattle.stm_gate.specs.Opening.{is-known}
 use Rattle.alg_orec.proofs.EagerOpening.{EagerOpening, opens-plain}
 use Rattle.alg_orec.proofs.EagerWriteLaws as laws
@@ -19,4 +19,4 @@ pub write_again-requires-clause-saved : goal.write_again-requires-clause-saved
 write_again-requires-clause-saved g c =
     let o = opened g (goal.at.write_again-requires-clause-saved g c).After-desc (search rules) in
     let there : is_some (item_at c.args.a c.desc.inside.local.writes.items) ≡ true = search rules in
-    is-known _ _ o.call.opening (λ (n : ℕ) (v : Known). member v.kept c.args.a ≡ true) (laws.is-kept _ _ _ _ _ o.runs c.args.a ∙ laws.written-logged _ _ _ _ _ o.runs c.args.a there)
+    is-known _ _ o.call.opening (λ (n : ℕ) (v : CallerState). member v.kept c.args.a ≡ true) (laws.is-kept _ _ _ _ _ o.runs c.args.a ∙ laws.written-logged _ _ _ _ _ o.runs c.args.a there)

@@ -4,7 +4,7 @@ use Rattle.stm_rule.specs.declared.local.Local.{Local}
 use Rattle.stm_rule.specs.Attempts.{IsInside, own_of}
 use Rattle.tx_answers.specs.declared.answers.Cancel.TheVariants.{Cancelled}
 use Rattle.tx_answers.specs.Answers.{Cancels}
-use Rattle.tx_answers.specs.Known.{Known, known_of, is_irrevocable}
+use Rattle.tx_answers.specs.CallerState.{CallerState, known_of, is_irrevocable}
 use Rattle.stm_gate.specs.Opening.{Opened, opened, tells-of}
 use Rattle.alg_orec.proofs.CommitOpening as opening
 use Rattle.alg_orec.proofs.LazyEndingLaws as laws
@@ -32,26 +32,26 @@ returns-then-desc-clause-cancels g c =
           (own_of c.desc.inside.local) (search rules),
     )
 
-pub roll_back-requires-clause-view : goal.roll_back-requires-clause-view
-roll_back-requires-clause-view g c =
-    let a = (goal.at.roll_back-requires-clause-view g c).After-desc in
-    laws.may-roll_back _ _ _ _ _ (inside g a) (lazy g a) (search rules)
+pub abort-requires-clause-view : goal.abort-requires-clause-view
+abort-requires-clause-view g c =
+    let a = (goal.at.abort-requires-clause-view g c).After-desc in
+    laws.may-abort _ _ _ _ _ (inside g a) (lazy g a) (search rules)
 
-pub roll_back-requires-clause-named : goal.roll_back-requires-clause-named
-roll_back-requires-clause-named g c = sym (inside g (goal.at.roll_back-requires-clause-named g c).After-desc).named
+pub abort-requires-clause-named : goal.abort-requires-clause-named
+abort-requires-clause-named g c = sym (inside g (goal.at.abort-requires-clause-named g c).After-desc).named
 
 pub returns-clause-cancels : goal.returns-clause-cancels
 returns-clause-cancels g c =
     let a = (goal.at.returns-clause-cancels g c).After-desc in
     let d = c.desc.inside in
-    let w = c.roll_back.new.seat.me.0.view in
-    let P = λ (n : ℕ) (v w : Known). Cancels (g.K.MemRule.good c.args.stm.now.rule) c.args.stm.now.config n
+    let w = c.abort.new.seat.me.0.view in
+    let P = λ (n : ℕ) (v w : CallerState). Cancels (g.K.MemRule.good c.args.stm.now.rule) c.args.stm.now.config n
     (Cancelled d.local.start) v w in
-    tells-of g.K.MemRule.good c.args.stm.now (opens g a) P (known_of w (own_of c.roll_back.new.local))
+    tells-of g.K.MemRule.good c.args.stm.now (opens g a) P (known_of w (own_of c.abort.new.local))
     (subst (λ (m : Local). P d.number (known_of d.seat.me.0.view (own_of d.local)) (known_of w (own_of m)))
-    (sym c.roll_back.ensures.idle)
+    (sym c.abort.ensures.idle)
     (laws.tells-cancelled _ _ _ _ _ (inside g a) (lazy g a) (search rules) w (own_of d.local)
-    c.roll_back.ensures.gives_up))
+    c.abort.ensures.gives_up))
 
 pub returns-clause-steps : goal.returns-clause-steps
 returns-clause-steps g c =
@@ -59,7 +59,7 @@ returns-clause-steps g c =
     let plain : c.desc.inside.local.granted ≡ false = search rules in
     let few = (lazy-of _ _ _ _ _ (inside g a) (sym (inside g a).named ∙ lazy g a) plain).few in
     let lengths = c.desc.invariant.1.lengths.0 in
-    let first = ap (λ (k : Known). length k.trail) (opens g a).knows in
-    let words = ap (λ (k : Known). k.writes_limit) (opens g a).knows in
-    let back = c.roll_back.ensures.steps in
+    let first = ap (λ (k : CallerState). length k.step_trace) (opens g a).knows in
+    let words = ap (λ (k : CallerState). k.writes_limit) (opens g a).knows in
+    let back = c.abort.ensures.steps in
     omega arith

@@ -6,7 +6,7 @@ use Rattle.stm_rule.specs.declared.local.Local.{Local}
 use Rattle.stm_rule.specs.Attempts.{IsInside, own_of}
 use Rattle.tx_answers.specs.declared.answers.Commit.TheVariants.{ReadOnly}
 use Rattle.tx_answers.specs.Answers.{Commits, KeepsRule}
-use Rattle.tx_answers.specs.Known.{Known, known_of}
+use Rattle.tx_answers.specs.CallerState.{CallerState, known_of}
 use Rattle.stm_gate.specs.Opening.{Opened, opened, of-view, tells-of}
 use Rattle.alg_orec.proofs.CallLaws as calls
 use Rattle.alg_orec.proofs.CommitOpening as opening
@@ -30,7 +30,7 @@ pub direct_commit-requires-clause-running : goal.direct_commit-requires-clause-r
 direct_commit-requires-clause-running g c =
     let a = (goal.at.direct_commit-requires-clause-running g c).After-desc in (
       c.requires.running,
-      ap (λ (k : Known). k.committing) (opens g a).knows ∙ calls.direct-whole _ _ _ _ _ (inside g a)
+      ap (λ (k : CallerState). k.committing) (opens g a).knows ∙ calls.direct-whole _ _ _ _ _ (inside g a)
           (lazy g a) (search rules),
     )
 
@@ -40,7 +40,7 @@ direct_commit-requires-clause-closes g c = ap closes_gate c.requires.algorithm
 pub direct_commit-requires-clause-granted : goal.direct_commit-requires-clause-granted
 direct_commit-requires-clause-granted g c =
     let a = (goal.at.direct_commit-requires-clause-granted g c).After-desc in
-    ap (λ (k : Known). k.granted) (opens g a).knows ∙ calls.direct-granted _ _ _ _ _ (inside g a) (lazy g a)
+    ap (λ (k : CallerState). k.granted) (opens g a).knows ∙ calls.direct-granted _ _ _ _ _ (inside g a) (lazy g a)
     (own_of c.desc.inside.local) (search rules)
 
 pub leave-requires-clause-view : goal.leave-requires-clause-view
@@ -56,7 +56,7 @@ returns-then-not-desc-clause-commits g c =
     let a = (goal.at.returns-then-not-desc-clause-commits g c).After-desc in
     let d = c.desc.inside in
     let w = c.leave.new.seat.me.0.view in
-    let P = λ (n : ℕ) (v w : Known). Commits (g.K.MemRule.good c.args.stm.now.rule) c.args.stm.now.config n
+    let P = λ (n : ℕ) (v w : CallerState). Commits (g.K.MemRule.good c.args.stm.now.rule) c.args.stm.now.config n
     (ReadOnly d.local.start) v w in
     tells-of g.K.MemRule.good c.args.stm.now (opens g a) P (known_of w (own_of c.leave.new.local))
     (subst (λ (m : Local). P d.number (known_of d.seat.me.0.view (own_of d.local)) (known_of w (own_of m)))
@@ -77,5 +77,5 @@ commit_writes-requires-clause-keeps g c =
 pub returns-clause-commits : goal.returns-clause-commits
 returns-clause-commits g c =
     tells-of g.K.MemRule.good c.args.stm.now (opens g (goal.at.returns-clause-commits g c).After-desc)
-    (λ (n : ℕ) (v w : Known). Commits (g.K.MemRule.good c.args.stm.now.rule) c.args.stm.now.config n
+    (λ (n : ℕ) (v w : CallerState). Commits (g.K.MemRule.good c.args.stm.now.rule) c.args.stm.now.config n
     c.commit_writes.result v w) _ c.commit_writes.ensures.commits

@@ -5,7 +5,7 @@ use Rattle.stm_rule.specs.Attempts.{own_of}
 use Rattle.stm_rule.specs.Callers.{handle_of}
 use Rattle.tx_answers.specs.declared.answers.Read.TheVariants as reads
 use Rattle.tx_answers.specs.Answers.{HasRead}
-use Rattle.tx_answers.specs.Known.{Known}
+use Rattle.tx_answers.specs.CallerState.{CallerState}
 use Rattle.stm_gate.specs.Opening.{is-known}
 use Rattle.alg_orec.proofs.LazyOpening.{LazyOpening, opens-lazy}
 use Rattle.alg_orec.proofs.RecordOpening.{place-told}
@@ -19,18 +19,18 @@ opened g c plain = opens-lazy g.K.MemRule.good c.args.stm.now c.desc.inside.numb
 pub returns-in-Some-clause-read : goal.returns-in-Some-clause-read
 returns-in-Some-clause-read g c =
     let o = opened g (goal.at.returns-in-Some-clause-read g c).After-desc (search rules) in
-    is-known _ _ o.call.opening (λ (n : ℕ) (v : Known). HasRead (g.K.MemRule.good c.args.stm.now.rule) c.args.stm.now.config n c.args.a (reads.Value c.in-Some.x) v v) (laws.reads-own o.call.reading c.args.a c.in-Some.x (search rules) (search rules))
+    is-known _ _ o.call.opening (λ (n : ℕ) (v : CallerState). HasRead (g.K.MemRule.good c.args.stm.now.rule) c.args.stm.now.config n c.args.a (reads.Value c.in-Some.x) v v) (laws.reads-own o.call.reading c.args.a c.in-Some.x (search rules) (search rules))
 
 pub returns-in-Some-at-clause-read : goal.returns-in-Some-at-clause-read
 returns-in-Some-at-clause-read g c =
     let o = opened g (goal.at.returns-in-Some-at-clause-read g c).After-desc (search rules) in
-    is-known _ _ o.call.opening (λ (n : ℕ) (v : Known). HasRead (g.K.MemRule.good c.args.stm.now.rule) c.args.stm.now.config n c.args.a (reads.Value c.in-Some-at.x) v v) (laws.reads-old o.call.reading c.args.a c.in-Some-at.x (search rules) (search rules) (search rules))
+    is-known _ _ o.call.opening (λ (n : ℕ) (v : CallerState). HasRead (g.K.MemRule.good c.args.stm.now.rule) c.args.stm.now.config n c.args.a (reads.Value c.in-Some-at.x) v v) (laws.reads-old o.call.reading c.args.a c.in-Some-at.x (search rules) (search rules) (search rules))
 
 pub first_read-requires-clause-unwritten : goal.first_read-requires-clause-unwritten
 first_read-requires-clause-unwritten g c =
     let o = opened g (goal.at.first_read-requires-clause-unwritten g c).After-desc (search rules) in
     let unwritten : item_at c.args.a c.desc.inside.local.writes.items ≡ None = search rules in
-    is-known _ _ o.call.opening (λ (n : ℕ) (v : Known). item_at c.args.a v.log.writes ≡ None) (ap (item_at c.args.a) (laws.written-here o.call.reading) ∙ unwritten)
+    is-known _ _ o.call.opening (λ (n : ℕ) (v : CallerState). item_at c.args.a v.log.writes ≡ None) (ap (item_at c.args.a) (laws.written-here o.call.reading) ∙ unwritten)
 
 pub first_read-requires-clause-place : goal.first_read-requires-clause-place
 first_read-requires-clause-place g c =

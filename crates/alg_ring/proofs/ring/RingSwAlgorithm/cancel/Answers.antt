@@ -3,7 +3,7 @@ use Rattle.stm_rule.specs.declared.local.Local.{Local}
 use Rattle.stm_rule.specs.Attempts.{own_of}
 use Rattle.tx_answers.specs.declared.answers.Cancel.TheVariants as cancels
 use Rattle.tx_answers.specs.Answers as answers
-use Rattle.tx_answers.specs.Known.{Known, known_of, is_irrevocable}
+use Rattle.tx_answers.specs.CallerState.{CallerState, known_of, is_irrevocable}
 use Rattle.alg_ring.specs.Opening.{opened, has-attempt, tells-of}
 use Rattle.alg_ring.proofs.Ending as laws
 use Rattle.alg_ring.proofs.Running as attempt
@@ -23,6 +23,6 @@ pub returns-clause-cancels : goal.returns-clause-cancels
 returns-clause-cancels g c =
     let a = opened g.K.MemRule.good c.args.stm.now c.desc.inside.number c.desc.inside.local c.desc.view_is refl c.desc.invariant.0.named c.desc.invariant.0.low c.desc.invariant.1 c.requires.stm in
     let at = has-attempt g.K.MemRule.good c.args.stm.now a c.requires.running c.requires.algorithm in
-    let P = λ (n : ℕ) (v w : Known). answers.Cancels (g.K.MemRule.good c.args.stm.now.rule) c.args.stm.now.config n (cancels.Cancelled c.desc.inside.local.start) v w in
+    let P = λ (n : ℕ) (v w : CallerState). answers.Cancels (g.K.MemRule.good c.args.stm.now.rule) c.args.stm.now.config n (cancels.Cancelled c.desc.inside.local.start) v w in
     tells-of g.K.MemRule.good c.args.stm.now a P (known_of c.leave.new.seat.me.0.view (own_of c.leave.new.local)) (subst (λ (m : Local). P c.desc.inside.number (known_of c.desc.inside.seat.me.0.view (own_of c.desc.inside.local)) (known_of c.leave.new.seat.me.0.view (own_of m))) (sym c.leave.ensures.idle)
     (laws.tells-cancelled _ _ _ _ _ (attempt.inside _ _ _ _ _ at) at.named (attempt.kept _ _ _ _ _ at (search rules)) (own_of c.desc.inside.local) c.leave.new.seat.me.0.view (ap (λ q. q.view) c.leave.ensures.left)))

@@ -4,7 +4,7 @@ use Rattle.stm_rule.specs.declared.local.Local.{Local}
 use Rattle.stm_rule.specs.Attempts.{own_of}
 use Rattle.tx_answers.specs.declared.answers.Commit.TheVariants as commits
 use Rattle.tx_answers.specs.Answers as answers
-use Rattle.tx_answers.specs.Known.{Known, known_of}
+use Rattle.tx_answers.specs.CallerState.{CallerState, known_of}
 use Rattle.alg_ring.specs.Opening.{opened, of-view, has-attempt, tells-of, stands-after}
 use Rattle.alg_ring.proofs.Committing as laws
 use Rattle.alg_ring.proofs.Ending as ending
@@ -14,12 +14,12 @@ use Rattle.alg_ring.proofs.ring.RingSwAlgorithm.commit.Goals as goal
 pub direct_commit-requires-clause-running : goal.direct_commit-requires-clause-running
 direct_commit-requires-clause-running g c =
     let a = opened g.K.MemRule.good c.args.stm.now c.desc.inside.number c.desc.inside.local c.desc.view_is refl c.desc.invariant.0.named c.desc.invariant.0.low c.desc.invariant.1 c.requires.stm in
-    (c.requires.running, ap (λ (k : Known). k.committing) a.knows ∙ attempt.steady _ _ _ _ _ (has-attempt g.K.MemRule.good c.args.stm.now a c.requires.running c.requires.algorithm) (search rules))
+    (c.requires.running, ap (λ (k : CallerState). k.committing) a.knows ∙ attempt.steady _ _ _ _ _ (has-attempt g.K.MemRule.good c.args.stm.now a c.requires.running c.requires.algorithm) (search rules))
 
 pub direct_commit-requires-clause-granted : goal.direct_commit-requires-clause-granted
 direct_commit-requires-clause-granted g c =
     let a = opened g.K.MemRule.good c.args.stm.now c.desc.inside.number c.desc.inside.local c.desc.view_is refl c.desc.invariant.0.named c.desc.invariant.0.low c.desc.invariant.1 c.requires.stm in
-    ap (λ (k : Known). k.granted) a.knows ∙ (attempt.granted-is _ _ _ _ _ (has-attempt g.K.MemRule.good c.args.stm.now a c.requires.running c.requires.algorithm) ∙ (search rules))
+    ap (λ (k : CallerState). k.granted) a.knows ∙ (attempt.granted-is _ _ _ _ _ (has-attempt g.K.MemRule.good c.args.stm.now a c.requires.running c.requires.algorithm) ∙ (search rules))
 
 pub leave-requires-clause-view : goal.leave-requires-clause-view
 leave-requires-clause-view g c =
@@ -29,7 +29,7 @@ leave-requires-clause-view g c =
 pub returns-then-not-desc-clause-commits : goal.returns-then-not-desc-clause-commits
 returns-then-not-desc-clause-commits g c =
     let a = opened g.K.MemRule.good c.args.stm.now c.desc.inside.number c.desc.inside.local c.desc.view_is refl c.desc.invariant.0.named c.desc.invariant.0.low c.desc.invariant.1 c.requires.stm in
-    let P = λ (n : ℕ) (v w : Known). answers.Commits (g.K.MemRule.good c.args.stm.now.rule) c.args.stm.now.config n (commits.ReadOnly c.desc.inside.local.start) v w in
+    let P = λ (n : ℕ) (v w : CallerState). answers.Commits (g.K.MemRule.good c.args.stm.now.rule) c.args.stm.now.config n (commits.ReadOnly c.desc.inside.local.start) v w in
     tells-of g.K.MemRule.good c.args.stm.now a P (known_of c.leave.new.seat.me.0.view (own_of c.leave.new.local)) (subst (λ (m : Local). P c.desc.inside.number (known_of c.desc.inside.seat.me.0.view (own_of c.desc.inside.local)) (known_of c.leave.new.seat.me.0.view (own_of m))) (sym c.leave.ensures.idle)
     (laws.tells-read_only _ _ _ _ _ (has-attempt g.K.MemRule.good c.args.stm.now a c.requires.running c.requires.algorithm) (search rules) c.leave.new.seat.me.0.view (search rules) (ap (λ q. q.view) c.leave.ensures.left)))
 
@@ -42,7 +42,7 @@ commit_writes-requires-clause-wrote g c =
       attempt = at;
       revocable = attempt.irrevocable-is _ _ _ _ _ at ∙ plain;
       wrote = attempt.wrote-is _ _ _ _ _ at plain ∙ (search rules);
-      keeps = of-view g.K.MemRule.good c.args.stm.now a (λ (n : ℕ) (k : Known). answers.KeepsRule (g.K.MemRule.good c.args.stm.now.rule) c.args.stm.now.config n k) c.requires.keeps;
+      keeps = of-view g.K.MemRule.good c.args.stm.now a (λ (n : ℕ) (k : CallerState). answers.KeepsRule (g.K.MemRule.good c.args.stm.now.rule) c.args.stm.now.config n k) c.requires.keeps;
     }
 
 pub invariant_of-desc-2 : goal.invariant_of-desc-2
@@ -51,4 +51,4 @@ invariant_of-desc-2 g c =
 
 pub returns-clause-commits : goal.returns-clause-commits
 returns-clause-commits g c =
-    tells-of g.K.MemRule.good c.args.stm.now (opened g.K.MemRule.good c.args.stm.now c.desc.inside.number c.desc.inside.local c.desc.view_is refl c.desc.invariant.0.named c.desc.invariant.0.low c.desc.invariant.1 c.requires.stm) (λ (n : ℕ) (v w : Known). answers.Commits (g.K.MemRule.good c.args.stm.now.rule) c.args.stm.now.config n c.commit_writes.result v w) (known_of c.commit_writes.new.seat.me.0.view (own_of c.commit_writes.new.local)) c.commit_writes.ensures.commits.told
+    tells-of g.K.MemRule.good c.args.stm.now (opened g.K.MemRule.good c.args.stm.now c.desc.inside.number c.desc.inside.local c.desc.view_is refl c.desc.invariant.0.named c.desc.invariant.0.low c.desc.invariant.1 c.requires.stm) (λ (n : ℕ) (v w : CallerState). answers.Commits (g.K.MemRule.good c.args.stm.now.rule) c.args.stm.now.config n c.commit_writes.result v w) (known_of c.commit_writes.new.seat.me.0.view (own_of c.commit_writes.new.local)) c.commit_writes.ensures.commits.told

@@ -6,7 +6,7 @@ use Rattle.stm_rule.specs.Attempts.{HasRoom, good_by}
 use Rattle.stm_rule.specs.Callers.{Handle}
 use Rattle.tx_answers.specs.declared.answers.Roll.TheVariants as rolls
 use Rattle.tx_answers.specs.Answers.{Rolls}
-use Rattle.tx_answers.specs.Known.{is_irrevocable}
+use Rattle.tx_answers.specs.CallerState.{is_irrevocable}
 use Rattle.tx_logs.specs.LogStates.{LogState}
 use Rattle.stm_gate.specs.Knowing.{known}
 use Rattle.stm_gate.specs.MarkLaws.{some-by}

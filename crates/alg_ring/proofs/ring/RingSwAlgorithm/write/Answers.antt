@@ -8,7 +8,7 @@ use Rattle.stm_rule.specs.Attempts.{HasRoom, own_of}
 use Rattle.stm_rule.specs.Callers.{Handle, handle_of}
 use Rattle.tx_answers.specs.declared.answers.Write.TheVariants as writes
 use Rattle.tx_answers.specs.Answers.{HasWritten}
-use Rattle.tx_answers.specs.Known.{Known, caller_of}
+use Rattle.tx_answers.specs.CallerState.{CallerState, caller_of}
 use Rattle.stm_gate.specs.Knowing.{known}
 use Rattle.stm_gate.specs.Standing.{stands-of, runs-of, shown-of}
 use Rattle.stm_gate.specs.Told.{stands-on, stands-back}
@@ -21,7 +21,7 @@ returns-in-Full-clause-write g c =
     let i = runs-of g.K.MemRule.good _ _ _ _ _ _ c.desc.view_is c.requires.stm.config c.requires.stm.rule c.requires.running.0 c.desc.invariant.1 in
     let name : caller_of c.desc.inside.seat.me.0.who.role ≡ c.desc.inside.number = ap caller_of c.desc.invariant.0.named in
     let named = subst (λ (p : Handle g.row.K.Denot). (known p).alg ≡ RingSw) (sym c.desc.view_is) c.requires.algorithm in
-    shown-of (λ (n : ℕ) (v w : Known). HasWritten (g.K.MemRule.good c.args.stm.now.rule) c.args.stm.now.config n c.args.a c.args.x (writes.Full c.in-Full.limit) v w) _ _ _ c.leave.new.seat.me.0.view c.desc.inside.local c.leave.new.local c.desc.view_is (ap own_of c.leave.ensures.idle ∙ ap (λ (log : LogState). own_of (record c.desc.inside.local { writes = log })) c.in-Full.ensures.3) name
+    shown-of (λ (n : ℕ) (v w : CallerState). HasWritten (g.K.MemRule.good c.args.stm.now.rule) c.args.stm.now.config n c.args.a c.args.x (writes.Full c.in-Full.limit) v w) _ _ _ c.leave.new.seat.me.0.view c.desc.inside.local c.leave.new.local c.desc.view_is (ap own_of c.leave.ensures.idle ∙ ap (λ (log : LogState). own_of (record c.desc.inside.local { writes = log })) c.in-Full.ensures.3) name
     (laws.writes-refused _ _ _ c.args.a c.desc.inside.local c.desc.inside.seat.me.0.view i named c.if-desc.false (ap (λ (p : Handle g.row.K.Denot). (known p).committing) c.desc.view_is ∙ c.requires.running.1) (ring-of _ _ _ _ _ i named c.if-desc.false) c.args.x c.in-Full.limit (put c.args.a c.args.x c.desc.inside.local.writes.items) c.push.new.self c.leave.new.seat.me.0.view c.desc.invariant.1.lengths.0 c.in-Full.ensures (ap (λ q. q.view) c.leave.ensures.left))
 
 pub invariant_of-desc-2 : goal.invariant_of-desc-2

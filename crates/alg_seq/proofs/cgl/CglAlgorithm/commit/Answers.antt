@@ -12,7 +12,7 @@ use Rattle.rule_seq.specs.CglSteps.{free_lock, store_clock, Commits}
 use Rattle.tx_answers.specs.declared.answers.Commit.TheVariants.{Committed, ReadOnly}
 use Rattle.tx_answers.specs.Answers.{KeepsRule}
 use Rattle.tx_answers.specs.Answers as answers
-use Rattle.tx_answers.specs.Known.{known_of}
+use Rattle.tx_answers.specs.CallerState.{known_of}
 use Rattle.rule_base.specs.declared.seats.SeatView.{SeatView}
 use Rattle.rule_base.specs.declared.views.View.{View}
 use Rattle.alg_seq.proofs.CountingLaws.{takes-left}
@@ -47,17 +47,17 @@ returns-clause-commits g c =
 
 pub returns-then-not-desc-clause-steps : goal.returns-then-not-desc-clause-steps
 returns-then-not-desc-clause-steps g c =
-    let first = ap (λ (h : Handle g.row.K.Denot). length (known h).trail) c.desc.view_is in
-    let freed = ap (λ (y : SeatView g.row.K.Denot). length y.view.steps.trail) c.free_lock.ensures.step.3 in
-    let last = ap (λ (y : SeatView g.row.K.Denot). length y.view.steps.trail) c.leave.ensures.left in
+    let first = ap (λ (h : Handle g.row.K.Denot). length (known h).step_trace) c.desc.view_is in
+    let freed = ap (λ (y : SeatView g.row.K.Denot). length y.view.steps.step_trace) c.free_lock.ensures.step.3 in
+    let last = ap (λ (y : SeatView g.row.K.Denot). length y.view.steps.step_trace) c.leave.ensures.left in
     let one = takes-left c.desc.inside.number c.free_lock.new.seat.me.0.view (ap (λ (y : SeatView g.row.K.Denot). y.view.gate.holds) c.free_lock.ensures.step.3 ∙ (sym c.desc.invariant.1.holds ∙ (locked _ _ _ _ _ (subst (λ (h : Handle g.row.K.Denot). takes_lock (known h).alg ≡ true) (sym c.desc.view_is) (ap takes_lock c.requires.algorithm)) (runs-of g.K.MemRule.good _ _ _ _ _ _ c.desc.view_is c.requires.stm.config c.requires.stm.rule c.requires.running c.desc.invariant.1)).reopened)) in
     omega arith
 
 pub returns-clause-steps : goal.returns-clause-steps
 returns-clause-steps g c =
-    let first = ap (λ (h : Handle g.row.K.Denot). length (known h).trail) c.desc.view_is in
-    let stored = ap (λ (y : SeatView g.row.K.Denot). length y.view.steps.trail) c.store_clock.ensures.step.3 in
-    let freed = ap (λ (y : SeatView g.row.K.Denot). length y.view.steps.trail) c.free_lock-2.ensures.step.3 in
-    let last = ap (λ (y : SeatView g.row.K.Denot). length y.view.steps.trail) c.leave-2.ensures.left in
+    let first = ap (λ (h : Handle g.row.K.Denot). length (known h).step_trace) c.desc.view_is in
+    let stored = ap (λ (y : SeatView g.row.K.Denot). length y.view.steps.step_trace) c.store_clock.ensures.step.3 in
+    let freed = ap (λ (y : SeatView g.row.K.Denot). length y.view.steps.step_trace) c.free_lock-2.ensures.step.3 in
+    let last = ap (λ (y : SeatView g.row.K.Denot). length y.view.steps.step_trace) c.leave-2.ensures.left in
     let one = takes-left c.desc.inside.number c.free_lock-2.new.seat.me.0.view (ap (λ (y : SeatView g.row.K.Denot). y.view.gate.holds) c.free_lock-2.ensures.step.3 ∙ (ap (λ (y : SeatView g.row.K.Denot). y.view.gate.holds) c.store_clock.ensures.step.3 ∙ (sym c.desc.invariant.1.holds ∙ (locked _ _ _ _ _ (subst (λ (h : Handle g.row.K.Denot). takes_lock (known h).alg ≡ true) (sym c.desc.view_is) (ap takes_lock c.requires.algorithm)) (runs-of g.K.MemRule.good _ _ _ _ _ _ c.desc.view_is c.requires.stm.config c.requires.stm.rule c.requires.running c.desc.invariant.1)).reopened))) in
     omega arith

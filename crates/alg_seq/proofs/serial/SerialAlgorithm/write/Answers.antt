@@ -12,7 +12,7 @@ use Rattle.stm_rule.specs.Callers.{Handle, handle_of}
 use Rattle.stm_rule.specs.StandLemmas.{tells-of}
 use Rattle.stm_gate.specs.Knowing.{known}
 use Rattle.stm_gate.specs.Standing.{runs-of}
-use Rattle.tx_answers.specs.Known.{Known, known_of}
+use Rattle.tx_answers.specs.CallerState.{CallerState, known_of}
 use Rattle.stm_gate.specs.Told.{told, running-by, stands-in}
 use Rattle.alg_seq.proofs.Keeping.{known-kept}
 use Rattle.rule_seq.specs.CglSteps.{store_heap}
@@ -44,7 +44,7 @@ returns-in-Ok-clause-write g c =
     let o = own_of c.desc.inside.local in
     let t = tells-of (store_heap c.args.a c.args.x) Nothing c.keep_old.new.seat.me.0 c.args.x c.store_heap.new.seat.me.0 c.store_heap.ensures.step in
     told (λ n v w. HasWritten (g.K.MemRule.good c.args.stm.now.rule) c.args.stm.now.config n c.args.a c.args.x Done v w) (handle_of c.desc.inside.seat o) c.args.desc.now c.desc.inside.number c.store_heap.new.seat.me.0 (record c.keep_old.new.local { wrote = true }) c.desc.view_is (ap (λ (y : SeatView g.row.K.Denot). y.who) c.store_heap.ensures.step.3 ∙ ap (λ (y : SeatView g.row.K.Denot). y.who) c.keep_old.ensures.same.1) c.desc.invariant.0.named
-    (subst (λ (k : Known). HasWritten (g.K.MemRule.good c.args.stm.now.rule) c.args.stm.now.config c.desc.inside.number c.args.a c.args.x Done (known_of c.desc.inside.seat.me.0.view o) k) (sym (known-kept c.desc.inside.local c.keep_old.new.local c.store_heap.new.seat.me.0.view (ap (λ (y : View). y.gate.algorithm) t.2 ∙ (ap (λ (q : GateView). q.algorithm) c.in-Ok.ensures.keeps.may.gate ∙ (subst (λ (h : Handle g.row.K.Denot). (known h).alg ≡ Serial) (sym c.desc.view_is) c.requires.algorithm))) c.in-Ok.ensures.keeps.is c.in-Ok.ensures.keeps.undo_len c.in-Ok.ensures.keeps.marks))
+    (subst (λ (k : CallerState). HasWritten (g.K.MemRule.good c.args.stm.now.rule) c.args.stm.now.config c.desc.inside.number c.args.a c.args.x Done (known_of c.desc.inside.seat.me.0.view o) k) (sym (known-kept c.desc.inside.local c.keep_old.new.local c.store_heap.new.seat.me.0.view (ap (λ (y : View). y.gate.algorithm) t.2 ∙ (ap (λ (q : GateView). q.algorithm) c.in-Ok.ensures.keeps.may.gate ∙ (subst (λ (h : Handle g.row.K.Denot). (known h).alg ≡ Serial) (sym c.desc.view_is) c.requires.algorithm))) c.in-Ok.ensures.keeps.is c.in-Ok.ensures.keeps.undo_len c.in-Ok.ensures.keeps.marks))
     (subst (λ (y : View). HasWritten (g.K.MemRule.good c.args.stm.now.rule) c.args.stm.now.config c.desc.inside.number c.args.a c.args.x Done (known_of c.desc.inside.seat.me.0.view o) (known_of y o)) (sym t.2) (c.in-Ok.ensures.keeps.may.written o ((ap (λ (p : Handle g.row.K.Denot). (known p).committing) c.desc.view_is ∙ c.requires.running.1), sym c.in-Ok.ensures.keeps.undo_len) t.0)))
 
 pub returns-in-Err-clause-write : goal.returns-in-Err-clause-write

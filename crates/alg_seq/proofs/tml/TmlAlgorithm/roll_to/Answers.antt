@@ -5,7 +5,7 @@ use Rattle.stm_rule.specs.Attempts.{HasRoom, good_by, own_of}
 use Rattle.stm_rule.specs.Callers.{Handle}
 use Rattle.tx_answers.specs.declared.answers.Roll.TheVariants as rolls
 use Rattle.tx_answers.specs.Answers.{Rolls}
-use Rattle.tx_answers.specs.Known.{known_of, is_irrevocable}
+use Rattle.tx_answers.specs.CallerState.{known_of, is_irrevocable}
 use Rattle.tx_logs.specs.LogStates.{LogState}
 use Rattle.tx_answers.specs.Counting.{AddsAtMost}
 use Rattle.stm_gate.specs.Knowing.{known}

@@ -4,7 +4,7 @@ use Rattle.tx_regions.specs.Regions.{AllWellFormed}
 use Rattle.stm_script.specs.declared.workload.Header.{Header}
 use Rattle.stm_script.specs.declared.workload.Item.{Item}
 use Rattle.stm_script.specs.Reports.{regions_of, zeros}
-use Rattle.stm_text.specs.Built.{HeaderFits}
+use Rattle.stm_text.specs.Parsed.{HeaderFits}
 use Rattle.stm_driver.specs.AllWorkers.{workers_in}
 use Rattle.stm_driver.specs.Partings.{parted, parts-length}
 use Rattle.stm_driver.specs.Preparings.{HasRoom, IsPrepared, WorkloadKeeps}
@@ -30,15 +30,15 @@ pub prepare-requires-clause-regions : goal.prepare-requires-clause-regions
 prepare-requires-clause-regions g c κs within = c.requires.3.regions ∙ ap regions_of (sym c.requires.3.header)
 
 pub returns : goal.returns
-returns g c = λ mode w built apart.
+returns g c = λ mode w is_parsed apart.
     let p = c.in_ok-prepared.prepared in
     let e = c.in_ok-prepared.ensures in
     let regions = e.rule ∙ (c.in_ok-rule.ensures ∙ ap regions_of apart.header) in
     let prepared = subst (λ (ps : List (List Item)). IsPrepared c.args.self.now.header c.args.policy ps p.stm (workers_in p.runners.items)) (c.as_slice.ensures.value ∙ apart.callers) e.prepared in
     let room = subst (λ (n : ℕ). HasRoom c.args.self.now.header.callers n c.args.self.now.header.words p.room) apart.count e.room in
     record {
-      built = built;
-      keeps = subst (λ (rs : List Region). WorkloadKeeps (AllWellFormed rs) w) (sym regions) (c.regions_are_kept.ensures.kept mode w built);
+      is_parsed = is_parsed;
+      keeps = subst (λ (rs : List Region). WorkloadKeeps (AllWellFormed rs) w) (sym regions) (c.regions_are_kept.ensures.kept mode w is_parsed);
       regions = λ m good. subst (λ (rs : List Region). AllWellFormed rs m) regions good;
       prepared = subst (λ (h : Header). IsPrepared h c.args.policy (parted w.header.callers w.items) p.stm (workers_in p.runners.items)) apart.header prepared;
       room = subst (λ (h : Header). HasRoom h.callers (length w.items) h.words p.room) apart.header room;

@@ -1,8 +1,8 @@
 use Rattle.example_buffer.proofs.DayLaws.{looked, looks-keep, saw}
 use Rattle.example_buffer.proofs.buffer.LookTransactionBuffer.run.Goals as goal
 
-pub returns-clause-tells : goal.returns-clause-tells
-returns-clause-tells g c =
+pub returns-clause-postcondition : goal.returns-clause-postcondition
+returns-clause-postcondition g c =
     let first = c.in_ok-first.ensures in
     let last = c.in_ok-last.ensures in
     let end = g.A.Access.log c.read-2.new.self in

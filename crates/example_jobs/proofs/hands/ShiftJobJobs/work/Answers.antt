@@ -18,19 +18,19 @@ own-jobs plan n well lt =
     omega (arith, all, next, few)
 
 pub overflow_cast-first : goal.overflow_cast-first
-overflow_cast-first g c = let few = c.requires.needs.1.callers.1 in let lt = c.if-number-self.true in omega (arith, few, lt)
+overflow_cast-first g c = let few = c.requires.precondition.1.callers.1 in let lt = c.if-number-self.true in omega (arith, few, lt)
 
 pub overflow_mul-first : goal.overflow_mul-first
-overflow_mul-first g c = let own = own-jobs c.args.self.now.plan c.number-number.result c.requires.needs.1 c.if-number-self.true in omega (arith, own)
+overflow_mul-first g c = let own = own-jobs c.args.self.now.plan c.number-number.result c.requires.precondition.1 c.if-number-self.true in omega (arith, own)
 
 pub overflow_add-first : goal.overflow_add-first
-overflow_add-first g c = let own = own-jobs c.args.self.now.plan c.number-number.result c.requires.needs.1 c.if-number-self.true in omega (arith, own)
+overflow_add-first g c = let own = own-jobs c.args.self.now.plan c.number-number.result c.requires.precondition.1 c.if-number-self.true in omega (arith, own)
 
 pub give_all-gave-requires-clause-numbers : goal.give_all-gave-requires-clause-numbers
-give_all-gave-requires-clause-numbers g c = let own = own-jobs c.args.self.now.plan c.number-number.result c.requires.needs.1 c.if-number-self.true in omega (arith, own)
+give_all-gave-requires-clause-numbers g c = let own = own-jobs c.args.self.now.plan c.number-number.result c.requires.precondition.1 c.if-number-self.true in omega (arith, own)
 
-pub returns-then-number-self-clause-tells : goal.returns-then-number-self-clause-tells
-returns-then-number-self-clause-tells g c =
+pub returns-then-number-self-clause-postcondition : goal.returns-then-number-self-clause-postcondition
+returns-then-number-self-clause-postcondition g c =
     let plan = c.args.self.now.plan in
     let s = c.args.caller.now.stm.now in
     let q = s.rule.waiting in
@@ -45,5 +45,5 @@ returns-then-number-self-clause-tells g c =
     let did : HasDone q s.config.words (range_with_len (first_job plan n) gave) ts a b = subst (λ l. HasDone q s.config.words (range_with_len (first_job plan n) gave) l a b) (sym c.new-took.ensures.items) c.give_all-gave.ensures.gave in
     subst (λ k. (gave ≤ quota plan k) × HasDone q s.config.words (range_with_len (first_job plan k) gave) ts a b) c.number-number.ensures (own, did)
 
-pub returns-else-number-self-clause-tells : goal.returns-else-number-self-clause-tells
-returns-else-number-self-clause-tells g c = ((omega arith), c.take_share-took.ensures.took)
+pub returns-else-number-self-clause-postcondition : goal.returns-else-number-self-clause-postcondition
+returns-else-number-self-clause-postcondition g c = ((omega arith), c.take_share-took.ensures.took)

@@ -32,10 +32,10 @@ returns-in-Added-clause-kept g c =
     let does = subst (λ (r : Put). DoesOver (a.good z) (a.words z) (put_in (queue_of box urgent) message) (a.log z) r k) c.in-Added.is at in
     let small : message < 2 ^ 32 = omega arith in
     keeps-does (IsMailbox box) (a.words z) (a.good z) (put_in (queue_of box urgent) message) (a.log z) k Added c.requires.good c.requires.sound does
-    (λ m well long. put-keeps box (a.words z) c.requires.fits laws.apart laws.within urgent m well long c.contents_change.ensures.puts message small)
+    (λ m well long. put-keeps box (a.words z) c.requires.precondition laws.apart laws.within urgent m well long c.contents_change.ensures.puts message small)
 
-pub returns-in-Added-clause-tells : goal.returns-in-Added-clause-tells
-returns-in-Added-clause-tells g c =
+pub returns-in-Added-clause-postcondition : goal.returns-in-Added-clause-postcondition
+returns-in-Added-clause-postcondition g c =
     let a = g.N.Access in
     let z = c.args.memory.now in
     let k = a.log c.put.new.acc in
@@ -47,10 +47,10 @@ returns-in-Added-clause-tells g c =
     let does = subst (λ (r : Put). DoesOver (a.good z) (a.words z) (put_in (queue_of box urgent) message) (a.log z) r k) c.in-Added.is at in
     let small : message < 2 ^ 32 = omega arith in
     told-does (IsMailbox box) (a.words z) (a.good z) (put_in (queue_of box urgent) message) (a.log z) k Added c.requires.good c.requires.sound does (Posts box urgent message (Some tt))
-    (λ m well long is. put-added box (a.words z) c.requires.fits laws.apart laws.within urgent m well long c.contents_change.ensures.puts message small is)
+    (λ m well long is. put-added box (a.words z) c.requires.precondition laws.apart laws.within urgent m well long c.contents_change.ensures.puts message small is)
 
-pub returns-in-NoRoom-clause-tells : goal.returns-in-NoRoom-clause-tells
-returns-in-NoRoom-clause-tells g c =
+pub returns-in-NoRoom-clause-postcondition : goal.returns-in-NoRoom-clause-postcondition
+returns-in-NoRoom-clause-postcondition g c =
     let a = g.N.Access in
     let z = c.args.memory.now in
     let k = a.log c.put.new.acc in
@@ -62,4 +62,4 @@ returns-in-NoRoom-clause-tells g c =
     let does = subst (λ (r : Put). DoesOver (a.good z) (a.words z) (put_in (queue_of box urgent) message) (a.log z) r k) c.in-NoRoom.is at in
     let small : message < 2 ^ 32 = omega arith in
     told-does (IsMailbox box) (a.words z) (a.good z) (put_in (queue_of box urgent) message) (a.log z) k NoRoom c.requires.good c.requires.sound does (Posts box urgent message None)
-    (λ m well long is. put-full box (a.words z) c.requires.fits laws.apart laws.within urgent m well long c.contents_change.ensures.puts message small is)
+    (λ m well long is. put-full box (a.words z) c.requires.precondition laws.apart laws.within urgent m well long c.contents_change.ensures.puts message small is)

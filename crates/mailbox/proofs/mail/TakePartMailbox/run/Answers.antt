@@ -26,10 +26,10 @@ returns-clause-kept g c =
     let laws = c.queues_are_apart.ensures in
     let does = subst (λ (q : Queue). DoesOver (a.good z) (a.words z) (got_in q) (a.log z) came k) c.queue.ensures c.in_ok-message.ensures.reply in
     if-some came (Under (IsMailbox box) (a.words z) k (IsMailbox box)) (keeps-does (IsMailbox box) (a.words z) (a.good z) (got_in (queue_of box urgent)) (a.log z) k came c.requires.good c.requires.sound does
-    (λ m well long. get-keeps box (a.words z) c.requires.fits laws.apart laws.within urgent m well long c.contents_change.ensures.gets))
+    (λ m well long. get-keeps box (a.words z) c.requires.precondition laws.apart laws.within urgent m well long c.contents_change.ensures.gets))
 
-pub returns-clause-tells : goal.returns-clause-tells
-returns-clause-tells g c =
+pub returns-clause-postcondition : goal.returns-clause-postcondition
+returns-clause-postcondition g c =
     let a = g.N.Access in
     let z = c.args.memory.now in
     let k = a.log c.get.new.acc in
@@ -39,4 +39,4 @@ returns-clause-tells g c =
     let laws = c.queues_are_apart.ensures in
     let does = subst (λ (q : Queue). DoesOver (a.good z) (a.words z) (got_in q) (a.log z) came k) c.queue.ensures c.in_ok-message.ensures.reply in
     told-does (IsMailbox box) (a.words z) (a.good z) (got_in (queue_of box urgent)) (a.log z) k came c.requires.good c.requires.sound does (Takes box urgent came)
-    (λ m well long is. get-takes box (a.words z) c.requires.fits laws.apart laws.within urgent m well long c.contents_change.ensures.gets came is)
+    (λ m well long is. get-takes box (a.words z) c.requires.precondition laws.apart laws.within urgent m well long c.contents_change.ensures.gets came is)

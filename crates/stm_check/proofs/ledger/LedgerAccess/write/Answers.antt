@@ -12,7 +12,7 @@ use Rattle.stm_check.proofs.LedgerLaws.{owned-room, touched-new, touched-again}
 use Rattle.stm_check.proofs.ledger.LedgerAccess.write.Goals.{then-is_none, else-is_none}
 use Rattle.stm_check.proofs.ledger.LedgerAccess.write.Goals as goal
 
--- the word at an address, whatever stands for one behind the end
+-- the word at an address, whatever stands for one after the end
 none-at : (ws : List PlainWord) (a : ℕ) (w : PlainWord) → w ≡ get_or ws a w → a < length ws → is_some w.own ≡ false → is_some (get_or ws a zero_word).own ≡ false
 none-at ws a w e lt h = ap (λ (x : PlainWord). is_some x.own) (get_or_default ws a zero_word w lt ∙ sym e) ∙ h
 

@@ -1,5 +1,5 @@
 use Rattle.std.proofs.Common.{◌∷◌, ◌∙◌, ap}
-use Rattle.stm_check.specs.declared.table.Place.TheVariants.{Title}
+use Rattle.stm_check.specs.declared.table.NextReportLine.TheVariants.{Title}
 use Rattle.stm_check.specs.Grammar.{step_by}
 use Rattle.stm_check.proofs.WordsLaws.{not-empty}
 use Rattle.stm_check.proofs.TableLaws.{long-title}

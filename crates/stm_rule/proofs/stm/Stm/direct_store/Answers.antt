@@ -3,7 +3,7 @@ use Rattle.rule_base.specs.StepKinds.{Nothing}
 use Rattle.stm_rule.specs.Kept.{good_of}
 use Rattle.stm_rule.specs.Lifted.{direct_stores}
 use Rattle.stm_rule.specs.Lifting.{IsSpared}
-use Rattle.stm_rule.specs.Product.{Whole}
+use Rattle.stm_rule.specs.Product.{Invariant}
 use Rattle.stm_rule.specs.Allowing.{law_of}
 use Rattle.stm_rule.proofs.stm.Stm.direct_store.Goals as goal
 
@@ -12,4 +12,4 @@ store_as-requires-clause-law g c =
     let f = c.args.self.now.config in
     let m = good_of g.K.MemRule.good f c.args.self.now.rule in
     let n = c.args.caller in
-    law_of (Whole m f) (direct_store c.args.a c.args.x) Nothing n (λ v. CanDirectStore f.words c.args.a c.args.x v × IsSpared c.args.a v) c.args.seat.now.me.0.view (direct_stores m f n c.args.a c.args.x) (c.requires.view, c.requires.spared)
+    law_of (Invariant m f) (direct_store c.args.a c.args.x) Nothing n (λ v. CanDirectStore f.words c.args.a c.args.x v × IsSpared c.args.a v) c.args.seat.now.me.0.view (direct_stores m f n c.args.a c.args.x) (c.requires.view, c.requires.spared)

@@ -1,7 +1,7 @@
 use Rattle.rule_base.specs.FenceSteps.{fence_commit, CanFenceCommit, FenceCommits}
 use Rattle.stm_rule.specs.Kept.{good_of}
 use Rattle.stm_rule.specs.GivingLaws.{fence_commits}
-use Rattle.stm_rule.specs.Product.{Whole}
+use Rattle.stm_rule.specs.Product.{Invariant}
 use Rattle.stm_rule.specs.Allowing.{law_of}
 use Rattle.stm_rule.proofs.stm.Stm.fence_commit.Goals as goal
 
@@ -10,4 +10,4 @@ store_own_as-requires-clause-law g c =
     let f = c.args.self.now.config in
     let m = good_of g.K.MemRule.good f c.args.self.now.rule in
     let n = c.args.caller in
-    law_of (Whole m f) (fence_commit n c.args.alg c.args.time) (FenceCommits m f n c.args.time) n (CanFenceCommit m c.args.alg c.args.time) c.args.seat.now.me.0.view (fence_commits m f n c.args.alg c.args.time) c.requires.view
+    law_of (Invariant m f) (fence_commit n c.args.alg c.args.time) (FenceCommits m f n c.args.time) n (CanFenceCommit m c.args.alg c.args.time) c.args.seat.now.me.0.view (fence_commits m f n c.args.alg c.args.time) c.requires.view

@@ -1,7 +1,7 @@
 use Rattle.rule_base.specs.FenceSteps.{fence_load, CanFenceLoad, FenceLoads}
 use Rattle.stm_rule.specs.Kept.{good_of}
 use Rattle.stm_rule.specs.FencingLaws.{fence_loads}
-use Rattle.stm_rule.specs.Product.{Whole}
+use Rattle.stm_rule.specs.Product.{Invariant}
 use Rattle.stm_rule.specs.Allowing.{law_of}
 use Rattle.stm_rule.proofs.stm.Stm.fence_load.Goals as goal
 
@@ -10,4 +10,4 @@ load_as-requires-clause-law g c =
     let f = c.args.self.now.config in
     let m = good_of g.K.MemRule.good f c.args.self.now.rule in
     let n = c.args.caller in
-    law_of (Whole m f) (fence_load c.args.a) (FenceLoads c.args.a) n (CanFenceLoad c.args.a) c.args.seat.now.me.0.view (fence_loads m f n c.args.a) c.requires.view
+    law_of (Invariant m f) (fence_load c.args.a) (FenceLoads c.args.a) n (CanFenceLoad c.args.a) c.args.seat.now.me.0.view (fence_loads m f n c.args.a) c.requires.view

@@ -2,7 +2,7 @@ use Rattle.rule_seq.specs.TmlSteps.{tml_begin, CanTmlBegin}
 use Rattle.stm_rule.specs.Kept.{good_of}
 use Rattle.stm_rule.specs.Lifted.{begins_beside}
 use Rattle.stm_rule.specs.Findings.{FindsBegin}
-use Rattle.stm_rule.specs.Product.{Whole}
+use Rattle.stm_rule.specs.Product.{Invariant}
 use Rattle.stm_rule.specs.Allowing.{law_of}
 use Rattle.stm_rule.proofs.stm.Stm.tml_begin.Goals as goal
 
@@ -11,4 +11,4 @@ load_as-requires-clause-law g c =
     let f = c.args.self.now.config in
     let m = good_of g.K.MemRule.good f c.args.self.now.rule in
     let n = c.args.caller in
-    law_of (Whole m f) tml_begin (FindsBegin m f) n CanTmlBegin c.args.seat.now.me.0.view (begins_beside m f n) c.requires.view
+    law_of (Invariant m f) tml_begin (FindsBegin m f) n CanTmlBegin c.args.seat.now.me.0.view (begins_beside m f n) c.requires.view

@@ -1,7 +1,7 @@
 use Rattle.std.proofs.Common.{◌≡◌, ◌∙◌, true, false, refl, sym, ap, subst}
 use Rattle.std.specs.Prelude.{is_none, Some}
 use Rattle.stm_model.specs.declared.alg.Alg.{Alg}
-use Rattle.tx_answers.specs.KnownLaws.{in-attempt, carries-wrote}
+use Rattle.tx_answers.specs.CallerStateLaws.{in-attempt, carries-wrote}
 use Rattle.rule_base.specs.EncodingLemmas.{fenced-none}
 use Rattle.rule_base.specs.Encodings.{fenced}
 use Rattle.stm_tx.specs.Descs.{known, number}

@@ -1,7 +1,7 @@
 use Rattle.std.proofs.Common.{inr, subst, sym}
 use Rattle.stm_trace.specs.declared.said.Said.TheVariants.{Installed}
 use Rattle.stm_trace.specs.Turns.{MaySay}
-use Rattle.tx_answers.specs.Known.{caller_of}
+use Rattle.tx_answers.specs.CallerState.{caller_of}
 use Rattle.stm_tx.specs.Descs.{known}
 use Rattle.stm_worker.specs.Workers.{Turned}
 use Rattle.stm_worker.proofs.StandLaws.{same-twice}

@@ -3,7 +3,7 @@ use Rattle.stm_trace.specs.declared.said.Phase.TheVariants as Phase
 use Rattle.stm_trace.specs.declared.said.Said.TheVariants.{Looked}
 use Rattle.std.proofs.Common.{inl}
 use Rattle.tx_answers.specs.declared.answers.Look.TheVariants.{Quiet, Busy}
-use Rattle.tx_answers.specs.Known.{caller_of}
+use Rattle.tx_answers.specs.CallerState.{caller_of}
 use Rattle.stm_tx.specs.Descs.{known}
 use Rattle.stm_worker.specs.Workers.{ToSwitch, IsAt}
 use Rattle.stm_worker.proofs.StandLaws.{rest-closing}

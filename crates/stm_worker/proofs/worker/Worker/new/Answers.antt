@@ -1,5 +1,5 @@
 use Rattle.std.proofs.Common.{◌++◌, ◌∷◌, [], refl, sym, ap, ◌∙◌}
-use Rattle.tx_answers.specs.Known.{caller_of}
+use Rattle.tx_answers.specs.CallerState.{caller_of}
 use Rattle.stm_tx.specs.Descs.{known}
 use Rattle.stm_worker.proofs.RoomLaws.{spare-empty, start-at}
 use Rattle.stm_worker.proofs.worker.Worker.new.Goals as goal

@@ -6,8 +6,8 @@ use Rattle.tx_parts.specs.Laying.{ReadsMore, OnlyReads, EitherTells, back_to}
 use Rattle.tx_parts.specs.LayingLaws.{keeps-more, answer-then, ok-then, room-second}
 use Rattle.tx_parts.proofs.or_else.OrElsePart.run.Goals as goal
 
-pub returns-clause-tells : goal.returns-clause-tells
-returns-clause-tells g c =
+pub returns-clause-postcondition : goal.returns-clause-postcondition
+returns-clause-postcondition g c =
     let n = g.N.Nesting in
     let log = g.N.Access.log in
     let z0 = c.args.memory.now in
@@ -16,15 +16,15 @@ returns-clause-tells g c =
     let z3 = c.roll_back.new.self in
     let z4 = c.run-2.new.memory in
     let kept = c.in_ok-done.ensures.keeps in
-    let gave : g.P.Part.tells c.args.self.now.first c.args.rule.now (g.N.Access.words z0) None (log z0) (log z2) = search (rules, c.in_ok-done.ensures.tells) in
+    let gave : g.P.Part.postcondition c.args.self.now.first c.args.rule.now (g.N.Access.words z0) None (log z0) (log z2) = search (rules, c.in_ok-done.ensures.postcondition) in
     let words : g.N.Access.words z3 ≡ g.N.Access.words z0 = c.roll_back.ensures.words ∙ (g.met.N.Nesting.keeps_words z1 z2 kept ∙ c.mark.ensures.words) in
     let more = g.met.N.Nesting.keeps_reads z1 z2 kept c.in_ok-done.ensures.goes in
     let reads : ReadsMore (log z0) (log z3) = (more.0, c.roll_back.ensures.reads ∙ (more.1 ∙ ap (λ (l : Log). l.reads ++ more.0) c.mark.ensures.log)) in
     let only : OnlyReads (log z0) (log z3) = (reads, c.roll_back.ensures.writes z0 z1 c.mark.ensures.opens kept) in
     let from : log z3 ≡ back_to (log z0) (log z2) = (λ i. record { reads = c.roll_back.ensures.reads i; writes = only.1 i }) in
-    ok-then c.run-2.result (λ o. g.Q.Part.tells c.args.self.now.second c.args.rule.now (g.N.Access.words z3) o (log z3) (log z4))
-    (λ o. EitherTells (g.P.Part.tells c.args.self.now.first c.args.rule.now (g.N.Access.words z0)) (g.Q.Part.tells c.args.self.now.second c.args.rule.now (g.N.Access.words z0)) o (log z0) (log z4))
-    (g.N.Access.stopped z4 ≡ None) c.run-2.ensures.goes c.run-2.ensures.tells
+    ok-then c.run-2.result (λ o. g.Q.Part.postcondition c.args.self.now.second c.args.rule.now (g.N.Access.words z3) o (log z3) (log z4))
+    (λ o. EitherTells (g.P.Part.postcondition c.args.self.now.first c.args.rule.now (g.N.Access.words z0)) (g.Q.Part.postcondition c.args.self.now.second c.args.rule.now (g.N.Access.words z0)) o (log z0) (log z4))
+    (g.N.Access.stopped z4 ≡ None) c.run-2.ensures.goes c.run-2.ensures.postcondition
     (λ o goes t.
     let last = g.met.N.Nesting.keeps_reads z3 z4 c.run-2.ensures.keeps goes in
     inr (
@@ -32,7 +32,7 @@ returns-clause-tells g c =
       gave,
       (more.0, more.1 ∙ ap (λ (l : Log). l.reads ++ more.0) c.mark.ensures.log),
       (last.0, last.1 ∙ ap (λ (rs : List (ℕ × ℕ)). rs ++ last.0) c.roll_back.ensures.reads),
-      subst (λ (l : Log). g.Q.Part.tells c.args.self.now.second c.args.rule.now (g.N.Access.words z0) o l (log z4)) from (subst (λ (w : ℕ). g.Q.Part.tells c.args.self.now.second c.args.rule.now w o (log z3) (log z4)) words t),
+      subst (λ (l : Log). g.Q.Part.postcondition c.args.self.now.second c.args.rule.now (g.N.Access.words z0) o l (log z4)) from (subst (λ (w : ℕ). g.Q.Part.postcondition c.args.self.now.second c.args.rule.now w o (log z3) (log z4)) words t),
     ))
 
 pub run-requires-2-clause-sound : goal.run-requires-2-clause-sound

@@ -17,7 +17,7 @@ loop-round-preserved g c =
     let w = c.run.new.self in
     let inv = c.loop-round.invariant in
     let t = c.in-Some.ensures.took in
-    let told = subst (λ (s : Bor (Stm g.row.K.Denot)). g.T.Transaction.tells c.f-transaction.result s.now.rule s.now.config.words c.in-Some.field-0 t.before.log) inv.same t.told in
+    let told = subst (λ (s : Bor (Stm g.row.K.Denot)). g.T.Transaction.postcondition c.f-transaction.result s.now.rule s.now.config.words c.in-Some.field-0 t.before.log) inv.same t.told in
     record {
       worked = worked-trans c.args.self.now.desc v.desc w.desc inv.worked c.run.ensures.worked.through c.run.ensures.worked.grew;
       same = c.run.ensures.same ∙ inv.same;

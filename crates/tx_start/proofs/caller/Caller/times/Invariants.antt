@@ -9,6 +9,6 @@ invariant-loop-round g l = record {
   worked : HasWorked l.fn.self.desc l.self.desc;
   same : l.self.stm ≡ l.fn.self.stm;
   installs : (known l.self.desc).installs ≡ (known l.fn.self.desc).installs;
-  took : MadeAll (Answered (g.T.Transaction.tells l.fn.transaction l.fn.self.stm.now.rule l.fn.self.stm.now.config.words)) (known l.fn.self.desc).made l.round (known l.self.desc).made;
+  took : MadeAll (Answered (g.T.Transaction.postcondition l.fn.transaction l.fn.self.stm.now.rule l.fn.self.stm.now.config.words)) (known l.fn.self.desc).made l.round (known l.self.desc).made;
   counted : l.self.pace.tally.commits ≡ raised l.fn.self.pace.tally.commits l.round;
 }

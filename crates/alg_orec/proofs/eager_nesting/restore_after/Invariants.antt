@@ -1,0 +1,24 @@
+use Rattle.std.proofs.Common.{◌≡◌, ◌≤◌, ◌+◌, ◌-◌, List, length, take}
+use Rattle.std.specs.Prelude.{◌⊎◌}
+use Rattle.rule_base.specs.declared.views.TracedStep.{TracedStep}
+use Rattle.rule_base.specs.Bridge.{items}
+use Rattle.rule_base.specs.History.{Small}
+use Rattle.alg_orec.specs.EagerEnding.{restoring}
+use Rattle.alg_orec.proofs.eager_nesting.restore_after.Given as goal
+
+abbrev pub invariant-loop-count : goal.invariant-loop-count
+invariant-loop-count g l = record {
+  table : l.seat.table_id ≡ l.initial.seat.table_id;
+  id : l.seat.id ≡ l.initial.seat.id;
+  bare : l.seat.me.1 ≡ l.initial.seat.me.1;
+  more : List TracedStep;
+  seat : l.seat.me.0 ≡ record l.initial.seat.me.0 { view = restoring l.initial.seat.me.0.view l.seat.me.0.view.owned.in_place more };
+  in_place : items l.seat.me.0.view.owned.in_place ≡ take l.count l.writes.items;
+  small : Small l.seat.me.0.view.owned.in_place;
+  low : (l.left ≤ l.count) ⊎ (l.count ≡ length l.writes.items);
+  high : l.count ≤ length l.writes.items;
+  steps : length l.seat.me.0.view.steps.step_trace + l.count ≤ length l.initial.seat.me.0.view.steps.step_trace + length l.writes.items;
+}
+
+abbrev pub decreases-loop-count : goal.decreases-loop-count
+decreases-loop-count g l = l.count - l.left

@@ -1,0 +1,46 @@
+//! What a memory is for: one region, and the rule that it is well formed.
+ghost use Rattle.std.specs.Prelude.{replicate};
+ghost use Rattle.tx_regions.specs.Regions.{WellFormed};
+ghost use Rattle.perf_core.specs.Jobs.{RegionFits};
+
+use crate::plan::{ACCOUNTS, CELLS, Workload};
+use stm_model::rule::MemRule;
+use tx_cells::counter::Counter;
+use tx_cells::hash::Hash;
+use tx_cells::laws::chains_are_apart;
+use tx_cells::list::List;
+use tx_regions::region::Region;
+
+/// The words of each memory: a hash set of 512 cells takes the most.
+pub const WORDS: usize = 1_040;
+
+/// The one region that a memory has; accounts and a count are a counter's stripes. As a rule on memory: it is
+/// well formed.
+#[derive(Clone, Copy, Drop, Debug, PartialEq, Eq)]
+pub struct WorkRegion {
+    pub region: Region,
+}
+
+impl MemRule for WorkRegion {
+    ghost use Rattle.tx_regions.specs.Regions.{WellFormed};
+
+    ghost good = { λ work_region memory. WellFormed work_region.region memory };
+}
+
+impl WorkRegion {
+    /// The region of a workload, from the word 0 on. A memory of zeros is well formed.
+    pub fn of(workload: Workload) -> WorkRegion
+        ensures fits { RegionFits result.region WORDS }
+        ensures opening { WellFormed result.region (replicate WORDS 0) }
+    {
+        chains_are_apart();
+        let region = match workload {
+            Workload::Bank | Workload::Count | Workload::Sum => Region::Counter(Counter::new(
+                0, ACCOUNTS,
+            )),
+            Workload::Hash => Region::Hash(Hash::new(0, CELLS)),
+            Workload::List => Region::List(List::new(0, CELLS)),
+        };
+        WorkRegion { region }
+    }
+}

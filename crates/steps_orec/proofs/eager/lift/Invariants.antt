@@ -1,7 +1,0 @@
-use Rattle.rule_orec.specs.OrecRuns.OrecStep.{orec_lifts}
-use Rattle.stm_rule.specs.CoreRuns.CoreStep.{of_orec}
-use Rattle.steps_orec.specs.RecordFindings.{FindsClock}
-use Rattle.steps_orec.proofs.eager.lift.Given as goal
-
-abbrev pub ghosts-raise_as : goal.ghosts-raise_as
-ghosts-raise_as g a = record { step = of_orec (orec_lifts a.least); shows = FindsClock a.self.now.config; caller = a.said.now }

@@ -1,6 +1,0 @@
-use Rattle.std.proofs.Common.{arith}
-use Rattle.tx_checked.proofs.Mails.{fresh}
-use Rattle.tx_checked.proofs.mail.Mail.new.Goals as goal
-
-pub vacant-requires : goal.vacant-requires
-vacant-requires c = fresh c.args.of.now c.as_slice.result.now c.args.callers (let long = c.as_slice.ensures.len in let made = c.in_ok-words.ensures.len in omega arith)

@@ -1,0 +1,36 @@
+-- What contracts say of a caller with its memory.
+use Rattle.std.specs.Prelude.{ℕ, Bool, not, ◌≡◌, ◌==◌, ◌&&◌}
+use Rattle.std.specs.Arc.{arc_value}
+use Rattle.stm_model.specs.declared.config.Config.{Config}
+use Rattle.stm_rule.specs.Callers.{IsSameCaller}
+use Rattle.stm_tx.specs.Descs.{known, number}
+use Rattle.tx_answers.specs.CallerState.{CallerState}
+use Rattle.tx_checked.specs.declared.checked_caller.CheckedCaller.{CheckedCaller}
+
+abbrev pub config_of : CheckedCaller → Config
+config_of m = (arc_value m.stm).config
+
+abbrev pub number_of : CheckedCaller → ℕ
+number_of m = number m.desc
+
+abbrev pub known_to : CheckedCaller → CallerState
+known_to m = known m.desc
+
+-- a range was out of the transactions as its attempt began
+abbrev pub is_beside : CallerState → Bool
+is_beside v = v.running && not (v.fence == 0)
+
+-- the same caller of the same memory
+pub record IsSameCheckedCaller (m n : CheckedCaller) : Type 0 where
+  pub stm : n.stm ≡ m.stm
+  pub caller : IsSameCaller m.desc n.desc
+
+-- nothing of it has changed
+pub record IsUntouched (m n : CheckedCaller) : Type 0 where
+  pub stm : n.stm ≡ m.stm
+  pub note_exchange : n.note_exchange ≡ m.note_exchange
+  pub desc : n.desc ≡ m.desc
+  pub phase : n.phase ≡ m.phase
+  pub range : n.range ≡ m.range
+  pub refusal : n.refusal ≡ m.refusal
+  pub counts : n.counts ≡ m.counts
