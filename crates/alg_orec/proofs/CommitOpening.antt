@@ -14,7 +14,7 @@ use Rattle.tx_answers.specs.CallerState.{CallerState, is_irrevocable}
 use Rattle.stm_gate.specs.Knowing.{known}
 use Rattle.stm_gate.specs.Opening.{Opened}
 use Rattle.stm_gate.specs.Standing.{in-of}
-use Rattle.alg_orec.proofs.EagerProving as proving
+use Rattle.alg_orec.proofs.Eager.EagerProving as proving
 
 -- a promoted attempt of OrecEager
 pub record Promoted (good : List ℕ → Type 0) (c : Config) (n : ℕ) (l : Local) (v : View) : Type 0 where

@@ -37,7 +37,7 @@ use Rattle.stm_gate.specs.Standing.{in-of}
 use Rattle.stm_gate.specs.Told.{stands-on}
 use Rattle.alg_orec.specs.Granting.{promoted_at, RefusesGrant, IsNotPromoted}
 use Rattle.alg_orec.specs.Validating.{load_of}
-use Rattle.alg_orec.proofs.EagerProving.{conflicts-later}
+use Rattle.alg_orec.proofs.Eager.EagerProving.{conflicts-later}
 use Rattle.alg_orec.proofs.Proving.{with_commit}
 use Rattle.stm_rule.specs.RecordsKept.{IsOptimistic}
 

@@ -11,10 +11,10 @@ use Rattle.rule_base.specs.declared.layout.At.TheVariants.{Record}
 use Rattle.rule_base.specs.declared.views.TracedStep.{TracedStep}
 use Rattle.rule_base.specs.declared.views.View.{View}
 use Rattle.rule_base.specs.Bridge.{items}
-use Rattle.rule_base.specs.BridgeLemmas.{item-none, item-some}
+use Rattle.rule_base.specs.Lemmas.BridgeLemmas.{item-none, item-some}
 use Rattle.rule_base.specs.Encodings.{free_record, is_owned, version_of}
 use Rattle.rule_base.specs.History.{over, touches}
-use Rattle.rule_base.specs.HistoryLemmas.{inside-more}
+use Rattle.rule_base.specs.Lemmas.HistoryLemmas.{inside-more}
 use Rattle.rule_base.specs.Ranks.{home_of}
 use Rattle.rule_base.specs.StepKinds.{Tells, view_after}
 use Rattle.rule_orec.specs.OrecOwning.{holding}

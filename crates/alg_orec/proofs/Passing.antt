@@ -12,10 +12,10 @@ use Rattle.rule_base.specs.declared.views.TracedStep.{TracedStep}
 use Rattle.rule_base.specs.declared.views.Validation.{Validation}
 use Rattle.rule_base.specs.declared.views.View.{View}
 use Rattle.rule_base.specs.Bridge.{items}
-use Rattle.rule_base.specs.BridgeLemmas.{item-none, item-some}
+use Rattle.rule_base.specs.Lemmas.BridgeLemmas.{item-none, item-some}
 use Rattle.rule_base.specs.Encodings.{free_record, is_owned, version_of}
 use Rattle.rule_base.specs.History.{over, touches, without}
-use Rattle.rule_base.specs.HistoryLemmas.{touches-without}
+use Rattle.rule_base.specs.Lemmas.HistoryLemmas.{touches-without}
 use Rattle.rule_base.specs.Ranks.{home_of}
 use Rattle.rule_base.specs.StepKinds.{Tells}
 use Rattle.rule_base.specs.World.{World}

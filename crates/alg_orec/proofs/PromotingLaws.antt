@@ -16,7 +16,7 @@ use Rattle.rule_base.specs.declared.views.TracedStep.{TracedStep}
 use Rattle.rule_base.specs.declared.views.Validation.{Validation}
 use Rattle.rule_base.specs.declared.views.View.{View}
 use Rattle.rule_base.specs.Bridge.{items, of_words}
-use Rattle.rule_base.specs.BridgeLemmas.{item-some}
+use Rattle.rule_base.specs.Lemmas.BridgeLemmas.{item-some}
 use Rattle.rule_base.specs.Encodings.{is_owned, version_of}
 use Rattle.rule_base.specs.GateSteps.{granted_at}
 use Rattle.rule_base.specs.History.{over, touches, Inside, Small}
@@ -39,8 +39,8 @@ use Rattle.tx_answers.specs.CallerState.{known_of}
 use Rattle.alg_orec.specs.EagerEnding.{AllBelow}
 use Rattle.alg_orec.specs.Granting.{CanPromote, loaded_at, IsPromoted, IsNotPromoted}
 use Rattle.alg_orec.specs.Validating.{load_of, OnlyLoads, read_at, is_old, vouches, IsLast, CanValidate, Refuses, IsFoundStale, IsHeldNewer, IsStale, HasPassed}
-use Rattle.alg_orec.proofs.LazyCommitLaws.{untouched-loads}
-use Rattle.alg_orec.proofs.EagerProving.{conflicts-later}
+use Rattle.alg_orec.proofs.Lazy.LazyCommitLaws.{untouched-loads}
+use Rattle.alg_orec.proofs.Eager.EagerProving.{conflicts-later}
 use Rattle.alg_orec.proofs.Passing as passing
 use Rattle.alg_orec.proofs.Validity as validity
 

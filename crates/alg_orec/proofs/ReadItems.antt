@@ -5,7 +5,7 @@ use Rattle.std.proofs.lemmas.Bool.Decides.{nat_tests}
 use Rattle.stm_model.specs.Memories.{item_at}
 use Rattle.rule_base.specs.declared.entries.Cell.{Cell}
 use Rattle.rule_base.specs.Bridge.{items}
-use Rattle.rule_base.specs.BridgeLemmas.{item-some}
+use Rattle.rule_base.specs.Lemmas.BridgeLemmas.{item-some}
 use Rattle.rule_base.specs.History.{touches}
 use Rattle.stm_gate.specs.Logging.{item-touched}
 

@@ -21,7 +21,7 @@ use Rattle.rule_base.specs.declared.views.Validation.{Validation}
 use Rattle.rule_base.specs.declared.views.View.{View}
 use Rattle.rule_base.specs.Bridge.{addresses, items, of_words, public_history}
 use Rattle.rule_base.specs.History.{word_now, Below, Explains, Inside, Legal}
-use Rattle.rule_base.specs.HistoryLemmas.{inside-more}
+use Rattle.rule_base.specs.Lemmas.HistoryLemmas.{inside-more}
 use Rattle.rule_base.specs.Own.{Own}
 use Rattle.rule_base.specs.StepKinds.{Tells, view_after}
 use Rattle.rule_orec.specs.OrecReading.{no_check, no_sample}

@@ -11,7 +11,7 @@ use Rattle.rule_base.specs.declared.views.TracedStep.{TracedStep}
 use Rattle.rule_base.specs.Bridge.{items}
 use Rattle.rule_base.specs.Encodings.{free_record}
 use Rattle.rule_base.specs.History.{over, touches, without, Inside}
-use Rattle.rule_base.specs.HistoryLemmas.{touches-without, over-without}
+use Rattle.rule_base.specs.Lemmas.HistoryLemmas.{touches-without, over-without}
 use Rattle.rule_base.specs.StepKinds.{view_after}
 use Rattle.rule_base.specs.World.{World}
 use Rattle.rule_orec.specs.OrecSteps.{orec_release}

@@ -14,7 +14,7 @@ use Rattle.rule_base.specs.declared.views.Validation.{Validation}
 use Rattle.rule_base.specs.declared.views.View.{View}
 use Rattle.rule_base.specs.Encodings.{free_record, is_owned, version_of}
 use Rattle.rule_base.specs.History.{over, touches, without, upto}
-use Rattle.rule_base.specs.HistoryLemmas.{touches-without}
+use Rattle.rule_base.specs.Lemmas.HistoryLemmas.{touches-without}
 use Rattle.rule_base.specs.Ranks.{home_of}
 use Rattle.rule_base.specs.StepKinds.{Tells, view_after}
 use Rattle.rule_orec.specs.OrecReading.{no_check, checks}

@@ -18,7 +18,7 @@ use Rattle.rule_base.specs.declared.views.TracedStep.{TracedStep}
 use Rattle.rule_base.specs.declared.views.View.{View}
 use Rattle.rule_base.specs.Bridge.{items, public_history}
 use Rattle.rule_base.specs.History.{touches, upto, word_now}
-use Rattle.rule_base.specs.HistoryLemmas.{inside-more, over-miss}
+use Rattle.rule_base.specs.Lemmas.HistoryLemmas.{inside-more, over-miss}
 use Rattle.rule_base.specs.Own.{Own}
 use Rattle.rule_base.specs.StepKinds.{Nothing, Tells, view_after}
 use Rattle.rule_ring.specs.RingSteps.{ring_load}

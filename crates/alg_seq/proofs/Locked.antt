@@ -19,7 +19,7 @@ use Rattle.rule_base.specs.declared.views.SeenHistory.{SeenHistory}
 use Rattle.rule_base.specs.declared.views.TracedStep.{TracedStep}
 use Rattle.rule_base.specs.declared.views.View.{View}
 use Rattle.rule_base.specs.Bridge.{items, of_words, public_history}
-use Rattle.rule_base.specs.BridgeLemmas.{keeps-cells}
+use Rattle.rule_base.specs.Lemmas.BridgeLemmas.{keeps-cells}
 use Rattle.rule_base.specs.History.{word_now, Inside, Below, Explains, Legal}
 use Rattle.rule_base.specs.Own.{Own}
 use Rattle.rule_base.specs.StepKinds.{Nothing, Tells, view_after}

@@ -13,7 +13,7 @@ use Rattle.rule_base.specs.declared.views.View.{View}
 use Rattle.rule_base.specs.declared.entries.Cell.{Cell}
 use Rattle.rule_base.specs.Bridge.{addresses, items}
 use Rattle.rule_base.specs.History.{member, touches}
-use Rattle.rule_base.specs.HistoryLemmas.{inside-more}
+use Rattle.rule_base.specs.Lemmas.HistoryLemmas.{inside-more}
 use Rattle.rule_base.specs.StepKinds.{Nothing, Tells, view_after}
 use Rattle.rule_seq.specs.CglSteps.{load_undo}
 use Rattle.stm_rule.specs.declared.local.Local.{Local}

@@ -19,9 +19,9 @@ use Rattle.rule_base.specs.declared.views.LockView.{LockView}
 use Rattle.rule_base.specs.declared.views.Ownership.{Ownership}
 use Rattle.rule_base.specs.declared.views.View.{View}
 use Rattle.rule_base.specs.Bridge.{items, of_words, public_history}
-use Rattle.rule_base.specs.BridgeLemmas.{keeps-cells}
+use Rattle.rule_base.specs.Lemmas.BridgeLemmas.{keeps-cells}
 use Rattle.rule_base.specs.History.{over, touches, word_now, Explains}
-use Rattle.rule_base.specs.HistoryLemmas.{inside-more}
+use Rattle.rule_base.specs.Lemmas.HistoryLemmas.{inside-more}
 use Rattle.rule_base.specs.Own.{Own}
 use Rattle.rule_base.specs.StepKinds.{Nothing, Tells, view_after}
 use Rattle.rule_base.specs.World.{World}

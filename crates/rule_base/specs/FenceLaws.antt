@@ -12,12 +12,12 @@ use Rattle.rule_base.specs.declared.views.Phase.{Phase}
 use Rattle.rule_base.specs.declared.views.Phase.TheVariants.{In}
 use Rattle.rule_base.specs.declared.views.View.{View}
 use Rattle.rule_base.specs.Encodings.{fence_of, fence_owner, fence_number, fenced}
-use Rattle.rule_base.specs.EncodingLemmas.{fence_owner-number, fenced-inside, fenced-none}
+use Rattle.rule_base.specs.Lemmas.EncodingLemmas.{fence_owner-number, fenced-inside, fenced-none}
 use Rattle.rule_base.specs.Fence.{heap_without_fence, without_fence, owes, FenceProjection, fence_projection, KnowsPast, FenceHolder, FenceRule}
 use Rattle.rule_base.specs.FenceSteps.{no_fence}
 use Rattle.rule_base.specs.History.{over, touches, word_now, upto, Small, Explains, Below}
-use Rattle.rule_base.specs.HistoryLemmas.{over-miss, upto-all, small-more}
-use Rattle.rule_base.specs.PutLemmas.{put-all, put-else, parts-put, parts-kept}
+use Rattle.rule_base.specs.Lemmas.HistoryLemmas.{over-miss, upto-all, small-more}
+use Rattle.rule_base.specs.Lemmas.PutLemmas.{put-all, put-else, parts-put, parts-kept}
 use Rattle.rule_base.specs.World.{World, put, parts}
 
 -- leaving the fence out hides nothing outside the range

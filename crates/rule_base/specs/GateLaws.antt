@@ -9,12 +9,12 @@ use Rattle.rule_base.specs.declared.views.Phase.{Phase}
 use Rattle.rule_base.specs.declared.views.Phase.TheVariants.{Idle, Announced, Turned, Aiming, In, Closing}
 use Rattle.rule_base.specs.declared.views.View.{View}
 use Rattle.rule_base.specs.Encodings.{alg_of, holder_of, fence_of, gate_word, announced}
-use Rattle.rule_base.specs.EncodingLemmas.{alg_of-gate, holder_of-gate, holder_of-open, fence_of-gate, fence_of-open, formed-gate}
+use Rattle.rule_base.specs.Lemmas.EncodingLemmas.{alg_of-gate, holder_of-gate, holder_of-open, fence_of-gate, fence_of-open, formed-gate}
 use Rattle.rule_base.specs.GateRule.{rests, is_silent, may_hold, GateProjection, gate_projection, GateRule}
 use Rattle.rule_base.specs.GateSteps.{announce, CanAnnounce, load_gate, CanLoadGate, departs, departed, depart, CanDepart, aim, CanAim, closed_at, take_gate, CanTakeGate, check, CanCheck, opened, reopen, CanReopen, seized, seize, CanSeize, returned, return_gate, CanReturn}
 use Rattle.rule_base.specs.InstallSteps.{HasChecked, install}
 use Rattle.rule_base.specs.History.{member}
-use Rattle.rule_base.specs.PutLemmas.{put-all, parts-put, parts-kept}
+use Rattle.rule_base.specs.Lemmas.PutLemmas.{put-all, parts-put, parts-kept}
 use Rattle.rule_base.specs.StepKinds.{view_after, world_after}
 use Rattle.rule_base.specs.World.{World, put, parts}
 

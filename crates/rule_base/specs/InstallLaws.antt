@@ -14,7 +14,7 @@ use Rattle.rule_base.specs.GateSteps.{depart, departed, CanDepart, granted_at}
 use Rattle.rule_base.specs.History.{member}
 use Rattle.rule_base.specs.InstallRule.{InstallProjection, install_projection, InstallRule}
 use Rattle.rule_base.specs.InstallSteps.{HasChecked, settle, CanSettle, even_clock, CanEvenClock, store_base, store_done, CanMark, install}
-use Rattle.rule_base.specs.PutLemmas.{parts-put, parts-kept}
+use Rattle.rule_base.specs.Lemmas.PutLemmas.{parts-put, parts-kept}
 use Rattle.rule_base.specs.StepKinds.{view_after, world_after}
 use Rattle.rule_base.specs.World.{World, put, parts}
 

@@ -9,19 +9,19 @@ use Rattle.stm_model.specs.declared.config.Config.{Config}
 use Rattle.stm_model.specs.declared.config.TheConstants.{CLOCK_LIMIT}
 use Rattle.rule_base.specs.declared.views.Phase.TheVariants.{In}
 use Rattle.rule_base.specs.declared.views.View.{View}
-use Rattle.rule_base.specs.EncodingLemmas.{is_owned-free, version_of-free, is_owned-owned, owner_of-owned}
+use Rattle.rule_base.specs.Lemmas.EncodingLemmas.{is_owned-free, version_of-free, is_owned-owned, owner_of-owned}
 use Rattle.rule_base.specs.Encodings.{free_record, owned_record, is_owned, version_of, owner_of}
 use Rattle.rule_base.specs.History.{over, touches, word_at, word_now, Explains, Below, upto, Follows, Legal}
 use Rattle.rule_base.specs.HistoryRule.{HistoryRule, history_projection}
-use Rattle.rule_base.specs.HistoryLemmas.{word_at-all, word_now-upto, below-upto, legal-upto, legal-good, legal-small}
-use Rattle.rule_base.specs.HistoryRuleLemmas.{advances-same, advances-entry, history-kept, history-seen, history-upto, history-raised, history-entry}
-use Rattle.rule_base.specs.PutLemmas.{put-all, parts-put, parts-kept}
+use Rattle.rule_base.specs.Lemmas.HistoryLemmas.{word_at-all, word_now-upto, below-upto, legal-upto, legal-good, legal-small}
+use Rattle.rule_base.specs.Lemmas.HistoryRuleLemmas.{advances-same, advances-entry, history-kept, history-seen, history-upto, history-raised, history-entry}
+use Rattle.rule_base.specs.Lemmas.PutLemmas.{put-all, parts-put, parts-kept}
 use Rattle.rule_base.specs.Ranks.{Rec, rec_of}
 use Rattle.rule_base.specs.Ranks.Rec.{Free, Taken}
 use Rattle.rule_base.specs.RecordRule.{record_projection, RecordRule}
 use Rattle.rule_base.specs.RunProjection.{run_projection}
 use Rattle.rule_base.specs.StepKinds.{StepKind, Advances, view_after, world_after, answer, Nothing, StepOutcome, StepLaw}
-use Rattle.rule_base.specs.StepsLemmas.{steps-kept, steps-raised}
+use Rattle.rule_base.specs.Lemmas.StepsLemmas.{steps-kept, steps-raised}
 use Rattle.rule_base.specs.StepsRule.{StepsRule, steps_projection}
 use Rattle.rule_base.specs.World.{World, put, parts}
 use Rattle.rule_seq.specs.AttemptRule.{attempt_projection, AttemptRule}

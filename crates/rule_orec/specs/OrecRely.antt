@@ -5,8 +5,8 @@ use Rattle.rule_base.specs.declared.views.Ownership.{Ownership}
 use Rattle.rule_base.specs.declared.views.Sample.{Sample}
 use Rattle.rule_base.specs.declared.views.Validation.{Validation}
 use Rattle.rule_base.specs.History.{over, touches, word_at, word_now, last_write, Below}
-use Rattle.rule_base.specs.HistoryLemmas.{over-miss, last_write-most}
-use Rattle.rule_base.specs.PutLemmas.{put-all}
+use Rattle.rule_base.specs.Lemmas.HistoryLemmas.{over-miss, last_write-most}
+use Rattle.rule_base.specs.Lemmas.PutLemmas.{put-all}
 use Rattle.rule_base.specs.Ranks.{Rec, rank_in}
 use Rattle.rule_base.specs.Ranks.Rec.{Free, Taken}
 use Rattle.rule_base.specs.World.{put}

@@ -2,7 +2,7 @@
 use Rattle.std.proofs.Common.{ℕ, sym, subst}
 use Rattle.stm_model.specs.declared.alg.Alg.{Alg}
 use Rattle.stm_model.specs.declared.config.Config.{Config}
-use Rattle.rule_base.specs.RunLemmas.{keeps-along}
+use Rattle.rule_base.specs.Lemmas.RunLemmas.{keeps-along}
 use Rattle.rule_base.specs.StepKinds.{world_after}
 use Rattle.rule_base.specs.World.{World}
 use Rattle.rule_promoted.specs.PromotedLaws as direct

@@ -6,7 +6,7 @@ use Rattle.stm_model.specs.declared.config.Config.{Config}
 use Rattle.rule_base.specs.declared.views.View.{View}
 use Rattle.stm_model.specs.Algorithms.{has_records}
 use Rattle.rule_base.specs.History.{over, word_at, word_now, last_write}
-use Rattle.rule_base.specs.HistoryLemmas.{over-miss, word_at-all}
+use Rattle.rule_base.specs.Lemmas.HistoryLemmas.{over-miss, word_at-all}
 use Rattle.rule_base.specs.Ranks.{Rec, rec_of, rank_one, home_of}
 use Rattle.rule_base.specs.Ranks.Rec.{Free, Taken}
 use Rattle.rule_base.specs.RunProjection.{run_projection}

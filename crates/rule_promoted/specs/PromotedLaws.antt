@@ -14,12 +14,12 @@ use Rattle.rule_base.specs.RunProjection.{run_view, run_projection}
 use Rattle.rule_base.specs.Encodings.{free_record, is_owned}
 use Rattle.rule_base.specs.StepKinds.{view_after, world_after, Nothing, StepLaw}
 use Rattle.rule_base.specs.World.{World, put, parts}
-use Rattle.rule_base.specs.HistoryLemmas.{touches-without, over-without, word_at-all, inside-more, small-more, below-more, upto-all, legal-good, legal-small}
-use Rattle.rule_base.specs.HistoryRuleLemmas.{advances-same, advances-entry, history-kept, history-entry}
-use Rattle.rule_base.specs.PutLemmas.{put-all, put-here, parts-put}
-use Rattle.rule_base.specs.RecordLemmas.{records-stay, records-given}
+use Rattle.rule_base.specs.Lemmas.HistoryLemmas.{touches-without, over-without, word_at-all, inside-more, small-more, below-more, upto-all, legal-good, legal-small}
+use Rattle.rule_base.specs.Lemmas.HistoryRuleLemmas.{advances-same, advances-entry, history-kept, history-entry}
+use Rattle.rule_base.specs.Lemmas.PutLemmas.{put-all, put-here, parts-put}
+use Rattle.rule_base.specs.Lemmas.RecordLemmas.{records-stay, records-given}
 use Rattle.rule_base.specs.Ranks.{rec_of, rank_one, home_of}
-use Rattle.rule_base.specs.StepsLemmas.{steps-kept, steps-raised}
+use Rattle.rule_base.specs.Lemmas.StepsLemmas.{steps-kept, steps-raised}
 use Rattle.rule_seq.specs.AttemptLemmas.{attempts-stay, attempts-in}
 use Rattle.rule_seq.specs.LockRule.{LockRule}
 use Rattle.rule_seq.specs.LockLemmas.{lock_projection-kept}

@@ -10,14 +10,14 @@ use Rattle.rule_base.specs.declared.views.Ownership.{Ownership}
 use Rattle.rule_base.specs.declared.views.View.{View}
 use Rattle.rule_base.specs.Encodings.{free_record}
 use Rattle.rule_base.specs.History.{over, touches, without, upto, word_now, last_write}
-use Rattle.rule_base.specs.HistoryLemmas.{upto-all, touches-without, over-without}
+use Rattle.rule_base.specs.Lemmas.HistoryLemmas.{upto-all, touches-without, over-without}
 use Rattle.rule_base.specs.HistoryRule.{history_projection}
-use Rattle.rule_base.specs.HistoryRuleLemmas.{advances-same, history-kept, history-seen, history-raised}
+use Rattle.rule_base.specs.Lemmas.HistoryRuleLemmas.{advances-same, history-kept, history-seen, history-raised}
 use Rattle.rule_base.specs.Ranks.{Rec, rec_of, rank_one, home_of}
 use Rattle.rule_base.specs.Ranks.Rec.{Free, Taken}
-use Rattle.rule_base.specs.RecordLemmas.{records-stay, records-given}
+use Rattle.rule_base.specs.Lemmas.RecordLemmas.{records-stay, records-given}
 use Rattle.rule_base.specs.StepKinds.{view_after, world_after, Nothing, StepLaw}
-use Rattle.rule_base.specs.StepsLemmas.{steps-kept, steps-raised}
+use Rattle.rule_base.specs.Lemmas.StepsLemmas.{steps-kept, steps-raised}
 use Rattle.rule_base.specs.StepsRule.{steps_projection, StepsRule}
 use Rattle.rule_base.specs.World.{World}
 use Rattle.rule_seq.specs.AttemptLemmas.{attempts-stay, attempts-in}

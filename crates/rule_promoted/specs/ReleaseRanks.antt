@@ -4,8 +4,8 @@ use Rattle.rule_base.specs.declared.views.Ownership.{Ownership}
 use Rattle.rule_base.specs.declared.views.View.{View}
 use Rattle.rule_base.specs.Encodings.{free_record, version_of}
 use Rattle.rule_base.specs.History.{over, touches}
-use Rattle.rule_base.specs.HistoryLemmas.{over-without}
-use Rattle.rule_base.specs.PutLemmas.{put-all, parts-put}
+use Rattle.rule_base.specs.Lemmas.HistoryLemmas.{over-without}
+use Rattle.rule_base.specs.Lemmas.PutLemmas.{put-all, parts-put}
 use Rattle.rule_base.specs.Ranks.{Rec, rec_of, rank_in, rank_one}
 use Rattle.rule_base.specs.Ranks.Rec.{Free, Taken}
 use Rattle.rule_base.specs.RecordRule.{record_projection, RecordRule}

@@ -1,7 +1,7 @@
 -- Every list of RingSW's steps keeps the rule.
 use Rattle.std.proofs.Common.{ℕ, sym, subst}
 use Rattle.stm_model.specs.declared.config.Config.{Config}
-use Rattle.rule_base.specs.RunLemmas.{keeps-along}
+use Rattle.rule_base.specs.Lemmas.RunLemmas.{keeps-along}
 use Rattle.rule_base.specs.StepKinds.{world_after}
 use Rattle.rule_base.specs.World.{World}
 use Rattle.rule_ring.specs.Filters.{Filters}

@@ -8,12 +8,12 @@ use Rattle.stm_model.specs.declared.config.Config.{Config}
 use Rattle.rule_base.specs.declared.layout.TheConstants.{SLOT_WORDS}
 use Rattle.rule_base.specs.declared.views.View.{View}
 use Rattle.rule_base.specs.History.{over, touches, without, word_now, Explains, Below, upto, Follows}
-use Rattle.rule_base.specs.HistoryLemmas.{over-miss, over-hit, touches-without, over-without, word_at-all, upto-all, below-more, legal-good, legal-small}
-use Rattle.rule_base.specs.HistoryRuleLemmas.{advances-same, advances-entry, history-kept, history-entry}
-use Rattle.rule_base.specs.PutLemmas.{put-all, put-here, put-else}
-use Rattle.rule_base.specs.RecordLemmas.{records-stay}
+use Rattle.rule_base.specs.Lemmas.HistoryLemmas.{over-miss, over-hit, touches-without, over-without, word_at-all, upto-all, below-more, legal-good, legal-small}
+use Rattle.rule_base.specs.Lemmas.HistoryRuleLemmas.{advances-same, advances-entry, history-kept, history-entry}
+use Rattle.rule_base.specs.Lemmas.PutLemmas.{put-all, put-here, put-else}
+use Rattle.rule_base.specs.Lemmas.RecordLemmas.{records-stay}
 use Rattle.rule_base.specs.StepKinds.{view_after, world_after, Nothing, StepLaw}
-use Rattle.rule_base.specs.StepsLemmas.{steps-kept, steps-raised}
+use Rattle.rule_base.specs.Lemmas.StepsLemmas.{steps-kept, steps-raised}
 use Rattle.rule_base.specs.World.{World, put}
 use Rattle.rule_ring.specs.Filters.{Filters}
 use Rattle.rule_ring.specs.Slots.{slot_place, slot_place-apart, slots-apart, writes_of, has_entry, entry-before, word_at-later}

@@ -6,7 +6,7 @@ use Rattle.rule_base.specs.declared.entries.Entry.{Entry}
 use Rattle.rule_base.specs.declared.layout.TheConstants.{SLOT_WORDS}
 use Rattle.rule_base.specs.declared.views.View.{View}
 use Rattle.rule_base.specs.History.{over, word_now, Below}
-use Rattle.rule_base.specs.PutLemmas.{put-all, put-here, put-else, parts-put, parts-kept}
+use Rattle.rule_base.specs.Lemmas.PutLemmas.{put-all, put-here, put-else, parts-put, parts-kept}
 use Rattle.rule_base.specs.World.{World, put, parts}
 use Rattle.rule_ring.specs.Filters.{Filters}
 use Rattle.rule_ring.specs.RingRule.{RingPart, ring_view, RingProjection, ring_projection, late, RingReader, RingTurn, RingRule}

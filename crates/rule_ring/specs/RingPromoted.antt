@@ -3,7 +3,7 @@
 -- entry that wrote what was read. Without `fresh` another could begin before what it has seen.
 use Rattle.std.proofs.Common.{◌≡◌, ◌≢◌, ℕ, ◌+◌, ◌<◌, ◌≤◌, true, false, refl, sym, ◌∙◌}
 use Rattle.rule_base.specs.declared.layout.TheConstants.{SLOT_WORDS}
-use Rattle.rule_base.specs.PutLemmas.{put-all}
+use Rattle.rule_base.specs.Lemmas.PutLemmas.{put-all}
 use Rattle.rule_base.specs.RunProjection.{RunView, RunProjection}
 use Rattle.rule_base.specs.World.{put}
 use Rattle.rule_ring.specs.SlotFilter.{slot_filter}

@@ -6,11 +6,11 @@ use Rattle.std.proofs.lemmas.Bool.Decides.{nat_tests}
 use Rattle.stm_model.specs.declared.config.Config.{Config}
 use Rattle.rule_base.specs.declared.views.View.{View}
 use Rattle.rule_base.specs.History.{over, touches, word_at, Inside, Explains}
-use Rattle.rule_base.specs.HistoryLemmas.{over-miss, word_at-all, word_now-upto, below-upto, legal-upto, inside-more}
-use Rattle.rule_base.specs.HistoryRuleLemmas.{advances-same, history-kept, history-upto}
-use Rattle.rule_base.specs.RecordLemmas.{records-stay}
+use Rattle.rule_base.specs.Lemmas.HistoryLemmas.{over-miss, word_at-all, word_now-upto, below-upto, legal-upto, inside-more}
+use Rattle.rule_base.specs.Lemmas.HistoryRuleLemmas.{advances-same, history-kept, history-upto}
+use Rattle.rule_base.specs.Lemmas.RecordLemmas.{records-stay}
 use Rattle.rule_base.specs.StepKinds.{view_after, world_after, Nothing, StepLaw}
-use Rattle.rule_base.specs.StepsLemmas.{steps-kept}
+use Rattle.rule_base.specs.Lemmas.StepsLemmas.{steps-kept}
 use Rattle.rule_base.specs.World.{World, put}
 use Rattle.rule_ring.specs.Filters.{Filters}
 use Rattle.rule_ring.specs.Slots.{slot_place, writes_of, has_entry, untouched, clear}

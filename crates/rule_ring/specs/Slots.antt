@@ -7,7 +7,7 @@ use Rattle.rule_base.specs.declared.entries.Entry.{Entry}
 use Rattle.rule_base.specs.declared.layout.TheConstants.{SLOT_WORDS}
 use Rattle.rule_base.specs.declared.views.SlotWord.{SlotWord}
 use Rattle.rule_base.specs.History.{touches, word_at, Below}
-use Rattle.rule_base.specs.HistoryLemmas.{over-miss}
+use Rattle.rule_base.specs.Lemmas.HistoryLemmas.{over-miss}
 use Rattle.rule_ring.specs.Filters.{Filters}
 
 -- word i of the slot of time e, in a ring of so many slots

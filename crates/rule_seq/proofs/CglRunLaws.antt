@@ -2,9 +2,9 @@
 use Rattle.std.proofs.Common.{ℕ, List, replicate, true, false, ◌≡◌, refl, sym, subst, ap, ◌∙◌, arith}
 use Rattle.stm_model.specs.declared.config.Config.{Config}
 use Rattle.rule_base.specs.Bridge.{of_words}
-use Rattle.rule_base.specs.BridgeLemmas.{words_of-zeros}
+use Rattle.rule_base.specs.Lemmas.BridgeLemmas.{words_of-zeros}
 use Rattle.stm_model.specs.Configs.{IsConfig}
-use Rattle.rule_base.specs.RunLemmas.{keeps-along}
+use Rattle.rule_base.specs.Lemmas.RunLemmas.{keeps-along}
 use Rattle.rule_base.specs.StepKinds.{world_after}
 use Rattle.rule_base.specs.World.{World}
 use Rattle.rule_seq.specs.CglRule.{CglWorld}

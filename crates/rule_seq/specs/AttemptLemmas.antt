@@ -4,7 +4,7 @@ use Rattle.rule_base.specs.declared.views.Phase.TheVariants.{In}
 use Rattle.rule_base.specs.declared.views.View.{View}
 use Rattle.rule_base.specs.GateRule.{may_hold}
 use Rattle.rule_base.specs.World.{World, put, parts}
-use Rattle.rule_base.specs.PutLemmas.{put-all}
+use Rattle.rule_base.specs.Lemmas.PutLemmas.{put-all}
 use Rattle.rule_seq.specs.AttemptRule.{is_busy, attempt_projection, AttemptRule}
 
 -- each flag makes its caller busy

@@ -14,11 +14,11 @@ use Rattle.rule_base.specs.History.{over, touches, word_now, Inside, Explains, B
 use Rattle.rule_base.specs.HistoryRule.{HistoryRule, history_projection}
 use Rattle.rule_base.specs.StepKinds.{view_after, world_after, Nothing, StepLaw}
 use Rattle.rule_base.specs.World.{World, put, parts}
-use Rattle.rule_base.specs.HistoryLemmas.{over-miss, touches-without, over-without, inside-more, small-more, upto-all, legal-good, legal-small}
-use Rattle.rule_base.specs.HistoryRuleLemmas.{advances-same, advances-entry, history-kept, history-seen, history-entry}
-use Rattle.rule_base.specs.PutLemmas.{put-all, parts-put, parts-kept}
-use Rattle.rule_base.specs.RecordLemmas.{records-stay}
-use Rattle.rule_base.specs.StepsLemmas.{steps-kept, steps-raised}
+use Rattle.rule_base.specs.Lemmas.HistoryLemmas.{over-miss, touches-without, over-without, inside-more, small-more, upto-all, legal-good, legal-small}
+use Rattle.rule_base.specs.Lemmas.HistoryRuleLemmas.{advances-same, advances-entry, history-kept, history-seen, history-entry}
+use Rattle.rule_base.specs.Lemmas.PutLemmas.{put-all, parts-put, parts-kept}
+use Rattle.rule_base.specs.Lemmas.RecordLemmas.{records-stay}
+use Rattle.rule_base.specs.Lemmas.StepsLemmas.{steps-kept, steps-raised}
 use Rattle.rule_seq.specs.AttemptLemmas.{attempts-in}
 use Rattle.rule_seq.specs.LockRule.{lock_projection, LockRule}
 use Rattle.rule_seq.specs.CglRule.{CglView, cgl_view, CglProjection, cgl_projection, CglHolder, CglRule, CglWorld}

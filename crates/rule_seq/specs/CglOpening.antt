@@ -1,7 +1,7 @@
 -- The rule holds at the opening.
 use Rattle.std.proofs.Common.{ℕ, ◌≤◌, refl, arith}
 use Rattle.stm_model.specs.declared.config.Config.{Config}
-use Rattle.rule_base.specs.OpeningLemmas.{opening-history, opening-steps}
+use Rattle.rule_base.specs.Lemmas.OpeningLemmas.{opening-history, opening-steps}
 use Rattle.stm_model.specs.Configs.{IsConfig}
 use Rattle.rule_seq.specs.CglRuns.{CglOpens}
 

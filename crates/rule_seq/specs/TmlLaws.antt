@@ -11,12 +11,12 @@ use Rattle.rule_base.specs.HistoryRule.{HistoryRule, history_projection}
 use Rattle.rule_base.specs.StepKinds.{view_after, world_after, Nothing, StepLaw}
 use Rattle.rule_base.specs.StepsRule.{StepsRule, steps_projection}
 use Rattle.rule_base.specs.World.{World, put, parts}
-use Rattle.rule_base.specs.HistoryLemmas.{word_at-all, upto-all, word_now-upto, below-upto, legal-upto, inside-more, small-more, legal-good, legal-small}
-use Rattle.rule_base.specs.HistoryRuleLemmas.{advances-same, advances-entry, history-kept, history-seen, history-raised, history-entry}
-use Rattle.rule_base.specs.PutLemmas.{put-all, parts-put, parts-kept}
-use Rattle.rule_base.specs.RecordLemmas.{records-stay}
+use Rattle.rule_base.specs.Lemmas.HistoryLemmas.{word_at-all, upto-all, word_now-upto, below-upto, legal-upto, inside-more, small-more, legal-good, legal-small}
+use Rattle.rule_base.specs.Lemmas.HistoryRuleLemmas.{advances-same, advances-entry, history-kept, history-seen, history-raised, history-entry}
+use Rattle.rule_base.specs.Lemmas.PutLemmas.{put-all, parts-put, parts-kept}
+use Rattle.rule_base.specs.Lemmas.RecordLemmas.{records-stay}
 use Rattle.rule_base.specs.RecordRule.{record_projection, RecordRule}
-use Rattle.rule_base.specs.StepsLemmas.{steps-kept, steps-raised}
+use Rattle.rule_base.specs.Lemmas.StepsLemmas.{steps-kept, steps-raised}
 use Rattle.rule_seq.specs.AttemptRule.{attempt_projection, AttemptRule}
 use Rattle.rule_seq.specs.AttemptLemmas.{attempts-in}
 use Rattle.rule_seq.specs.LockRule.{lock_projection, LockRule}

@@ -8,10 +8,10 @@ use Rattle.rule_base.specs.declared.entries.Entry.{Entry}
 use Rattle.rule_base.specs.declared.views.Phase.TheVariants.{Idle, In}
 use Rattle.rule_base.specs.Encodings.{owner_of, version_of, fenced}
 use Rattle.rule_base.specs.History.{over, touches, word_at, upto, Below, Legal}
-use Rattle.rule_base.specs.HistoryLemmas.{below-upto, legal-upto, upto-all, word_now-upto}
+use Rattle.rule_base.specs.Lemmas.HistoryLemmas.{below-upto, legal-upto, upto-all, word_now-upto}
 use Rattle.rule_base.specs.Ranks.{rec_of, home_of}
 use Rattle.rule_base.specs.Regime.{Regime}
-use Rattle.rule_base.specs.RegimeLemmas.{regime-granted}
+use Rattle.rule_base.specs.Lemmas.RegimeLemmas.{regime-granted}
 use Rattle.rule_base.specs.RunProjection.{run_projection}
 use Rattle.rule_base.specs.StepKinds.{StepLaw}
 use Rattle.rule_base.specs.World.{World}
@@ -20,15 +20,15 @@ use Rattle.rule_orec.specs.OrecReading.{sample-old, validated, validated-all}
 use Rattle.rule_orec.specs.OrecRely.{Full}
 use Rattle.rule_orec.specs.OrecRule.{orec_projection, orec_view, Own}
 use Rattle.rule_orec.specs.OrecSteps.{HasOrec, passes, orec_entry, orec_begin, CanOrecBegin, orec_sample, CanOrecSample, orec_confirm, CanOrecConfirm, orec_clock, CanOrecClock, orec_clock_all, orec_pass, CanOrecPass, orec_last, CanOrecLast, orec_look, orec_limit, orec_lock, CanOrecLock, orec_commit, CanOrecCommit, orec_raise_clock, CanOrecRaiseClock, orec_grant, CanOrecGrant, orec_grant_all, CanOrecGrantAll}
-use Rattle.stm_rule.specs.BesideLaws.{sole-of, not_quiescent}
-use Rattle.stm_rule.specs.Frames.{as-left, is-caller, orec-world}
+use Rattle.stm_rule.specs.Kinds.BesideLaws.{sole-of, not_quiescent}
+use Rattle.stm_rule.specs.Kinds.Frames.{as-left, is-caller, orec-world}
 use Rattle.rule_promoted.specs.PromotedRule.{DirectRuns}
 use Rattle.rule_promoted.specs.RaisingSteps.{direct_raise_clock, CanDirectRaiseClock}
 use Rattle.stm_rule.specs.Product.{Runs, Invariant}
 use Rattle.rule_base.specs.Fence.{without_fence}
-use Rattle.stm_rule.specs.Lifted.{orec_grants, orec_grants_all, orec_begins, orec_samples, orec_confirms, orec_clocks, orec_clocks_all, orec_passes, orec_lasts, orec_looks, orec_limits, orec_locks, orec_commits, orec_raises_clock, direct_raises_clock}
-use Rattle.stm_rule.specs.Lifting.{AreSpared}
-use Rattle.stm_rule.specs.RecordLaws.{fails}
+use Rattle.stm_rule.specs.Kinds.Lifted.{orec_grants, orec_grants_all, orec_begins, orec_samples, orec_confirms, orec_clocks, orec_clocks_all, orec_passes, orec_lasts, orec_looks, orec_limits, orec_locks, orec_commits, orec_raises_clock, direct_raises_clock}
+use Rattle.stm_rule.specs.Kinds.Lifting.{AreSpared}
+use Rattle.stm_rule.specs.Kinds.RecordLaws.{fails}
 use Rattle.steps_orec.specs.RecordFindings.{FindsRecord, FindsClock, FindsStill, Moves, FindsStart, FindsAgain, FindsRead, FindsLast, FindsGrant, FindsAll, FindsCommit}
 
 upto-upto : (h : List Entry) (f g : ℕ) → g ≤ f → upto (upto h f) g ≡ upto h g

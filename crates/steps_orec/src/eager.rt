@@ -6,7 +6,7 @@ ghost use Rattle.rule_orec.specs.OrecSteps.{orec_own_load, CanOrecOwnLoad, OrecO
 ghost use Rattle.std.specs.Prelude.{◌<◌, ◌≤◌, ℕ, ◌≡◌, []};
 ghost use Rattle.steps_orec.specs.RecordFindings.{FindsClock, FindsCommit};
 ghost use Rattle.stm_rule.specs.Callers.{IsSeatOf};
-ghost use Rattle.stm_rule.specs.Lifting.{IsSpared};
+ghost use Rattle.stm_rule.specs.Kinds.Lifting.{IsSpared};
 ghost use Rattle.stm_rule.specs.Kept.{good_of, SeatTells, IsSameSeat, view_of};
 
 use rule_base::layout::At;

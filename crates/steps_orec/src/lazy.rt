@@ -6,7 +6,7 @@ ghost use Rattle.rule_orec.specs.OrecSteps.{HasOrec, orec_look, orec_limit, orec
 ghost use Rattle.std.specs.Prelude.{◌<◌, ◌≤◌, ℕ, ◌≡◌};
 ghost use Rattle.steps_orec.specs.RecordFindings.{FindsRecord, FindsClock, FindsCommit};
 ghost use Rattle.stm_rule.specs.Callers.{IsSeatOf};
-ghost use Rattle.stm_rule.specs.Lifting.{AreSpared};
+ghost use Rattle.stm_rule.specs.Kinds.Lifting.{AreSpared};
 ghost use Rattle.stm_rule.specs.Kept.{good_of, SeatTells, IsSameSeat, view_of};
 ghost use Rattle.stm_rule.specs.RecordsKept.{cells_of};
 

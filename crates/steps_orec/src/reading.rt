@@ -6,7 +6,7 @@ ghost use Rattle.std.specs.Prelude.{◌<◌, ℕ, ◌≡◌, []};
 ghost use Rattle.steps_orec.specs.Validating.{to_validate};
 ghost use Rattle.steps_orec.specs.RecordFindings.{FindsRecord, FindsStart, FindsAgain, FindsClock, FindsAll, FindsRead, FindsLast};
 ghost use Rattle.stm_rule.specs.Callers.{IsSeatOf};
-ghost use Rattle.stm_rule.specs.Lifting.{IsSpared};
+ghost use Rattle.stm_rule.specs.Kinds.Lifting.{IsSpared};
 ghost use Rattle.stm_rule.specs.Kept.{good_of, SeatTells, IsSameSeat, view_of};
 
 use rule_base::layout::At;

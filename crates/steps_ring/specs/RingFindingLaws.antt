@@ -7,12 +7,12 @@ use Rattle.rule_base.specs.declared.views.Phase.TheVariants.{Idle, In}
 use Rattle.rule_base.specs.declared.views.View.{View}
 use Rattle.rule_base.specs.GateRule.{may_hold}
 use Rattle.rule_base.specs.History.{over, touches, upto, word_at, word_now, Explains}
-use Rattle.rule_base.specs.HistoryLemmas.{over-miss, word_now-upto}
+use Rattle.rule_base.specs.Lemmas.HistoryLemmas.{over-miss, word_now-upto}
 use Rattle.rule_base.specs.InstallLaws.{nobody-quiescent}
 use Rattle.rule_base.specs.InstallSteps.{HasChecked}
 use Rattle.rule_base.specs.Regime.{Regime}
 use Rattle.rule_base.specs.Regime.Regime.{Running}
-use Rattle.rule_base.specs.RegimeLemmas.{regime-inside}
+use Rattle.rule_base.specs.Lemmas.RegimeLemmas.{regime-inside}
 use Rattle.rule_base.specs.RunProjection.{run_projection}
 use Rattle.rule_base.specs.StepKinds.{StepLaw}
 use Rattle.rule_base.specs.World.{World}
@@ -22,12 +22,12 @@ use Rattle.rule_ring.specs.RingSteps.{RunsRing, HasRing, ring_begin, CanRingBegi
 use Rattle.rule_ring.specs.SlotFilter.{slot_filter}
 use Rattle.rule_ring.specs.Slots.{writes_of, untouched, clear}
 use Rattle.rule_seq.specs.AttemptLemmas.{busy-turn}
-use Rattle.stm_rule.specs.BesideLaws.{sole-of, not_quiescent}
-use Rattle.stm_rule.specs.Frames.{is-caller, only-caller}
+use Rattle.stm_rule.specs.Kinds.BesideLaws.{sole-of, not_quiescent}
+use Rattle.stm_rule.specs.Kinds.Frames.{is-caller, only-caller}
 use Rattle.stm_rule.specs.Product.{Runs, Core, Invariant}
-use Rattle.stm_rule.specs.RestLaws.{nobody-commits, nobody-enters}
+use Rattle.stm_rule.specs.Kinds.RestLaws.{nobody-commits, nobody-enters}
 use Rattle.rule_base.specs.Fence.{without_fence}
-use Rattle.stm_rule.specs.Lifted.{ring_begins, ring_looks, ring_agains, ring_moves, ring_ticks, look_grants, move_grants}
+use Rattle.stm_rule.specs.Kinds.Lifted.{ring_begins, ring_looks, ring_agains, ring_moves, ring_ticks, look_grants, move_grants}
 use Rattle.steps_ring.specs.RingFindings.{FindsStart, FindsLook, FindsAgain, FindsMove, FindsLevel, FindsTick}
 
 module _ (good : (ℕ → ℕ) → Type 0) (c : Config) (n : ℕ) where

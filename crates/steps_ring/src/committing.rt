@@ -8,7 +8,7 @@ ghost use Rattle.steps_ring.specs.RingFindings.{FindsTick};
 ghost use Rattle.stm_rule.specs.Findings.{FindsLock};
 ghost use Rattle.stm_rule.specs.RecordsKept.{cells_of};
 ghost use Rattle.stm_rule.specs.Callers.{IsSeatOf};
-ghost use Rattle.stm_rule.specs.Lifting.{AreSpared};
+ghost use Rattle.stm_rule.specs.Kinds.Lifting.{AreSpared};
 ghost use Rattle.stm_rule.specs.Kept.{good_of, SeatTells, IsSameSeat, view_of};
 
 use rule_base::layout::At;

@@ -17,12 +17,12 @@ use Rattle.rule_base.specs.declared.layout.At.TheVariants.{Clock, Gate, Base, Do
 use Rattle.rule_base.specs.declared.views.Act.TheVariants.{Load, Store}
 use Rattle.rule_base.specs.declared.views.View.{View}
 use Rattle.rule_base.specs.Bridge.{words_of, items, of_words, public_entry, public_history}
-use Rattle.rule_base.specs.BridgeLemmas.{length-words_of, words_of-at, words_of-words, words_of-zeros, words_of-over, item-none, legal-public, length-public_history}
-use Rattle.rule_base.specs.EncodingLemmas.{fence_from-number, fence_count-number}
+use Rattle.rule_base.specs.Lemmas.BridgeLemmas.{length-words_of, words_of-at, words_of-words, words_of-zeros, words_of-over, item-none, legal-public, length-public_history}
+use Rattle.rule_base.specs.Lemmas.EncodingLemmas.{fence_from-number, fence_count-number}
 use Rattle.rule_base.specs.Encodings.{gate_word, fence_number, fenced}
 use Rattle.rule_base.specs.FenceSteps.{fence, fence_load, FenceLoads, fence_store, fence_entry, fence_commit, FenceCommits, CanFenceCommit, KeepsFenced, unfence, CanUnfence}
 use Rattle.rule_base.specs.History.{over, touches, word_now, upto, Below}
-use Rattle.rule_base.specs.HistoryLemmas.{over-miss, over-hit}
+use Rattle.rule_base.specs.Lemmas.HistoryLemmas.{over-miss, over-hit}
 use Rattle.rule_base.specs.InstallSteps.{HasChecked, settle, store_base, store_done}
 use Rattle.rule_base.specs.Own.{Own}
 use Rattle.rule_base.specs.StepKinds.{Nothing, Tells, view_after}

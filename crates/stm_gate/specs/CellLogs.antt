@@ -6,9 +6,9 @@ use Rattle.stm_model.specs.Memories.{item_at, put, is_empty, Once}
 use Rattle.rule_base.specs.declared.entries.Cell.{Cell}
 use Rattle.rule_base.specs.Encodings.{fenced}
 use Rattle.rule_base.specs.Bridge.{items}
-use Rattle.rule_base.specs.BridgeLemmas.{item-some, items-once}
+use Rattle.rule_base.specs.Lemmas.BridgeLemmas.{item-some, items-once}
 use Rattle.rule_base.specs.History.{over, touches, Inside, Small}
-use Rattle.rule_base.specs.HistoryLemmas.{over-miss, over-hit, inside-more, small-more}
+use Rattle.rule_base.specs.Lemmas.HistoryLemmas.{over-miss, over-hit, inside-more, small-more}
 use Rattle.stm_gate.specs.Logging.{item-touched}
 use Rattle.stm_rule.specs.RecordsKept.{Apart, cells_of}
 use Rattle.stm_gate.specs.Cells.{items-cells}

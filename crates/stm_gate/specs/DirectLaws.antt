@@ -10,7 +10,7 @@ use Rattle.stm_model.specs.Logs.{Reads, Keeps}
 use Rattle.stm_model.specs.Memories.{is_empty, item_at, put}
 use Rattle.rule_base.specs.declared.views.View.{View}
 use Rattle.rule_base.specs.Bridge.{items, of_words}
-use Rattle.rule_base.specs.BridgeLemmas.{keeps-cells}
+use Rattle.rule_base.specs.Lemmas.BridgeLemmas.{keeps-cells}
 use Rattle.rule_base.specs.History.{word_now}
 use Rattle.rule_base.specs.Own.{Own}
 use Rattle.rule_base.specs.StepKinds.{Nothing, Tells, view_after}

@@ -9,7 +9,7 @@ use Rattle.stm_model.specs.Memories.{item_at, put, Once}
 use Rattle.rule_base.specs.declared.entries.Cell.{Cell}
 use Rattle.rule_base.specs.declared.views.View.{View}
 use Rattle.rule_base.specs.Bridge.{addresses, items}
-use Rattle.rule_base.specs.BridgeLemmas.{items-once}
+use Rattle.rule_base.specs.Lemmas.BridgeLemmas.{items-once}
 use Rattle.rule_base.specs.History.{member, touches}
 use Rattle.rule_base.specs.Own.{Own}
 use Rattle.tx_answers.specs.Answers.{kept_with}

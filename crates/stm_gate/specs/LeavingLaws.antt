@@ -18,7 +18,7 @@ use Rattle.rule_base.specs.declared.views.SeenHistory.{SeenHistory}
 use Rattle.rule_base.specs.declared.views.TracedStep.{TracedStep}
 use Rattle.rule_base.specs.declared.views.View.{View}
 use Rattle.rule_base.specs.Bridge.{items, of_words, public_entry, public_history}
-use Rattle.rule_base.specs.BridgeLemmas.{legal-public, length-public_history}
+use Rattle.rule_base.specs.Lemmas.BridgeLemmas.{legal-public, length-public_history}
 use Rattle.rule_base.specs.Own.{Own}
 use Rattle.rule_base.specs.World.{World}
 use Rattle.rule_seq.specs.CglSteps.{Commits, cgl_entry}

@@ -8,9 +8,9 @@ use Rattle.stm_model.specs.PlainLaws.{put-item}
 use Rattle.rule_base.specs.declared.entries.Cell.{Cell}
 use Rattle.rule_base.specs.declared.views.Attempt.{Attempt}
 use Rattle.rule_base.specs.Bridge.{items}
-use Rattle.rule_base.specs.BridgeLemmas.{item-none, items-some}
+use Rattle.rule_base.specs.Lemmas.BridgeLemmas.{item-none, items-some}
 use Rattle.rule_base.specs.History.{over, touches, Inside, Explains}
-use Rattle.rule_base.specs.HistoryLemmas.{over-miss, over-hit, inside-more}
+use Rattle.rule_base.specs.Lemmas.HistoryLemmas.{over-miss, over-hit, inside-more}
 use Rattle.rule_seq.specs.CglSteps.{logged}
 
 -- an address that has cells has an item with the latest value

@@ -12,9 +12,9 @@ use Rattle.rule_base.specs.declared.entries.Entry.{Entry}
 use Rattle.stm_model.specs.declared.config.Config.{Config}
 use Rattle.rule_base.specs.declared.views.View.{View}
 use Rattle.rule_base.specs.Bridge.{items, words_of, of_words, public_entry, public_history}
-use Rattle.rule_base.specs.BridgeLemmas.{memories, words_of-same, explains-items, legal-always, legal-public}
+use Rattle.rule_base.specs.Lemmas.BridgeLemmas.{memories, words_of-same, explains-items, legal-always, legal-public}
 use Rattle.rule_base.specs.History.{word_at, word_now, Inside, Below, upto, Explains, Legal}
-use Rattle.rule_base.specs.HistoryLemmas.{word_at-all, upto-all}
+use Rattle.rule_base.specs.Lemmas.HistoryLemmas.{word_at-all, upto-all}
 use Rattle.tx_answers.specs.Answers.{IsOpaque}
 use Rattle.tx_answers.specs.CallerState.{known_of, zeros}
 use Rattle.rule_base.specs.Own.{Own}

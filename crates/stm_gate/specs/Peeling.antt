@@ -5,9 +5,9 @@ use Rattle.std.proofs.lemmas.Bool.Decides.{nat_tests}
 use Rattle.stm_model.specs.Memories.{item_at, put, Once}
 use Rattle.rule_base.specs.declared.entries.Cell.{Cell}
 use Rattle.rule_base.specs.Bridge.{items}
-use Rattle.rule_base.specs.BridgeLemmas.{item-some, item-none}
+use Rattle.rule_base.specs.Lemmas.BridgeLemmas.{item-some, item-none}
 use Rattle.rule_base.specs.History.{touches, over, without, Inside}
-use Rattle.rule_base.specs.HistoryLemmas.{touches-without}
+use Rattle.rule_base.specs.Lemmas.HistoryLemmas.{touches-without}
 use Rattle.tx_answers.specs.Causes.{has_item, is_some}
 use Rattle.stm_gate.specs.Logging.{item-touched}
 

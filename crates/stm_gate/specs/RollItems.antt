@@ -7,7 +7,7 @@ use Rattle.std.proofs.lemmas.List.{append-nil, length-take, length-map, take-map
 use Rattle.stm_model.specs.Memories.{item_at, put, Once}
 use Rattle.rule_base.specs.declared.entries.Cell.{Cell}
 use Rattle.rule_base.specs.Bridge.{addresses, items}
-use Rattle.rule_base.specs.BridgeLemmas.{item-some}
+use Rattle.rule_base.specs.Lemmas.BridgeLemmas.{item-some}
 use Rattle.rule_base.specs.History.{touches, over, without}
 use Rattle.tx_answers.specs.Causes.{has_item, is_some}
 use Rattle.tx_logs.specs.LogStates.{firsts}

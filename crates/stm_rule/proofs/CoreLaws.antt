@@ -2,10 +2,10 @@
 use Rattle.std.proofs.Common.{◌≡◌, ◌≢◌, ◌<◌, ℕ, zero, suc, List, [], ◌∷◌, true, replicate, drop, refl, sym, subst, arith}
 use Rattle.stm_model.specs.declared.alg.Alg.TheVariants.{Tml, RingSw}
 use Rattle.stm_model.specs.declared.config.Config.{Config}
-use Rattle.rule_base.specs.EncodingLemmas.{fenced-none}
+use Rattle.rule_base.specs.Lemmas.EncodingLemmas.{fenced-none}
 use Rattle.rule_base.specs.Bridge.{of_words}
-use Rattle.rule_base.specs.BridgeLemmas.{words_of-zeros}
-use Rattle.rule_base.specs.HistoryLemmas.{inside-more, small-more}
+use Rattle.rule_base.specs.Lemmas.BridgeLemmas.{words_of-zeros}
+use Rattle.rule_base.specs.Lemmas.HistoryLemmas.{inside-more, small-more}
 use Rattle.stm_model.specs.Configs.{IsConfig}
 use Rattle.rule_base.specs.History.{member}
 use Rattle.rule_base.specs.StepKinds.{StepKind, StepOutcome, Advances, world_after}
@@ -13,12 +13,12 @@ use Rattle.rule_base.specs.declared.views.View.{View}
 use Rattle.rule_base.specs.World.{World}
 use Rattle.rule_seq.specs.CglRuns.CglStep.{acquires_lock, loads_start, loads_heap, stores_heap, stores_clock, frees_lock, loads_undo, loads_limit, stores_back}
 use Rattle.rule_seq.specs.TmlRuns.TmlStep.{tml_begins, tml_loads, tml_agains, tml_writes, tml_stores, tml_commits}
-use Rattle.stm_rule.specs.CoreRuns.{CoreStep, core_kind, CoreMay, CoreOpens, CoreCommits, CoreInstalls, CorePromotes, CoreRings, one_of_each, two_by_ring}
-use Rattle.stm_rule.specs.CoreRuns.CoreStep.{announces, loads_gate, departs, aims, takes_gate, checks, reopens, settles, evens_clock, stores_base, stores_done, installs, of_cgl, of_tml, looks_gate, seizes, grants, direct_loads, direct_stores, direct_commits, direct_raises_clock, direct_ups, returns, fences, fence_loads, fence_stores, fence_commits, unfences, hears, loads_end, of_ring, look_grants, move_grants, of_orec, orec_grants, orec_grants_all, direct_releases}
+use Rattle.stm_rule.specs.Runs.CoreRuns.{CoreStep, core_kind, CoreMay, CoreOpens, CoreCommits, CoreInstalls, CorePromotes, CoreRings, one_of_each, two_by_ring}
+use Rattle.stm_rule.specs.Runs.CoreRuns.CoreStep.{announces, loads_gate, departs, aims, takes_gate, checks, reopens, settles, evens_clock, stores_base, stores_done, installs, of_cgl, of_tml, looks_gate, seizes, grants, direct_loads, direct_stores, direct_commits, direct_raises_clock, direct_ups, returns, fences, fence_loads, fence_stores, fence_commits, unfences, hears, loads_end, of_ring, look_grants, move_grants, of_orec, orec_grants, orec_grants_all, direct_releases}
 use Rattle.rule_orec.specs.OrecRuns.OrecStep.{orec_begins, orec_samples, orec_loads, orec_confirms, orec_clocks, orec_clocks_all, orec_passes, orec_lasts, orec_looks, orec_limits, orec_locks, orec_commits, orec_writes_back, orec_times, orec_olds, orec_ups, orec_own_loads, orec_saves, orec_places, orec_restores, orec_raises_clock}
-use Rattle.stm_rule.specs.FencingLaws as fencing
-use Rattle.stm_rule.specs.GivingLaws as giving
-use Rattle.stm_rule.specs.Lifted as lifted
+use Rattle.stm_rule.specs.Kinds.FencingLaws as fencing
+use Rattle.stm_rule.specs.Kinds.GivingLaws as giving
+use Rattle.stm_rule.specs.Kinds.Lifted as lifted
 use Rattle.rule_ring.specs.SlotFilter.{slot_filter}
 use Rattle.rule_ring.specs.RingSteps.{ring_word, ring_again, ring_slot}
 use Rattle.rule_ring.specs.RingRuns.RingStep.{ring_begins, ring_loads, ring_looks, ring_words, ring_agains, ring_moves, ring_locks, ring_ticks, ring_slots, ring_enters, ring_writes, ring_dones, ring_frees}

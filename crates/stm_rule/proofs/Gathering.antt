@@ -20,8 +20,8 @@ use Rattle.rule_base.specs.Fence.{heap_without_fence, without_fence}
 use Rattle.rule_base.specs.FenceLaws.{heap_without_fence-none}
 use Rattle.rule_base.specs.Encodings.{alg_of, holder_of}
 use Rattle.rule_base.specs.History.{word_now}
-use Rattle.rule_base.specs.HistoryLemmas.{merged, made_by-none}
-use Rattle.rule_base.specs.ListLemmas.{contains-cons, contains-none}
+use Rattle.rule_base.specs.Lemmas.HistoryLemmas.{merged, made_by-none}
+use Rattle.rule_base.specs.Lemmas.ListLemmas.{contains-cons, contains-none}
 use Rattle.rule_base.specs.Notes.{claimed, gathers}
 use Rattle.rule_base.specs.StepsRule.{all_rises}
 use Rattle.rule_base.specs.World.{World}
@@ -29,11 +29,11 @@ use Rattle.stm_rule.specs.Callers.{Handle, BelongsTo, IsFree, IdleAt}
 use Rattle.stm_rule.specs.Closings.{shown, installs_of, installs_by, installs_from}
 use Rattle.rule_base.specs.Regime.{mode_of, Regime}
 use Rattle.rule_base.specs.Regime.Mode.{Plain}
-use Rattle.rule_base.specs.RegimeLemmas.{plain-mode, regime-running}
+use Rattle.rule_base.specs.Lemmas.RegimeLemmas.{plain-mode, regime-running}
 use Rattle.rule_base.specs.RunProjection.{run_projection}
-use Rattle.stm_rule.specs.Frames.{ungranted-out, ungiven-out, owner-holds}
+use Rattle.stm_rule.specs.Kinds.Frames.{ungranted-out, ungiven-out, owner-holds}
 use Rattle.stm_rule.specs.Product.{Runs, Core, Invariant}
-use Rattle.stm_rule.specs.Running.{at-rest}
+use Rattle.stm_rule.specs.Kinds.Running.{at-rest}
 
 module _ {K : Type 0} where
   -- a fact of each descriptor's view, by the caller's number

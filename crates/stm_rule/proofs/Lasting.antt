@@ -6,21 +6,21 @@ use Rattle.rule_base.specs.declared.views.View.{View}
 use Rattle.rule_base.specs.GateLaws.{others-rest}
 use Rattle.rule_base.specs.GateRule.{rests}
 use Rattle.rule_base.specs.History.{member}
-use Rattle.rule_base.specs.PutLemmas.{put-else}
+use Rattle.rule_base.specs.Lemmas.PutLemmas.{put-else}
 use Rattle.rule_base.specs.Rest.{IsQuiet}
 use Rattle.rule_base.specs.StepKinds.{answer, view_after, world_after}
 use Rattle.rule_base.specs.World.{World}
 use Rattle.rule_seq.specs.CglRuns.CglStep.{acquires_lock, loads_start, loads_heap, stores_heap, stores_clock, frees_lock, loads_undo, loads_limit, stores_back}
 use Rattle.rule_seq.specs.TmlRuns.TmlStep.{tml_begins, tml_loads, tml_agains, tml_writes, tml_stores, tml_commits}
 use Rattle.rule_ring.specs.RingRuns.RingStep.{ring_begins, ring_loads, ring_looks, ring_words, ring_agains, ring_moves, ring_locks, ring_ticks, ring_slots, ring_enters, ring_writes, ring_dones, ring_frees}
-use Rattle.stm_rule.specs.CoreRuns.{CoreStep, core_kind, CoreMay}
-use Rattle.stm_rule.specs.CoreRuns.CoreStep.{announces, loads_gate, departs, aims, takes_gate, checks, reopens, settles, evens_clock, stores_base, stores_done, installs, of_cgl, of_tml, of_ring, looks_gate, seizes, grants, look_grants, move_grants, direct_loads, direct_stores, direct_commits, direct_raises_clock, direct_ups, returns, fences, fence_loads, fence_stores, fence_commits, unfences, hears, loads_end, of_orec, orec_grants, orec_grants_all, direct_releases}
+use Rattle.stm_rule.specs.Runs.CoreRuns.{CoreStep, core_kind, CoreMay}
+use Rattle.stm_rule.specs.Runs.CoreRuns.CoreStep.{announces, loads_gate, departs, aims, takes_gate, checks, reopens, settles, evens_clock, stores_base, stores_done, installs, of_cgl, of_tml, of_ring, looks_gate, seizes, grants, look_grants, move_grants, direct_loads, direct_stores, direct_commits, direct_raises_clock, direct_ups, returns, fences, fence_loads, fence_stores, fence_commits, unfences, hears, loads_end, of_orec, orec_grants, orec_grants_all, direct_releases}
 use Rattle.stm_rule.specs.Product.{Invariant}
 use Rattle.stm_rule.specs.Quiescence.{RestLasts, GrantedLasts}
-use Rattle.stm_rule.specs.RestLaws.{quiet-rests, granted-rests}
+use Rattle.stm_rule.specs.Kinds.RestLaws.{quiet-rests, granted-rests}
 use Rattle.rule_orec.specs.OrecRuns.OrecStep.{orec_begins, orec_samples, orec_loads, orec_confirms, orec_clocks, orec_clocks_all, orec_passes, orec_lasts, orec_looks, orec_limits, orec_locks, orec_commits, orec_writes_back, orec_times, orec_olds, orec_ups, orec_own_loads, orec_saves, orec_places, orec_restores, orec_raises_clock}
 use Rattle.rule_base.specs.Fence.{without_fence}
-use Rattle.stm_rule.specs.FencedRest.{rest-of, at-rest-of}
+use Rattle.stm_rule.specs.Kinds.FencedRest.{rest-of, at-rest-of}
 use Rattle.stm_rule.proofs.CoreLaws.{one_step}
 
 module _ (good : (ℕ → ℕ) → Type 0) (c : Config) where

@@ -4,15 +4,15 @@ use Rattle.stm_model.specs.declared.config.Config.{Config}
 use Rattle.rule_base.specs.declared.views.SeenHistory.{SeenHistory}
 use Rattle.rule_base.specs.declared.views.View.{View}
 use Rattle.rule_base.specs.Fence.{without_fence}
-use Rattle.stm_rule.specs.Lifting.{learns-whole, loads_seat-whole}
-use Rattle.rule_base.specs.SeatLemmas.{seen-later}
+use Rattle.stm_rule.specs.Kinds.Lifting.{learns-whole, loads_seat-whole}
+use Rattle.rule_base.specs.Lemmas.SeatLemmas.{seen-later}
 use Rattle.rule_base.specs.Seating.{IsSeen}
 use Rattle.rule_base.specs.StepKinds.{Advances, world_after}
 use Rattle.rule_base.specs.World.{World}
-use Rattle.stm_rule.specs.CoreRuns.{core_kind}
-use Rattle.stm_rule.specs.Laws as laws
-use Rattle.stm_rule.specs.NoteRuns.{Shared, Deed, note_at, notes_without, after_load, after_deed, AllSeen, SharedRule, MayDo, CoreKeepsAlong}
-use Rattle.stm_rule.specs.NoteRuns.Deed.{steps, tells, learns, gathers}
+use Rattle.stm_rule.specs.Runs.CoreRuns.{core_kind}
+use Rattle.stm_rule.specs.Kinds.Laws as laws
+use Rattle.stm_rule.specs.Runs.NoteRuns.{Shared, Deed, note_at, notes_without, after_load, after_deed, AllSeen, SharedRule, MayDo, CoreKeepsAlong}
+use Rattle.stm_rule.specs.Runs.NoteRuns.Deed.{steps, tells, learns, gathers}
 use Rattle.stm_rule.proofs.CoreLaws.{one_step}
 
 all_later : (w x : World) (ks : List SeenHistory) → Advances w x → AllSeen w ks → AllSeen x ks

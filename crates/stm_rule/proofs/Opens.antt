@@ -12,19 +12,19 @@ use Rattle.stm_model.specs.declared.config.Config.{Config}
 use Rattle.stm_model.specs.declared.config.TheConstants.{MAX_WORDS, MAX_RECORDS, MIN_RING, MAX_RING, MAX_CALLERS, MAX_LOG, CLOCK_LIMIT}
 use Rattle.rule_base.specs.declared.seats.Role.TheVariants.{Dealer, Note}
 use Rattle.rule_base.specs.declared.seats.SeatView.{SeatView}
-use Rattle.rule_base.specs.EncodingLemmas.{fenced-none}
+use Rattle.rule_base.specs.Lemmas.EncodingLemmas.{fenced-none}
 use Rattle.rule_base.specs.Fence.{fence_projection, FenceRule}
 use Rattle.rule_base.specs.FenceLaws.{heap_without_fence-none}
-use Rattle.rule_base.specs.BridgeLemmas.{words_of-zeros}
+use Rattle.rule_base.specs.Lemmas.BridgeLemmas.{words_of-zeros}
 use Rattle.rule_base.specs.GateRule.{gate_projection, GateRule}
 use Rattle.rule_base.specs.InstallRule.{install_projection, InstallRule}
 use Rattle.rule_base.specs.RecordRule.{record_projection, RecordRule}
-use Rattle.rule_base.specs.ListLemmas.{contains-none}
+use Rattle.rule_base.specs.Lemmas.ListLemmas.{contains-none}
 use Rattle.rule_base.specs.Opening.{first_view, opening_world}
 use Rattle.rule_base.specs.Places.{offset, size, InRange}
 use Rattle.stm_model.specs.Configs.{IsConfig}
 use Rattle.rule_base.specs.Seating.{Claims, Seats}
-use Rattle.rule_base.specs.WordLemmas.{lies-write}
+use Rattle.rule_base.specs.Lemmas.WordLemmas.{lies-write}
 use Rattle.rule_base.specs.World.{World, Lies, fetch}
 use Rattle.rule_seq.specs.CglOpening.{cgl_world-opening}
 use Rattle.stm_rule.specs.declared.refusal.NewError.TheVariants.{Words, Records, Ring, Callers, Logs, Memory}

@@ -5,20 +5,20 @@ use Rattle.rule_base.specs.declared.views.FenceView.{FenceView}
 use Rattle.rule_base.specs.declared.views.View.{View}
 use Rattle.rule_base.specs.Encodings.{fence_of, fence_owner}
 use Rattle.rule_base.specs.Notes.{after_seat_load, learned_view}
-use Rattle.rule_base.specs.PutLemmas.{put-all}
+use Rattle.rule_base.specs.Lemmas.PutLemmas.{put-all}
 use Rattle.rule_base.specs.StepKinds.{answer, view_after}
 use Rattle.rule_base.specs.World.{World, put}
 use Rattle.rule_seq.specs.CglRuns.CglStep.{acquires_lock, loads_start, loads_heap, stores_heap, stores_clock, frees_lock, loads_undo, loads_limit, stores_back}
 use Rattle.rule_seq.specs.TmlRuns.TmlStep.{tml_begins, tml_loads, tml_agains, tml_writes, tml_stores, tml_commits}
 use Rattle.rule_ring.specs.RingRuns.RingStep.{ring_begins, ring_loads, ring_looks, ring_words, ring_agains, ring_moves, ring_locks, ring_ticks, ring_slots, ring_enters, ring_writes, ring_dones, ring_frees}
 use Rattle.rule_orec.specs.OrecRuns.OrecStep.{orec_begins, orec_samples, orec_loads, orec_confirms, orec_clocks, orec_clocks_all, orec_passes, orec_lasts, orec_looks, orec_limits, orec_locks, orec_commits, orec_writes_back, orec_times, orec_olds, orec_ups, orec_own_loads, orec_saves, orec_places, orec_restores, orec_raises_clock}
-use Rattle.stm_rule.specs.CoreRuns.{CoreStep, core_kind, CoreMay}
-use Rattle.stm_rule.specs.CoreRuns.CoreStep.{announces, loads_gate, departs, aims, takes_gate, checks, reopens, settles, evens_clock, stores_base, stores_done, installs, of_cgl, of_tml, looks_gate, seizes, grants, direct_loads, direct_stores, direct_commits, direct_raises_clock, direct_ups, returns, fences, fence_loads, fence_stores, fence_commits, unfences, hears, loads_end, of_ring, look_grants, move_grants, of_orec, orec_grants, orec_grants_all, direct_releases}
-use Rattle.stm_rule.specs.NoteRuns.{Shared, Deed, note_at, after_deed, SharedRule, MayDo}
-use Rattle.stm_rule.specs.NoteRuns.Deed.{steps, tells, learns, gathers}
+use Rattle.stm_rule.specs.Runs.CoreRuns.{CoreStep, core_kind, CoreMay}
+use Rattle.stm_rule.specs.Runs.CoreRuns.CoreStep.{announces, loads_gate, departs, aims, takes_gate, checks, reopens, settles, evens_clock, stores_base, stores_done, installs, of_cgl, of_tml, looks_gate, seizes, grants, direct_loads, direct_stores, direct_commits, direct_raises_clock, direct_ups, returns, fences, fence_loads, fence_stores, fence_commits, unfences, hears, loads_end, of_ring, look_grants, move_grants, of_orec, orec_grants, orec_grants_all, direct_releases}
+use Rattle.stm_rule.specs.Runs.NoteRuns.{Shared, Deed, note_at, after_deed, SharedRule, MayDo}
+use Rattle.stm_rule.specs.Runs.NoteRuns.Deed.{steps, tells, learns, gathers}
 use Rattle.stm_rule.specs.Privatization.{IsBeside, LeavesAlone, is_direct, gives_back, AllLeaveAlone, RangeIsPrivate}
 use Rattle.stm_rule.specs.Product.{Invariant}
-use Rattle.stm_rule.specs.Sparing.{spared}
+use Rattle.stm_rule.specs.Kinds.Sparing.{spared}
 use Rattle.stm_rule.proofs.NoteLaws.{one_deed}
 
 no : {P : Type 0} → true ≡ false → P

@@ -3,11 +3,11 @@ use Rattle.std.proofs.Common.{◌≡◌, ℕ, ◌+◌, ◌≤◌, List, [], ◌�
 use Rattle.stm_model.specs.declared.config.Config.{Config}
 use Rattle.rule_base.specs.declared.entries.Entry.{Entry}
 use Rattle.rule_base.specs.Bridge.{public_history}
-use Rattle.rule_base.specs.BridgeLemmas.{public_history-append}
+use Rattle.rule_base.specs.Lemmas.BridgeLemmas.{public_history-append}
 use Rattle.rule_base.specs.History.{upto, Below}
-use Rattle.rule_base.specs.SeenLemmas.{upto-rest}
-use Rattle.stm_rule.specs.NoteRuns.{Shared, Deed, after_deed, after_deeds, SharedRule, MayDo, AllMay}
-use Rattle.stm_rule.specs.NoteRuns.Deed.{steps, tells, learns, gathers}
+use Rattle.rule_base.specs.Lemmas.SeenLemmas.{upto-rest}
+use Rattle.stm_rule.specs.Runs.NoteRuns.{Shared, Deed, after_deed, after_deeds, SharedRule, MayDo, AllMay}
+use Rattle.stm_rule.specs.Runs.NoteRuns.Deed.{steps, tells, learns, gathers}
 use Rattle.stm_rule.specs.Callers.{BeginsHistory}
 use Rattle.stm_rule.specs.Privatization.{RangeIsHistory}
 use Rattle.stm_rule.proofs.CoreLaws.{one_step}

@@ -3,10 +3,10 @@ use Rattle.std.proofs.Common.{◌≡◌, ℕ, ◌<◌, ◌≤◌, [], ◌∷◌,
 use Rattle.std.specs.Prelude.{◌^◌}
 use Rattle.stm_model.specs.declared.alg.Alg.TheVariants.{OrecLazy}
 use Rattle.stm_model.specs.declared.config.Config.{Config}
-use Rattle.rule_base.specs.EncodingLemmas.{fenced-none}
+use Rattle.rule_base.specs.Lemmas.EncodingLemmas.{fenced-none}
 use Rattle.rule_base.specs.History.{over, touches, Inside, Small}
 use Rattle.rule_base.specs.Ranks.{home_of}
-use Rattle.stm_rule.specs.CoreRuns.{CoreRecords, small_config, record_steps}
+use Rattle.stm_rule.specs.Runs.CoreRuns.{CoreRecords, small_config, record_steps}
 use Rattle.stm_rule.proofs.Taken.{◌▸◌, may-install}
 
 low : (c : Config) (a : ℕ) → home_of (small_config c) a ≡ 0

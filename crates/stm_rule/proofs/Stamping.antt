@@ -18,26 +18,26 @@ use Rattle.rule_orec.specs.OrecRely.{stamp-grows}
 use Rattle.rule_orec.specs.OrecRule.{OrecView, orec_view, OrecProjection, orec_projection, rank, rank_of}
 use Rattle.rule_orec.specs.OrecRuns.OrecStep.{orec_begins, orec_samples, orec_loads, orec_confirms, orec_clocks, orec_clocks_all, orec_passes, orec_lasts, orec_looks, orec_limits, orec_locks, orec_commits, orec_writes_back, orec_times, orec_olds, orec_ups, orec_own_loads, orec_saves, orec_places, orec_restores, orec_raises_clock}
 use Rattle.rule_orec.specs.OrecSteps.{passes, direct_owned}
-use Rattle.stm_rule.specs.CoreRuns.{CoreStep, core_kind, CoreMay}
-use Rattle.stm_rule.specs.CoreRuns.CoreStep.{announces, loads_gate, departs, aims, takes_gate, checks, reopens, settles, evens_clock, stores_base, stores_done, installs, looks_gate, seizes, grants, orec_grants, orec_grants_all, direct_loads, direct_stores, direct_commits, direct_raises_clock, direct_ups, returns, fences, fence_loads, fence_stores, fence_commits, unfences, hears, loads_end, of_cgl, of_tml, of_orec, direct_releases, of_ring, look_grants, move_grants}
+use Rattle.stm_rule.specs.Runs.CoreRuns.{CoreStep, core_kind, CoreMay}
+use Rattle.stm_rule.specs.Runs.CoreRuns.CoreStep.{announces, loads_gate, departs, aims, takes_gate, checks, reopens, settles, evens_clock, stores_base, stores_done, installs, looks_gate, seizes, grants, orec_grants, orec_grants_all, direct_loads, direct_stores, direct_commits, direct_raises_clock, direct_ups, returns, fences, fence_loads, fence_stores, fence_commits, unfences, hears, loads_end, of_cgl, of_tml, of_orec, direct_releases, of_ring, look_grants, move_grants}
 use Rattle.rule_ring.specs.RingRuns.RingStep.{ring_begins, ring_loads, ring_looks, ring_words, ring_agains, ring_moves, ring_locks, ring_ticks, ring_slots, ring_enters, ring_writes, ring_dones, ring_frees}
-use Rattle.stm_rule.specs.Frames.{orec-world}
+use Rattle.stm_rule.specs.Kinds.Frames.{orec-world}
 use Rattle.rule_base.specs.Fence.{without_fence}
-use Rattle.stm_rule.specs.Lifting.{Spares}
-use Rattle.stm_rule.specs.SparingMore as sparing
+use Rattle.stm_rule.specs.Kinds.Lifting.{Spares}
+use Rattle.stm_rule.specs.Kinds.SparingMore as sparing
 use Rattle.stm_rule.specs.Product.{Runs, Core, Invariant}
-use Rattle.stm_rule.specs.RestLaws.{nobody-else}
+use Rattle.stm_rule.specs.Kinds.RestLaws.{nobody-else}
 use Rattle.stm_model.specs.declared.alg.Alg.{Alg}
 use Rattle.stm_model.specs.declared.alg.Alg.TheVariants.{Cgl, Tml, OrecLazy, OrecEager, RingSw, Serial}
 use Rattle.stm_model.specs.Algorithms.{has_records}
 use Rattle.rule_base.specs.Regime.{Regime}
-use Rattle.rule_base.specs.RegimeLemmas.{regime-granted}
+use Rattle.rule_base.specs.Lemmas.RegimeLemmas.{regime-granted}
 use Rattle.rule_base.specs.RunProjection.{run_projection}
 use Rattle.rule_promoted.specs.PromotedRule.{Suits, OrecSuits, DirectRuns, suit_projection}
 use Rattle.rule_promoted.specs.PromotedSteps.{direct_release, CanDirectRelease}
 use Rattle.rule_promoted.specs.RaisingSteps.{direct_up, CanDirectUp}
 use Rattle.rule_promoted.specs.ReleaseRanks.{release-ranks, entry-covers, next-covers}
-use Rattle.stm_rule.specs.Stamping.{CoreStamps}
+use Rattle.stm_rule.specs.Kinds.Stamping.{CoreStamps}
 
 rank-view : (vs : ℕ → OrecView) (n q : ℕ) (v : OrecView) (k : Rec) → v.owned.held ≡ (vs n).owned.held → v.owned.eager ≡ (vs n).owned.eager → v.owned.committed ≡ (vs n).owned.committed → v.owned.time ≡ (vs n).owned.time → rank_of vs q k ≤ rank_of (put vs n v) q k
 rank-view vs n q v (Free x) a b c d = grind arith

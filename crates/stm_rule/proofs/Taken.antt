@@ -4,8 +4,8 @@ use Rattle.stm_model.specs.declared.config.Config.{Config}
 use Rattle.stm_model.specs.declared.alg.Alg.{Alg}
 use Rattle.rule_base.specs.Opening.{opening_world}
 use Rattle.rule_base.specs.Runs.{run, Allowed}
-use Rattle.stm_rule.specs.CoreRuns.{CoreStep, core_kind, CoreMay}
-use Rattle.stm_rule.specs.CoreRuns.CoreStep.{announces, loads_gate, departs, aims, takes_gate, reopens, settles, stores_base, stores_done, installs}
+use Rattle.stm_rule.specs.Runs.CoreRuns.{CoreStep, core_kind, CoreMay}
+use Rattle.stm_rule.specs.Runs.CoreRuns.CoreStep.{announces, loads_gate, departs, aims, takes_gate, reopens, settles, stores_base, stores_done, installs}
 
 infixr 5 ◌▸◌
 -- a step that may be taken, and what follows it

@@ -13,7 +13,7 @@ use Rattle.rule_base.specs.declared.views.TracedStep.{TracedStep}
 use Rattle.rule_base.specs.declared.views.View.{View}
 use Rattle.rule_base.specs.StepKinds.{StepKind, after_act, answer, answer_of, found_in, view_after, world_after, word_after}
 use Rattle.rule_base.specs.Notes.{after_seat_load}
-use Rattle.rule_base.specs.PutLemmas.{put-all}
+use Rattle.rule_base.specs.Lemmas.PutLemmas.{put-all}
 use Rattle.rule_base.specs.World.{World, fetch, put, write}
 
 -- the word that a step left, as far as the step trace tells it

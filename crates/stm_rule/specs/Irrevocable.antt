@@ -12,7 +12,7 @@ use Rattle.rule_base.specs.GateRule.{rests}
 use Rattle.rule_base.specs.InstallLaws.{others-out}
 use Rattle.rule_base.specs.Regime.{Regime}
 use Rattle.rule_base.specs.Regime.Regime.{Running}
-use Rattle.rule_base.specs.RegimeLemmas.{regime-inside}
+use Rattle.rule_base.specs.Lemmas.RegimeLemmas.{regime-inside}
 use Rattle.rule_base.specs.RunProjection.{run_projection}
 use Rattle.rule_base.specs.Fence.{without_fence}
 use Rattle.rule_base.specs.World.{World}

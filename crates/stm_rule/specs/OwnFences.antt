@@ -1,8 +1,8 @@
 -- What a token keeps of its caller's own range.
 use Rattle.std.specs.Prelude.{◌≡◌, ◌≢◌, ◌==◌, not, Bool, true, false, []}
 use Rattle.rule_base.specs.declared.views.FenceView.{FenceView}
-use Rattle.stm_rule.specs.CoreRuns.{CoreStep}
-use Rattle.stm_rule.specs.CoreRuns.CoreStep.{fences, fence_stores, fence_commits, unfences}
+use Rattle.stm_rule.specs.Runs.CoreRuns.{CoreStep}
+use Rattle.stm_rule.specs.Runs.CoreRuns.CoreStep.{fences, fence_stores, fence_commits, unfences}
 use Rattle.stm_rule.specs.declared.stm.OwnFence.{OwnFence}
 
 -- what is kept is so: which range the caller has, and whether it stored there

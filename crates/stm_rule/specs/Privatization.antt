@@ -6,10 +6,10 @@ use Rattle.rule_base.specs.declared.layout.At.TheVariants.{Heap}
 use Rattle.rule_base.specs.Encodings.{fenced}
 use Rattle.rule_base.specs.Bridge.{public_history}
 use Rattle.stm_rule.specs.Callers.{BeginsHistory}
-use Rattle.stm_rule.specs.CoreRuns.{core_kind}
-use Rattle.stm_rule.specs.CoreRuns.CoreStep.{fence_loads, fence_stores, unfences}
-use Rattle.stm_rule.specs.NoteRuns.{Shared, Deed, SharedRule, AllMay, after_deeds}
-use Rattle.stm_rule.specs.NoteRuns.Deed.{steps, tells, learns, gathers}
+use Rattle.stm_rule.specs.Runs.CoreRuns.{core_kind}
+use Rattle.stm_rule.specs.Runs.CoreRuns.CoreStep.{fence_loads, fence_stores, unfences}
+use Rattle.stm_rule.specs.Runs.NoteRuns.{Shared, Deed, SharedRule, AllMay, after_deeds}
+use Rattle.stm_rule.specs.Runs.NoteRuns.Deed.{steps, tells, learns, gathers}
 
 -- the place is no word of the fence's range
 abbrev pub IsBeside : ℕ → At → Type 0

@@ -25,7 +25,7 @@ use Rattle.rule_promoted.specs.PromotedRule.{DirectRuns}
 use Rattle.rule_seq.specs.TmlRule.{TmlRuns}
 use Rattle.rule_orec.specs.OrecRule.{OrecRuns}
 use Rattle.stm_rule.specs.Alone.{Alone}
-use Rattle.stm_rule.specs.Raised.{Raised}
+use Rattle.stm_rule.specs.Kinds.Raised.{Raised}
 
 -- A GIVE-BACK between its entry and the gate without the fence: nobody is in an attempt, and the memory lies in the heap; of records and slots nothing is said until BASE has the entry's time
 pub record Gives (alg : Alg) (s : RunProjection) : Type 0 where

@@ -7,7 +7,7 @@ use Rattle.rule_base.specs.InstallSteps.{HasChecked}
 use Rattle.rule_base.specs.Rest.{Rest, AtRest, IsQuiet, HasInstalled}
 use Rattle.rule_base.specs.Runs.{run, Allowed}
 use Rattle.rule_base.specs.World.{World}
-use Rattle.stm_rule.specs.CoreRuns.{CoreStep, core_kind, CoreMay}
+use Rattle.stm_rule.specs.Runs.CoreRuns.{CoreStep, core_kind, CoreMay}
 use Rattle.stm_rule.specs.Product.{Invariant}
 
 -- none of the steps is caller n's

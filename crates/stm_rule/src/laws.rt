@@ -2,16 +2,16 @@
 ghost use Rattle.std.specs.Prelude.{ℕ, List, replicate};
 ghost use Rattle.stm_model.specs.declared.config.Config.{Config};
 ghost use Rattle.stm_model.specs.Configs.{IsConfig};
-ghost use Rattle.stm_rule.specs.CheckRun.{CoreChecks};
-ghost use Rattle.stm_rule.specs.FenceRun.{CoreFences};
-ghost use Rattle.stm_rule.specs.NoteRun.{CoreNotes};
-ghost use Rattle.stm_rule.specs.QuitRun.{CoreQuits};
-ghost use Rattle.stm_rule.specs.CoreRuns.{CoreOpens, CoreCommits, CoreInstalls, CorePromotes, CoreRecords, CoreRings};
+ghost use Rattle.stm_rule.specs.Runs.CheckRun.{CoreChecks};
+ghost use Rattle.stm_rule.specs.Runs.FenceRun.{CoreFences};
+ghost use Rattle.stm_rule.specs.Runs.NoteRun.{CoreNotes};
+ghost use Rattle.stm_rule.specs.Runs.QuitRun.{CoreQuits};
+ghost use Rattle.stm_rule.specs.Runs.CoreRuns.{CoreOpens, CoreCommits, CoreInstalls, CorePromotes, CoreRecords, CoreRings};
 ghost use Rattle.stm_rule.specs.Irrevocable.{OneIrrevocable};
 ghost use Rattle.stm_rule.specs.Kept.{good_of};
-ghost use Rattle.stm_rule.specs.NoteRuns.{CoreKeepsAlong};
+ghost use Rattle.stm_rule.specs.Runs.NoteRuns.{CoreKeepsAlong};
 ghost use Rattle.stm_rule.specs.Privatization.{RangeIsHistory, RangeIsPrivate};
-ghost use Rattle.stm_rule.specs.Stamping.{CoreStamps};
+ghost use Rattle.stm_rule.specs.Kinds.Stamping.{CoreStamps};
 ghost use Rattle.stm_rule.specs.Quiescence.{GrantedLasts, GrantedRests, HolderAlone, InstalledRests, QuietRests, RestLasts};
 
 use stm_model::config::Config;

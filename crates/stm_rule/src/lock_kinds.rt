@@ -5,7 +5,7 @@ ghost use Rattle.rule_seq.specs.CglSteps.{take_lock, CanTakeLock, load_start, Ca
 ghost use Rattle.std.specs.Prelude.{◌<◌, ℕ, ◌≡◌};
 ghost use Rattle.stm_rule.specs.Callers.{IsSeatOf};
 ghost use Rattle.stm_rule.specs.Findings.{FindsLock};
-ghost use Rattle.stm_rule.specs.Lifting.{IsSpared};
+ghost use Rattle.stm_rule.specs.Kinds.Lifting.{IsSpared};
 ghost use Rattle.stm_rule.specs.Kept.{good_of, SeatTells, IsSameSeat, view_of};
 
 use crate::stm::{Stm, Token};

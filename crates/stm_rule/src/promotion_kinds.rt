@@ -8,7 +8,7 @@ ghost use Rattle.rule_promoted.specs.PromotedSteps.{tml_grant, CanTmlGrant, dire
 ghost use Rattle.std.specs.Prelude.{◌<◌, ℕ, ◌≡◌, ◌^◌};
 ghost use Rattle.stm_rule.specs.Callers.{IsSeatOf};
 ghost use Rattle.stm_rule.specs.Findings.{FindsGate, FindsTaken, FindsSole};
-ghost use Rattle.stm_rule.specs.Lifting.{IsSpared};
+ghost use Rattle.stm_rule.specs.Kinds.Lifting.{IsSpared};
 ghost use Rattle.stm_rule.specs.Kept.{good_of, SeatTells, IsSameSeat, view_of};
 
 use crate::stm::{Stm, Token};

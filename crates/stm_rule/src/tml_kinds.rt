@@ -6,7 +6,7 @@ ghost use Rattle.rule_seq.specs.TmlSteps.{tml_begin, CanTmlBegin, tml_load, CanT
 ghost use Rattle.std.specs.Prelude.{◌<◌, ℕ, ◌≡◌};
 ghost use Rattle.stm_rule.specs.Callers.{IsSeatOf};
 ghost use Rattle.stm_rule.specs.Findings.{FindsSole, FindsBegin, FindsAgain};
-ghost use Rattle.stm_rule.specs.Lifting.{IsSpared};
+ghost use Rattle.stm_rule.specs.Kinds.Lifting.{IsSpared};
 ghost use Rattle.stm_rule.specs.Kept.{good_of, SeatTells, IsSameSeat, view_of};
 
 use crate::stm::{Stm, Token};

@@ -12,7 +12,7 @@ use Rattle.stm_model.specs.Logs.{IsLog}
 use Rattle.stm_model.specs.Memories.{Once}
 use Rattle.rule_base.specs.declared.seats.Who.{Who}
 use Rattle.rule_base.specs.declared.views.View.{View}
-use Rattle.rule_base.specs.BridgeLemmas.{items-once}
+use Rattle.rule_base.specs.Lemmas.BridgeLemmas.{items-once}
 use Rattle.rule_base.specs.Own.{Own}
 use Rattle.stm_rule.specs.declared.stm.Stm.{Stm}
 use Rattle.stm_model.specs.declared.config.Config.{Config}

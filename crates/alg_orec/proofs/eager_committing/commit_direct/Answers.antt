@@ -15,7 +15,7 @@ use Rattle.tx_answers.specs.CallerState.{CallerState}
 use Rattle.stm_gate.specs.DirectLaws as direct
 use Rattle.stm_gate.specs.Opening.{Opened, opened, of-view, shows}
 use Rattle.alg_orec.proofs.CommitOpening.{Promoted, promoted}
-use Rattle.alg_orec.proofs.EagerDirectLaws as laws
+use Rattle.alg_orec.proofs.Eager.EagerDirectLaws as laws
 use Rattle.alg_orec.proofs.eager_committing.commit_direct.Goals.{After-desc}
 use Rattle.alg_orec.proofs.eager_committing.commit_direct.Goals as goal
 

@@ -13,7 +13,7 @@ use Rattle.tx_answers.specs.declared.answers.Commit.TheVariants as commits
 use Rattle.tx_answers.specs.Answers as answers
 use Rattle.tx_answers.specs.CallerState.{known_of}
 use Rattle.alg_orec.specs.EagerCommitting.{CanCommitPlaced}
-use Rattle.alg_orec.proofs.EagerCommitLaws as laws
+use Rattle.alg_orec.proofs.Eager.EagerCommitLaws as laws
 use Rattle.alg_orec.proofs.eager_committing.commit_placed.Goals.{In_default, After-limit-clock, After-commit_placed-now}
 use Rattle.alg_orec.proofs.eager_committing.commit_placed.Goals as goal
 

@@ -10,10 +10,10 @@ use Rattle.steps_orec.specs.RecordFindings.{FindsStill}
 use Rattle.stm_gate.specs.Peeling.{peeled}
 use Rattle.stm_rule.specs.StandLemmas.{tells-of}
 use Rattle.alg_orec.specs.EagerEnding.{AllBelow}
-use Rattle.alg_orec.proofs.EagerBackLaws.{newest-low}
-use Rattle.alg_orec.proofs.EagerDirectLaws as laws
-use Rattle.alg_orec.proofs.EagerReleasing.{below-without, up-step}
-use Rattle.alg_orec.proofs.EagerWriteLaws.{seat-then}
+use Rattle.alg_orec.proofs.Eager.EagerBackLaws.{newest-low}
+use Rattle.alg_orec.proofs.Eager.EagerDirectLaws as laws
+use Rattle.alg_orec.proofs.Eager.EagerReleasing.{below-without, up-step}
+use Rattle.alg_orec.proofs.Eager.EagerWriteLaws.{seat-then}
 use Rattle.alg_orec.proofs.Releasing.{gives-none, gives-more, gives-all}
 use Rattle.alg_orec.proofs.eager_committing.give_above.Goals.{After-direct_raise_clock, After-item-r}
 use Rattle.alg_orec.proofs.eager_committing.give_above.Goals as goal

@@ -4,7 +4,7 @@ use Rattle.rule_base.specs.declared.seats.SeatView.{SeatView}
 use Rattle.rule_base.specs.declared.views.View.{View}
 use Rattle.rule_base.specs.Encodings.{free_record}
 use Rattle.rule_base.specs.History.{touches}
-use Rattle.alg_orec.proofs.EagerReleasing.{direct-step}
+use Rattle.alg_orec.proofs.Eager.EagerReleasing.{direct-step}
 use Rattle.alg_orec.proofs.Releasing.{gives-none, next-held, gives-more, gives-all}
 use Rattle.alg_orec.proofs.eager_committing.give_direct.Goals.{After-item-r}
 use Rattle.alg_orec.proofs.eager_committing.give_direct.Goals as goal

@@ -1,5 +1,5 @@
 use Rattle.std.proofs.Common.{rules}
-use Rattle.alg_orec.proofs.EagerCommitLaws as laws
+use Rattle.alg_orec.proofs.Eager.EagerCommitLaws as laws
 use Rattle.alg_orec.proofs.eager_committing.revalidate.Goals as goal
 
 pub validate-requires-clause-view : goal.validate-requires-clause-view

@@ -1,7 +1,7 @@
 use Rattle.std.proofs.Common.{ap, ◌∙◌}
 use Rattle.rule_base.specs.declared.views.View.{View}
 use Rattle.rule_base.specs.declared.seats.SeatView.{SeatView}
-use Rattle.alg_orec.proofs.EagerBackLaws as laws
+use Rattle.alg_orec.proofs.Eager.EagerBackLaws as laws
 use Rattle.alg_orec.proofs.eager_ending.abort.Goals as goal
 
 pub give_back-requires-clause-view : goal.give_back-requires-clause-view

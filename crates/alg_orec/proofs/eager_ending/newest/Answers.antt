@@ -1,6 +1,6 @@
 use Rattle.std.proofs.Common.{ℕ, ◌≡◌, ◌<◌, length, sym, subst, arith, rules}
 use Rattle.std.specs.Prelude.{max, ◌⊎◌}
-use Rattle.alg_orec.proofs.EagerReleasing.{newest-none, newest-more, newest-all, max-either}
+use Rattle.alg_orec.proofs.Eager.EagerReleasing.{newest-none, newest-more, newest-all, max-either}
 use Rattle.alg_orec.proofs.eager_ending.newest.Goals as goal
 
 pub loop-i-init : goal.loop-i-init

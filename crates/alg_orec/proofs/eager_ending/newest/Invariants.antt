@@ -1,4 +1,4 @@
-use Rattle.alg_orec.proofs.EagerReleasing.{NewestSo}
+use Rattle.alg_orec.proofs.Eager.EagerReleasing.{NewestSo}
 use Rattle.alg_orec.proofs.eager_ending.newest.Given as goal
 
 abbrev pub invariant-loop-i : goal.invariant-loop-i

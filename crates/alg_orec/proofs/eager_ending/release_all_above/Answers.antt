@@ -10,7 +10,7 @@ use Rattle.rule_orec.specs.OrecSteps.{HasOrec}
 use Rattle.stm_gate.specs.Peeling.{drop-all, peeled, inside-without, no-items}
 use Rattle.alg_orec.specs.EagerEnding.{AllBelow}
 use Rattle.alg_orec.specs.Locking.{holding_still}
-use Rattle.alg_orec.proofs.EagerReleasing.{below-without}
+use Rattle.alg_orec.proofs.Eager.EagerReleasing.{below-without}
 use Rattle.alg_orec.proofs.Releasing.{release_item, released-step}
 use Rattle.alg_orec.proofs.eager_ending.release_all_above.Goals.{After-item-r}
 use Rattle.alg_orec.proofs.eager_ending.release_all_above.Goals as goal

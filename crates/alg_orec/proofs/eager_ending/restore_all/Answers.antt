@@ -7,7 +7,7 @@ use Rattle.rule_orec.specs.OrecSteps.{HasOrec}
 use Rattle.stm_gate.specs.Peeling.{has-touched}
 use Rattle.tx_answers.specs.Causes.{has_item}
 use Rattle.alg_orec.specs.EagerEnding.{restoring}
-use Rattle.alg_orec.proofs.EagerReleasing.{IsAhead, ahead-more, ahead-none, old-value, restore_item, restored-step}
+use Rattle.alg_orec.proofs.Eager.EagerReleasing.{IsAhead, ahead-more, ahead-none, old-value, restore_item, restored-step}
 use Rattle.alg_orec.proofs.eager_ending.restore_all.Goals.{After-item-a}
 use Rattle.alg_orec.proofs.eager_ending.restore_all.Goals as goal
 

@@ -2,7 +2,7 @@ use Rattle.std.proofs.Common.{◌≡◌, List}
 use Rattle.rule_base.specs.declared.views.TracedStep.{TracedStep}
 use Rattle.stm_rule.specs.Counting.{TakesAtMost}
 use Rattle.alg_orec.specs.EagerEnding.{restoring}
-use Rattle.alg_orec.proofs.EagerReleasing.{IsAhead}
+use Rattle.alg_orec.proofs.Eager.EagerReleasing.{IsAhead}
 use Rattle.alg_orec.proofs.eager_ending.restore_all.Given as goal
 
 abbrev pub invariant-loop-i : goal.invariant-loop-i

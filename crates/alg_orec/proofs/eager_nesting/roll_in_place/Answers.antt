@@ -10,7 +10,7 @@ use Rattle.tx_logs.specs.LogStates.{LogState, rolled}
 use Rattle.stm_gate.specs.MarkLaws.{some-by}
 use Rattle.stm_gate.specs.Opening.{opened, stands-after, tells-of}
 use Rattle.alg_orec.specs.EagerNesting.{RestoresAfter}
-use Rattle.alg_orec.proofs.EagerRollingLaws as laws
+use Rattle.alg_orec.proofs.Eager.EagerRollingLaws as laws
 use Rattle.alg_orec.proofs.NestingOpening.{goes-on-of}
 use Rattle.alg_orec.proofs.eager_nesting.roll_in_place.Goals as goal
 

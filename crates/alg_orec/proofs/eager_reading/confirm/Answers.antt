@@ -13,9 +13,9 @@ use Rattle.steps_orec.specs.RecordFindings.{FindsAgain}
 use Rattle.tx_answers.specs.declared.answers.Read.TheVariants as reads
 use Rattle.tx_answers.specs.CallerState.{CallerState}
 use Rattle.stm_gate.specs.Opening.{of-view, of-seen}
-use Rattle.alg_orec.proofs.EagerOpening.{EagerOpening, answers-read, counts, opens-eager, stays-read}
+use Rattle.alg_orec.proofs.Eager.EagerOpening.{EagerOpening, answers-read, counts, opens-eager, stays-read}
 use Rattle.alg_orec.proofs.RecordOpening.{answers-ended, place-here}
-use Rattle.alg_orec.proofs.EagerReadLaws as laws
+use Rattle.alg_orec.proofs.Eager.EagerReadLaws as laws
 use Rattle.alg_orec.specs.EagerReading.{IsNew, IsLoaded, Confirms}
 use Rattle.alg_orec.proofs.eager_reading.confirm.Goals.{After-desc, After-confirm-after}
 use Rattle.alg_orec.proofs.eager_reading.confirm.Goals as goal

@@ -8,9 +8,9 @@ use Rattle.stm_rule.specs.Callers.{handle_of}
 use Rattle.stm_rule.specs.StandLemmas.{tells-of}
 use Rattle.tx_answers.specs.CallerState.{CallerState}
 use Rattle.stm_gate.specs.Opening.{of-view, of-seen, shows}
-use Rattle.alg_orec.proofs.EagerOpening.{EagerOpening, opens-eager}
+use Rattle.alg_orec.proofs.Eager.EagerOpening.{EagerOpening, opens-eager}
 use Rattle.alg_orec.proofs.RecordOpening.{stays-tied}
-use Rattle.alg_orec.proofs.EagerReadLaws as laws
+use Rattle.alg_orec.proofs.Eager.EagerReadLaws as laws
 use Rattle.alg_orec.specs.EagerReading.{IsNew, HasSample, LoadsSampled, GoesOnReading}
 use Rattle.alg_orec.specs.Validating.{load_of}
 use Rattle.alg_orec.proofs.eager_reading.load.Goals.{After-desc, After-load}

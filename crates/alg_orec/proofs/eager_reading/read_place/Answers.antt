@@ -1,6 +1,6 @@
 use Rattle.stm_rule.specs.Attempts.{own_of}
 use Rattle.stm_rule.specs.Callers.{handle_of}
-use Rattle.alg_orec.proofs.EagerOpening.{EagerOpening, opens-eager}
+use Rattle.alg_orec.proofs.Eager.EagerOpening.{EagerOpening, opens-eager}
 use Rattle.alg_orec.proofs.RecordOpening.{place-told}
 use Rattle.alg_orec.proofs.eager_reading.read_place.Goals.{After-desc}
 use Rattle.alg_orec.proofs.eager_reading.read_place.Goals as goal

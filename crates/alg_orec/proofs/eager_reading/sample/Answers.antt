@@ -10,11 +10,11 @@ use Rattle.tx_answers.specs.declared.answers.Read.TheVariants as reads
 use Rattle.tx_answers.specs.Answers.{HasRead}
 use Rattle.tx_answers.specs.CallerState.{CallerState, known_of}
 use Rattle.stm_gate.specs.Opening.{is-known, shows}
-use Rattle.alg_orec.proofs.EagerLaws as eager
-use Rattle.alg_orec.proofs.EagerOpening.{EagerOpening, counts, opens-eager}
+use Rattle.alg_orec.proofs.Eager.EagerLaws as eager
+use Rattle.alg_orec.proofs.Eager.EagerOpening.{EagerOpening, counts, opens-eager}
 use Rattle.alg_orec.proofs.RecordOpening.{answers-ended, answers-moved, stays-tied, unread, unwritten}
-use Rattle.alg_orec.proofs.EagerReadLaws as laws
-use Rattle.alg_orec.proofs.EagerTakingLaws as taking
+use Rattle.alg_orec.proofs.Eager.EagerReadLaws as laws
+use Rattle.alg_orec.proofs.Eager.EagerTakingLaws as taking
 use Rattle.alg_orec.proofs.RecordReads as records
 use Rattle.alg_orec.specs.EagerReading.{IsNew, HoldsRecord, FindsFree}
 use Rattle.alg_orec.proofs.eager_reading.sample.Goals.{After-desc}

@@ -11,7 +11,7 @@ use Rattle.stm_rule.specs.StandLemmas.{tells-of}
 use Rattle.steps_orec.specs.RecordFindings.{FindsRecord, FindsClock}
 use Rattle.tx_logs.specs.LogStates.{Pushes, keep}
 use Rattle.alg_orec.proofs.LockingLaws.{unheld-of}
-use Rattle.alg_orec.proofs.EagerTakingLaws as laws
+use Rattle.alg_orec.proofs.Eager.EagerTakingLaws as laws
 use Rattle.alg_orec.proofs.eager_taking.take_record.Goals.{After-limit-clock, In-Ok, After-lock-found}
 use Rattle.alg_orec.proofs.eager_taking.take_record.Goals as goal
 

@@ -12,7 +12,7 @@ use Rattle.tx_answers.specs.declared.answers.Commit.TheVariants as commits
 use Rattle.tx_answers.specs.Answers as answers
 use Rattle.tx_answers.specs.CallerState.{known_of}
 use Rattle.alg_orec.specs.Committing.{CanCommit}
-use Rattle.alg_orec.proofs.LazyEntryLaws as laws
+use Rattle.alg_orec.proofs.Lazy.LazyEntryLaws as laws
 use Rattle.alg_orec.proofs.Proving.{own-ready, own-stopped, lazy-of}
 use Rattle.alg_orec.proofs.lazy_committing.commit_writes.Goals.{In_default, After-limit-clock, After-commit-now}
 use Rattle.alg_orec.proofs.lazy_committing.commit_writes.Goals as goal

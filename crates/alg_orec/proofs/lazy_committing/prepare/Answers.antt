@@ -1,7 +1,7 @@
 use Rattle.std.proofs.Common.{[], ap, arith, rules}
 use Rattle.std.proofs.lemmas.Result.{err_from_is_err_and}
 use Rattle.stm_rule.specs.declared.local.Local.{Local}
-use Rattle.alg_orec.proofs.LazyCommitLaws as laws
+use Rattle.alg_orec.proofs.Lazy.LazyCommitLaws as laws
 use Rattle.alg_orec.proofs.lazy_committing.prepare.Goals as goal
 
 pub validate-requires-clause-view : goal.validate-requires-clause-view

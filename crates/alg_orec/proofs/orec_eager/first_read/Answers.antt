@@ -6,7 +6,7 @@ use Rattle.stm_rule.specs.Callers.{Handle}
 use Rattle.tx_answers.specs.Answers.{HasRead}
 use Rattle.tx_answers.specs.CallerState.{IsRunning}
 use Rattle.stm_gate.specs.Knowing.{known, number}
-use Rattle.alg_orec.proofs.EagerReadLaws as laws
+use Rattle.alg_orec.proofs.Eager.EagerReadLaws as laws
 use Rattle.alg_orec.specs.EagerReading.{HoldsRecord, IsNew, Samples}
 use Rattle.alg_orec.specs.Loading.{HasPlace}
 use Rattle.alg_orec.proofs.orec_eager.first_read.Goals as goal

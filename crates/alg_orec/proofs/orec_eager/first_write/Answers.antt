@@ -11,11 +11,11 @@ use Rattle.tx_answers.specs.declared.answers.Write.TheVariants as writes
 use Rattle.tx_answers.specs.Answers.{HasWritten}
 use Rattle.tx_answers.specs.CallerState.{CallerState}
 use Rattle.stm_gate.specs.Opening.{is-known, of-view}
-use Rattle.alg_orec.proofs.EagerCalls.{RunsEager}
-use Rattle.alg_orec.proofs.EagerLaws as reading
-use Rattle.alg_orec.proofs.EagerOpening.{EagerOpening, answers-stored, counts, opens-eager, stays-stored}
+use Rattle.alg_orec.proofs.Eager.EagerCalls.{RunsEager}
+use Rattle.alg_orec.proofs.Eager.EagerLaws as reading
+use Rattle.alg_orec.proofs.Eager.EagerOpening.{EagerOpening, answers-stored, counts, opens-eager, stays-stored}
 use Rattle.alg_orec.proofs.RecordOpening.{answers-ended, answers-moved, unwritten}
-use Rattle.alg_orec.proofs.EagerWriteLaws as laws
+use Rattle.alg_orec.proofs.Eager.EagerWriteLaws as laws
 use Rattle.alg_orec.proofs.orec_eager.first_write.Goals.{After-desc, After-store_first, In-Err}
 use Rattle.alg_orec.proofs.orec_eager.first_write.Goals as goal
 

@@ -6,11 +6,11 @@ use Rattle.stm_rule.specs.Callers.{handle_of}
 use Rattle.stm_rule.specs.Kept.{good_of}
 use Rattle.stm_rule.specs.StandLemmas.{tells-of}
 use Rattle.stm_gate.specs.Opening.{of-view, of-seen}
-use Rattle.alg_orec.proofs.EagerLaws as eager
-use Rattle.alg_orec.proofs.EagerOpening.{EagerOpening, answers-read, opens-eager, stays-read}
+use Rattle.alg_orec.proofs.Eager.EagerLaws as eager
+use Rattle.alg_orec.proofs.Eager.EagerOpening.{EagerOpening, answers-read, opens-eager, stays-read}
 use Rattle.alg_orec.proofs.RecordOpening.{place-here}
-use Rattle.alg_orec.proofs.EagerReadLaws as laws
-use Rattle.alg_orec.proofs.EagerTakingLaws as taking
+use Rattle.alg_orec.proofs.Eager.EagerReadLaws as laws
+use Rattle.alg_orec.proofs.Eager.EagerTakingLaws as taking
 use Rattle.alg_orec.specs.EagerReading.{IsNew, HoldsRecord}
 use Rattle.alg_orec.specs.EagerTaking.{CanLoadWord}
 use Rattle.alg_orec.specs.Loading.{HasLoaded}

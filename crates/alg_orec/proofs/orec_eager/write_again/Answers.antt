@@ -9,8 +9,8 @@ use Rattle.stm_rule.specs.StandLemmas.{tells-of}
 use Rattle.tx_answers.specs.Causes.{is_some}
 use Rattle.tx_answers.specs.CallerState.{CallerState}
 use Rattle.stm_gate.specs.Opening.{of-view}
-use Rattle.alg_orec.proofs.EagerOpening.{EagerOpening, answers-stored, opens-eager, stays-stored}
-use Rattle.alg_orec.proofs.EagerWriteLaws as laws
+use Rattle.alg_orec.proofs.Eager.EagerOpening.{EagerOpening, answers-stored, opens-eager, stays-stored}
+use Rattle.alg_orec.proofs.Eager.EagerWriteLaws as laws
 use Rattle.alg_orec.proofs.orec_eager.write_again.Goals.{After-desc}
 use Rattle.alg_orec.proofs.orec_eager.write_again.Goals as goal
 

@@ -19,7 +19,7 @@ use Rattle.stm_gate.specs.Standing.{runs-of}
 use Rattle.stm_gate.specs.Told.{told, running-by, stands-in}
 use Rattle.tx_logs.specs.Probing.{IsPlace}
 use Rattle.alg_orec.specs.Loading.{HasPlace}
-use Rattle.alg_orec.proofs.LazyLaws as laws
+use Rattle.alg_orec.proofs.Lazy.LazyLaws as laws
 use Rattle.alg_orec.proofs.ReadCalls as calls
 use Rattle.alg_orec.proofs.orec_lazy.first_read.Goals as goal
 

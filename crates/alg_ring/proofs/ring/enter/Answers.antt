@@ -10,7 +10,7 @@ use Rattle.rule_ring.specs.RingSteps.{ring_slot, ring_enter, CanRingSlot, CanRin
 use Rattle.rule_ring.specs.SlotFilter.{slot_filter}
 use Rattle.rule_ring.specs.Slots.{slot_place}
 use Rattle.rule_base.specs.declared.entries.Cell.{Cell}
-use Rattle.stm_rule.specs.Lifting.{AreSpared}
+use Rattle.stm_rule.specs.Kinds.Lifting.{AreSpared}
 use Rattle.stm_rule.specs.Kept.{good_of}
 use Rattle.stm_rule.specs.RecordsKept.{Apart, cells_of}
 use Rattle.stm_rule.specs.StandLemmas.{tells-of}

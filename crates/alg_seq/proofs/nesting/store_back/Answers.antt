@@ -9,7 +9,7 @@ use Rattle.rule_base.specs.declared.views.View.{View}
 use Rattle.rule_base.specs.declared.entries.Cell.{Cell}
 use Rattle.rule_base.specs.History.{over, touches, without}
 use Rattle.rule_base.specs.Bridge.{items}
-use Rattle.rule_base.specs.BridgeLemmas.{items-once, item-some}
+use Rattle.rule_base.specs.Lemmas.BridgeLemmas.{items-once, item-some}
 use Rattle.rule_seq.specs.CglSteps.{HasLock}
 use Rattle.tx_answers.specs.Causes.{has_item, is_some}
 use Rattle.stm_gate.specs.Peeling.{has-touched}

@@ -6,7 +6,7 @@ use Rattle.std.proofs.Common.{refl}
 use Rattle.stm_rule.specs.Kept.{good_of}
 use Rattle.stm_rule.specs.Product.{Invariant}
 use Rattle.steps_orec.specs.RecordFindingLaws.{commits_placed}
-use Rattle.stm_rule.specs.Allowing.{law_of}
+use Rattle.stm_rule.specs.Kinds.Allowing.{law_of}
 use Rattle.steps_orec.proofs.eager.commit_placed.Goals as goal
 
 pub exchange_as-requires-clause-law : goal.exchange_as-requires-clause-law

@@ -1,5 +1,5 @@
 use Rattle.rule_orec.specs.OrecRuns.OrecStep.{orec_commits}
-use Rattle.stm_rule.specs.CoreRuns.CoreStep.{of_orec}
+use Rattle.stm_rule.specs.Runs.CoreRuns.CoreStep.{of_orec}
 use Rattle.steps_orec.specs.RecordFindings.{FindsCommit}
 use Rattle.stm_rule.specs.Kept.{good_of}
 use Rattle.std.specs.Prelude.{[]}

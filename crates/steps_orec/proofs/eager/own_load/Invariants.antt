@@ -1,5 +1,5 @@
 use Rattle.rule_orec.specs.OrecRuns.OrecStep.{orec_own_loads}
-use Rattle.stm_rule.specs.CoreRuns.CoreStep.{of_orec}
+use Rattle.stm_rule.specs.Runs.CoreRuns.CoreStep.{of_orec}
 use Rattle.stm_rule.specs.Kept.{good_of, address_of}
 use Rattle.rule_orec.specs.OrecSteps.{OrecOwnLoads}
 use Rattle.steps_orec.proofs.eager.own_load.Given as goal

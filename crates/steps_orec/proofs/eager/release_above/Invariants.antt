@@ -1,5 +1,5 @@
 use Rattle.rule_orec.specs.OrecRuns.OrecStep.{orec_ups}
-use Rattle.stm_rule.specs.CoreRuns.CoreStep.{of_orec}
+use Rattle.stm_rule.specs.Runs.CoreRuns.CoreStep.{of_orec}
 use Rattle.rule_base.specs.StepKinds.{Nothing}
 use Rattle.steps_orec.specs.Picking.{record_of}
 use Rattle.steps_orec.proofs.eager.release_above.Given as goal

@@ -3,10 +3,10 @@ use Rattle.steps_orec.specs.RecordFindings.{FindsCommit}
 use Rattle.rule_base.specs.Ranks.{home_of}
 use Rattle.stm_rule.specs.RecordsKept.{cells_of}
 use Rattle.stm_rule.specs.Kept.{good_of}
-use Rattle.stm_rule.specs.Lifting.{AreSpared}
+use Rattle.stm_rule.specs.Kinds.Lifting.{AreSpared}
 use Rattle.stm_rule.specs.Product.{Invariant}
 use Rattle.steps_orec.specs.RecordFindingLaws.{commits_beside}
-use Rattle.stm_rule.specs.Allowing.{law_of}
+use Rattle.stm_rule.specs.Kinds.Allowing.{law_of}
 use Rattle.steps_orec.proofs.lazy.commit.Goals as goal
 
 pub exchange_as-requires-clause-law : goal.exchange_as-requires-clause-law

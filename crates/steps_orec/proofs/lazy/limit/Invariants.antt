@@ -1,5 +1,5 @@
 use Rattle.rule_orec.specs.OrecRuns.OrecStep.{orec_limits}
-use Rattle.stm_rule.specs.CoreRuns.CoreStep.{of_orec}
+use Rattle.stm_rule.specs.Runs.CoreRuns.CoreStep.{of_orec}
 use Rattle.steps_orec.specs.RecordFindings.{FindsClock}
 use Rattle.steps_orec.proofs.lazy.limit.Given as goal
 

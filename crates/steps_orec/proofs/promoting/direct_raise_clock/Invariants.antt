@@ -1,4 +1,4 @@
-use Rattle.stm_rule.specs.CoreRuns.CoreStep.{direct_raises_clock}
+use Rattle.stm_rule.specs.Runs.CoreRuns.CoreStep.{direct_raises_clock}
 use Rattle.steps_orec.specs.RecordFindings.{FindsStill}
 use Rattle.steps_orec.proofs.promoting.direct_raise_clock.Given as goal
 

@@ -1,4 +1,4 @@
-use Rattle.stm_rule.specs.CoreRuns.CoreStep.{direct_ups}
+use Rattle.stm_rule.specs.Runs.CoreRuns.CoreStep.{direct_ups}
 use Rattle.rule_base.specs.StepKinds.{Nothing}
 use Rattle.steps_orec.specs.Picking.{record_of}
 use Rattle.steps_orec.proofs.promoting.direct_release_above.Given as goal

@@ -1,4 +1,4 @@
-use Rattle.stm_rule.specs.CoreRuns.CoreStep.{orec_grants}
+use Rattle.stm_rule.specs.Runs.CoreRuns.CoreStep.{orec_grants}
 use Rattle.steps_orec.specs.RecordFindings.{FindsGrant}
 use Rattle.stm_rule.specs.Kept.{good_of}
 use Rattle.steps_orec.specs.Picking.{record_of}

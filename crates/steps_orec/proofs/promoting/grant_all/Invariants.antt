@@ -1,4 +1,4 @@
-use Rattle.stm_rule.specs.CoreRuns.CoreStep.{orec_grants_all}
+use Rattle.stm_rule.specs.Runs.CoreRuns.CoreStep.{orec_grants_all}
 use Rattle.steps_orec.specs.RecordFindings.{FindsAll}
 use Rattle.stm_rule.specs.Kept.{good_of}
 use Rattle.steps_orec.proofs.promoting.grant_all.Given as goal

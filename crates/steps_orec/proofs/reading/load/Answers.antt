@@ -1,10 +1,10 @@
 use Rattle.rule_orec.specs.OrecSteps.{orec_load, CanOrecLoad}
 use Rattle.rule_base.specs.StepKinds.{Nothing}
 use Rattle.stm_rule.specs.Kept.{good_of}
-use Rattle.stm_rule.specs.Lifting.{IsSpared}
+use Rattle.stm_rule.specs.Kinds.Lifting.{IsSpared}
 use Rattle.stm_rule.specs.Product.{Invariant}
-use Rattle.stm_rule.specs.Lifted.{orec_loads}
-use Rattle.stm_rule.specs.Allowing.{law_of}
+use Rattle.stm_rule.specs.Kinds.Lifted.{orec_loads}
+use Rattle.stm_rule.specs.Kinds.Allowing.{law_of}
 use Rattle.steps_orec.proofs.reading.load.Goals as goal
 
 pub load_as-requires-clause-law : goal.load_as-requires-clause-law

@@ -1,5 +1,5 @@
 use Rattle.rule_ring.specs.RingRuns.RingStep.{ring_locks}
-use Rattle.stm_rule.specs.CoreRuns.CoreStep.{of_ring}
+use Rattle.stm_rule.specs.Runs.CoreRuns.CoreStep.{of_ring}
 use Rattle.stm_rule.specs.Findings.{FindsLock}
 use Rattle.steps_ring.proofs.committing.lock.Given as goal
 

@@ -1,4 +1,4 @@
-use Rattle.stm_rule.specs.CoreRuns.CoreStep.{move_grants}
+use Rattle.stm_rule.specs.Runs.CoreRuns.CoreStep.{move_grants}
 use Rattle.steps_ring.specs.RingFindings.{FindsLevel}
 use Rattle.stm_rule.specs.Kept.{good_of}
 use Rattle.steps_ring.proofs.promoting.advance_grant.Given as goal

@@ -3,7 +3,7 @@ use Rattle.steps_ring.specs.RingFindings.{FindsLook}
 use Rattle.steps_ring.specs.RingFindingLaws.{look_grants_beside}
 use Rattle.stm_rule.specs.Kept.{good_of}
 use Rattle.stm_rule.specs.Product.{Invariant}
-use Rattle.stm_rule.specs.Allowing.{law_of}
+use Rattle.stm_rule.specs.Kinds.Allowing.{law_of}
 use Rattle.steps_ring.proofs.promoting.look_grant.Goals as goal
 
 pub load_as-requires-clause-law : goal.load_as-requires-clause-law

@@ -1,4 +1,4 @@
-use Rattle.stm_rule.specs.CoreRuns.CoreStep.{look_grants}
+use Rattle.stm_rule.specs.Runs.CoreRuns.CoreStep.{look_grants}
 use Rattle.steps_ring.specs.RingFindings.{FindsLook}
 use Rattle.stm_rule.specs.Kept.{good_of}
 use Rattle.steps_ring.proofs.promoting.look_grant.Given as goal

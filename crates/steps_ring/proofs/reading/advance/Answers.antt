@@ -4,7 +4,7 @@ use Rattle.steps_ring.specs.RingFindingLaws.{moves_beside}
 use Rattle.rule_ring.specs.SlotFilter.{slot_filter}
 use Rattle.stm_rule.specs.Kept.{good_of}
 use Rattle.stm_rule.specs.Product.{Invariant}
-use Rattle.stm_rule.specs.Allowing.{law_of}
+use Rattle.stm_rule.specs.Kinds.Allowing.{law_of}
 use Rattle.steps_ring.proofs.reading.advance.Goals as goal
 
 pub load_as-requires-clause-law : goal.load_as-requires-clause-law

@@ -1,5 +1,5 @@
 use Rattle.rule_ring.specs.RingRuns.RingStep.{ring_looks}
-use Rattle.stm_rule.specs.CoreRuns.CoreStep.{of_ring}
+use Rattle.stm_rule.specs.Runs.CoreRuns.CoreStep.{of_ring}
 use Rattle.steps_ring.specs.RingFindings.{FindsLook}
 use Rattle.stm_rule.specs.Kept.{good_of}
 use Rattle.steps_ring.proofs.reading.look.Given as goal

@@ -1,13 +1,13 @@
 use Rattle.rule_ring.specs.RingSteps.{ring_word, CanRingWord}
 use Rattle.rule_base.specs.StepKinds.{Nothing}
-use Rattle.stm_rule.specs.Lifted.{ring_words}
+use Rattle.stm_rule.specs.Kinds.Lifted.{ring_words}
 use Rattle.std.proofs.Common.{◌+◌, ◌*◌, ◌<◌, ℕ, sym, ap, subst, arith}
 use Rattle.rule_base.specs.declared.layout.At.TheVariants.{Slot}
 use Rattle.rule_base.specs.declared.layout.TheConstants.{SLOT_WORDS}
 use Rattle.rule_ring.specs.Slots.{slot_place, slot_place-inside}
 use Rattle.stm_rule.specs.Kept.{good_of}
 use Rattle.stm_rule.specs.Product.{Invariant}
-use Rattle.stm_rule.specs.Allowing.{law_of}
+use Rattle.stm_rule.specs.Kinds.Allowing.{law_of}
 use Rattle.steps_ring.proofs.reading.word.Goals as goal
 
 pub load_as-requires-clause-law : goal.load_as-requires-clause-law

@@ -1,5 +1,5 @@
 use Rattle.rule_ring.specs.RingRuns.RingStep.{ring_words}
-use Rattle.stm_rule.specs.CoreRuns.CoreStep.{of_ring}
+use Rattle.stm_rule.specs.Runs.CoreRuns.CoreStep.{of_ring}
 use Rattle.rule_base.specs.StepKinds.{Nothing}
 use Rattle.steps_ring.proofs.reading.word.Given as goal
 

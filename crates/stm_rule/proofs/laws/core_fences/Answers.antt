@@ -1,5 +1,5 @@
 use Rattle.stm_rule.specs.Kept.{good_of}
-use Rattle.stm_rule.specs.FenceRun.{core_fences_lem}
+use Rattle.stm_rule.specs.Runs.FenceRun.{core_fences_lem}
 use Rattle.stm_rule.proofs.laws.core_fences.Goals as goal
 
 pub returns : goal.returns

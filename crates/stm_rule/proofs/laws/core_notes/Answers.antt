@@ -1,5 +1,5 @@
 use Rattle.stm_rule.specs.Kept.{good_of}
-use Rattle.stm_rule.specs.NoteRun.{core_notes_lem}
+use Rattle.stm_rule.specs.Runs.NoteRun.{core_notes_lem}
 use Rattle.stm_rule.proofs.laws.core_notes.Goals as goal
 
 pub returns : goal.returns

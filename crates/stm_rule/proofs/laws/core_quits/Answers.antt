@@ -1,5 +1,5 @@
 use Rattle.stm_rule.specs.Kept.{good_of}
-use Rattle.stm_rule.specs.QuitRun.{core_quits_lem}
+use Rattle.stm_rule.specs.Runs.QuitRun.{core_quits_lem}
 use Rattle.stm_rule.proofs.laws.core_quits.Goals as goal
 
 pub returns : goal.returns

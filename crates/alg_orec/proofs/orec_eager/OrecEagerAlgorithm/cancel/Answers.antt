@@ -6,8 +6,8 @@ use Rattle.tx_answers.specs.Answers.{Cancels}
 use Rattle.tx_answers.specs.CallerState.{CallerState, known_of}
 use Rattle.stm_gate.specs.Opening.{Opened, opened, tells-of}
 use Rattle.alg_orec.proofs.CommitOpening.{Unpromoted, unpromoted, irrevocable-known}
-use Rattle.alg_orec.proofs.EagerCommitLaws as laws
-use Rattle.alg_orec.proofs.EagerProving.{held-within}
+use Rattle.alg_orec.proofs.Eager.EagerCommitLaws as laws
+use Rattle.alg_orec.proofs.Eager.EagerProving.{held-within}
 use Rattle.alg_orec.proofs.orec_eager.OrecEagerAlgorithm.cancel.Goals.{After-desc}
 use Rattle.alg_orec.proofs.orec_eager.OrecEagerAlgorithm.cancel.Goals as goal
 

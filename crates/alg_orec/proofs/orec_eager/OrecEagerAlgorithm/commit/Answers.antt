@@ -8,8 +8,8 @@ use Rattle.tx_answers.specs.CallerState.{CallerState, known_of}
 use Rattle.stm_gate.specs.Opening.{Opened, opened, of-view, shows, tells-of}
 use Rattle.stm_gate.specs.Peeling.{no-items}
 use Rattle.alg_orec.proofs.CommitOpening.{Unpromoted, unpromoted, granted-known}
-use Rattle.alg_orec.proofs.EagerCommitLaws as laws
-use Rattle.alg_orec.proofs.EagerProving.{length-none, held-within}
+use Rattle.alg_orec.proofs.Eager.EagerCommitLaws as laws
+use Rattle.alg_orec.proofs.Eager.EagerProving.{length-none, held-within}
 use Rattle.alg_orec.proofs.orec_eager.OrecEagerAlgorithm.commit.Goals.{After-desc}
 use Rattle.alg_orec.proofs.orec_eager.OrecEagerAlgorithm.commit.Goals as goal
 

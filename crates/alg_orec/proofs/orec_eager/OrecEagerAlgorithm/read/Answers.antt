@@ -7,10 +7,10 @@ use Rattle.tx_answers.specs.declared.answers.Read.TheVariants as reads
 use Rattle.tx_answers.specs.Answers.{HasRead}
 use Rattle.tx_answers.specs.CallerState.{CallerState}
 use Rattle.stm_gate.specs.Opening.{is-known}
-use Rattle.alg_orec.proofs.EagerLaws as laws
+use Rattle.alg_orec.proofs.Eager.EagerLaws as laws
 use Rattle.alg_orec.proofs.RecordOpening.{place-here}
 use Rattle.alg_orec.proofs.RecordReads as records
-use Rattle.alg_orec.proofs.EagerOpening.{EagerOpening, opens-plain}
+use Rattle.alg_orec.proofs.Eager.EagerOpening.{EagerOpening, opens-plain}
 use Rattle.alg_orec.proofs.orec_eager.OrecEagerAlgorithm.read.Goals.{After-desc}
 use Rattle.alg_orec.proofs.orec_eager.OrecEagerAlgorithm.read.Goals as goal
 

@@ -6,8 +6,8 @@ use Rattle.stm_rule.specs.Callers.{handle_of}
 use Rattle.tx_answers.specs.Causes.{is_some}
 use Rattle.tx_answers.specs.CallerState.{CallerState}
 use Rattle.stm_gate.specs.Opening.{is-known}
-use Rattle.alg_orec.proofs.EagerOpening.{EagerOpening, opens-plain}
-use Rattle.alg_orec.proofs.EagerWriteLaws as laws
+use Rattle.alg_orec.proofs.Eager.EagerOpening.{EagerOpening, opens-plain}
+use Rattle.alg_orec.proofs.Eager.EagerWriteLaws as laws
 use Rattle.alg_orec.proofs.orec_eager.OrecEagerAlgorithm.write.Goals.{After-desc}
 use Rattle.alg_orec.proofs.orec_eager.OrecEagerAlgorithm.write.Goals as goal
 

@@ -3,7 +3,7 @@ use Rattle.rule_orec.specs.OrecSteps.{orec_begin}
 use Rattle.stm_rule.specs.Kept.{good_of}
 use Rattle.stm_rule.specs.StandLemmas.{tells-of}
 use Rattle.steps_orec.specs.RecordFindings.{FindsStart}
-use Rattle.alg_orec.proofs.LazyLaws.{tells-started}
+use Rattle.alg_orec.proofs.Lazy.LazyLaws.{tells-started}
 use Rattle.alg_orec.proofs.RecordReads.{may-begin}
 use Rattle.alg_orec.proofs.orec_lazy.OrecLazyAlgorithm.begin.Goals as goal
 

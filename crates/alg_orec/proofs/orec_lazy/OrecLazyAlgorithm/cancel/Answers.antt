@@ -7,7 +7,7 @@ use Rattle.tx_answers.specs.Answers.{Cancels}
 use Rattle.tx_answers.specs.CallerState.{CallerState, known_of, is_irrevocable}
 use Rattle.stm_gate.specs.Opening.{Opened, opened, tells-of}
 use Rattle.alg_orec.proofs.CommitOpening as opening
-use Rattle.alg_orec.proofs.LazyEndingLaws as laws
+use Rattle.alg_orec.proofs.Lazy.LazyEndingLaws as laws
 use Rattle.alg_orec.proofs.Proving.{lazy-of}
 use Rattle.alg_orec.proofs.orec_lazy.OrecLazyAlgorithm.cancel.Goals.{After-desc}
 use Rattle.alg_orec.proofs.orec_lazy.OrecLazyAlgorithm.cancel.Goals as goal

@@ -10,7 +10,7 @@ use Rattle.tx_answers.specs.CallerState.{CallerState, known_of}
 use Rattle.stm_gate.specs.Opening.{Opened, opened, of-view, tells-of}
 use Rattle.alg_orec.proofs.CallLaws as calls
 use Rattle.alg_orec.proofs.CommitOpening as opening
-use Rattle.alg_orec.proofs.LazyEndingLaws as laws
+use Rattle.alg_orec.proofs.Lazy.LazyEndingLaws as laws
 use Rattle.alg_orec.proofs.orec_lazy.OrecLazyAlgorithm.commit.Goals.{After-desc}
 use Rattle.alg_orec.proofs.orec_lazy.OrecLazyAlgorithm.commit.Goals as goal
 

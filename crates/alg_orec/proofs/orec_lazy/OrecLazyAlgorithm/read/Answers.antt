@@ -7,7 +7,7 @@ use Rattle.tx_answers.specs.declared.answers.Read.TheVariants as reads
 use Rattle.tx_answers.specs.Answers.{HasRead}
 use Rattle.tx_answers.specs.CallerState.{CallerState}
 use Rattle.stm_gate.specs.Opening.{is-known}
-use Rattle.alg_orec.proofs.LazyOpening.{LazyOpening, opens-lazy}
+use Rattle.alg_orec.proofs.Lazy.LazyOpening.{LazyOpening, opens-lazy}
 use Rattle.alg_orec.proofs.RecordOpening.{place-told}
 use Rattle.alg_orec.proofs.RecordReads as laws
 use Rattle.alg_orec.proofs.orec_lazy.OrecLazyAlgorithm.read.Goals.{After-desc}

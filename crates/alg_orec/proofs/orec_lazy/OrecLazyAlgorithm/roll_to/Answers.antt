@@ -7,7 +7,7 @@ use Rattle.tx_answers.specs.Answers.{Rolls}
 use Rattle.tx_answers.specs.CallerState.{CallerState, known_of}
 use Rattle.stm_gate.specs.MarkLaws.{some-by}
 use Rattle.stm_gate.specs.Opening.{opened, tells-of}
-use Rattle.alg_orec.proofs.LazyNestingLaws as laws
+use Rattle.alg_orec.proofs.Lazy.LazyNestingLaws as laws
 use Rattle.alg_orec.proofs.NestingOpening.{goes-on, goes-on-of, irrevocable-now}
 use Rattle.alg_orec.proofs.orec_lazy.OrecLazyAlgorithm.roll_to.Goals as goal
 

@@ -1,4 +1,4 @@
-use Rattle.stm_rule.specs.CoreRuns.CoreStep.{direct_commits}
+use Rattle.stm_rule.specs.Runs.CoreRuns.CoreStep.{direct_commits}
 use Rattle.rule_seq.specs.CglSteps.{Commits}
 use Rattle.stm_rule.specs.Kept.{good_of}
 use Rattle.stm_rule.proofs.stm.Stm.direct_commit.Given as goal

@@ -1,4 +1,4 @@
-use Rattle.stm_rule.specs.CoreRuns.CoreStep.{direct_loads}
+use Rattle.stm_rule.specs.Runs.CoreRuns.CoreStep.{direct_loads}
 use Rattle.rule_seq.specs.CglSteps.{Loads}
 use Rattle.stm_rule.specs.Kept.{address_of, good_of}
 use Rattle.stm_rule.proofs.stm.Stm.direct_load.Given as goal

@@ -1,4 +1,4 @@
-use Rattle.stm_rule.specs.CoreRuns.CoreStep.{fences}
+use Rattle.stm_rule.specs.Runs.CoreRuns.CoreStep.{fences}
 use Rattle.stm_rule.specs.FenceFindings.{FindsPast}
 use Rattle.stm_rule.specs.Kept.{good_of}
 use Rattle.stm_rule.proofs.stm.Stm.fence.Given as goal

@@ -1,4 +1,4 @@
-use Rattle.stm_rule.specs.CoreRuns.CoreStep.{fence_commits}
+use Rattle.stm_rule.specs.Runs.CoreRuns.CoreStep.{fence_commits}
 use Rattle.rule_base.specs.FenceSteps.{FenceCommits}
 use Rattle.stm_rule.specs.Kept.{good_of}
 use Rattle.stm_rule.proofs.stm.Stm.fence_commit.Given as goal

@@ -1,4 +1,4 @@
-use Rattle.stm_rule.specs.CoreRuns.CoreStep.{fence_loads}
+use Rattle.stm_rule.specs.Runs.CoreRuns.CoreStep.{fence_loads}
 use Rattle.rule_base.specs.FenceSteps.{FenceLoads}
 use Rattle.stm_rule.specs.Kept.{address_of}
 use Rattle.stm_rule.proofs.stm.Stm.fence_load.Given as goal

@@ -1,4 +1,4 @@
-use Rattle.stm_rule.specs.CoreRuns.CoreStep.{fence_stores}
+use Rattle.stm_rule.specs.Runs.CoreRuns.CoreStep.{fence_stores}
 use Rattle.rule_base.specs.StepKinds.{Nothing}
 use Rattle.stm_rule.specs.Kept.{address_of}
 use Rattle.stm_rule.proofs.stm.Stm.fence_store.Given as goal

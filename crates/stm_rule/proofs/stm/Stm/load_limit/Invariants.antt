@@ -1,5 +1,5 @@
 use Rattle.rule_seq.specs.CglRuns.CglStep.{loads_limit}
-use Rattle.stm_rule.specs.CoreRuns.CoreStep.{of_cgl}
+use Rattle.stm_rule.specs.Runs.CoreRuns.CoreStep.{of_cgl}
 use Rattle.rule_seq.specs.CglSteps.{LoadsLimit}
 use Rattle.stm_rule.proofs.stm.Stm.load_limit.Given as goal
 

@@ -1,4 +1,4 @@
-use Rattle.stm_rule.specs.CoreRuns.CoreStep.{seizes}
+use Rattle.stm_rule.specs.Runs.CoreRuns.CoreStep.{seizes}
 use Rattle.rule_base.specs.Encodings.{gate_word}
 use Rattle.stm_rule.specs.Findings.{FindsTaken}
 use Rattle.stm_rule.proofs.stm.Stm.seize.Given as goal

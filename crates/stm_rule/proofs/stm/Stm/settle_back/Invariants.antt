@@ -1,4 +1,4 @@
-use Rattle.stm_rule.specs.CoreRuns.CoreStep.{settles}
+use Rattle.stm_rule.specs.Runs.CoreRuns.CoreStep.{settles}
 use Rattle.stm_rule.specs.FenceFindings.{FindsEven}
 use Rattle.stm_rule.proofs.stm.Stm.settle_back.Given as goal
 

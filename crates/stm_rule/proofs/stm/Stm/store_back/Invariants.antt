@@ -1,5 +1,5 @@
 use Rattle.rule_seq.specs.CglRuns.CglStep.{stores_back}
-use Rattle.stm_rule.specs.CoreRuns.CoreStep.{of_cgl}
+use Rattle.stm_rule.specs.Runs.CoreRuns.CoreStep.{of_cgl}
 use Rattle.rule_base.specs.StepKinds.{Nothing}
 use Rattle.stm_rule.specs.Kept.{address_of}
 use Rattle.stm_rule.proofs.stm.Stm.store_back.Given as goal

@@ -1,5 +1,5 @@
 use Rattle.rule_seq.specs.TmlRuns.TmlStep.{tml_agains}
-use Rattle.stm_rule.specs.CoreRuns.CoreStep.{of_tml}
+use Rattle.stm_rule.specs.Runs.CoreRuns.CoreStep.{of_tml}
 use Rattle.stm_rule.specs.Findings.{FindsAgain}
 use Rattle.stm_rule.specs.Kept.{good_of}
 use Rattle.stm_rule.proofs.stm.Stm.tml_again.Given as goal

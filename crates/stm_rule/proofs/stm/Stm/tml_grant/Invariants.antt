@@ -1,4 +1,4 @@
-use Rattle.stm_rule.specs.CoreRuns.CoreStep.{grants}
+use Rattle.stm_rule.specs.Runs.CoreRuns.CoreStep.{grants}
 use Rattle.stm_rule.specs.Findings.{FindsSole}
 use Rattle.stm_rule.proofs.stm.Stm.tml_grant.Given as goal
 

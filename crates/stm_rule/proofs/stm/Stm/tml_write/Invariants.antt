@@ -1,5 +1,5 @@
 use Rattle.rule_seq.specs.TmlRuns.TmlStep.{tml_writes}
-use Rattle.stm_rule.specs.CoreRuns.CoreStep.{of_tml}
+use Rattle.stm_rule.specs.Runs.CoreRuns.CoreStep.{of_tml}
 use Rattle.stm_rule.specs.Findings.{FindsSole}
 use Rattle.stm_rule.proofs.stm.Stm.tml_write.Given as goal
 

@@ -1,4 +1,4 @@
-use Rattle.stm_rule.specs.CoreRuns.CoreStep.{unfences}
+use Rattle.stm_rule.specs.Runs.CoreRuns.CoreStep.{unfences}
 use Rattle.rule_base.specs.StepKinds.{Nothing}
 use Rattle.stm_rule.proofs.stm.Stm.unfence.Given as goal
 

@@ -2,7 +2,7 @@ use Rattle.std.proofs.Common.{◌≡◌, ◌∙◌, true, false, refl, sym, ap, 
 use Rattle.std.specs.Prelude.{is_none, Some}
 use Rattle.stm_model.specs.declared.alg.Alg.{Alg}
 use Rattle.tx_answers.specs.CallerStateLaws.{in-attempt, carries-wrote}
-use Rattle.rule_base.specs.EncodingLemmas.{fenced-none}
+use Rattle.rule_base.specs.Lemmas.EncodingLemmas.{fenced-none}
 use Rattle.rule_base.specs.Encodings.{fenced}
 use Rattle.stm_tx.specs.Descs.{known, number}
 use Rattle.stm_tx.proofs.Stopping.{write-alg, write-stopped, write-went, stops-quits, since-stopped, since-at, since-going}
