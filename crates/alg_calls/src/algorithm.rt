@@ -7,7 +7,7 @@ ghost use Rattle.stm_gate.specs.Knowing.{known, number};
 ghost use Rattle.stm_gate.specs.Starts.{CanBegin, Starts};
 ghost use Rattle.stm_rule.specs.Callers.{IsOf, IsSameCaller, IsSeatOf};
 ghost use Rattle.stm_rule.specs.Counting.{TakesAtMost};
-ghost use Rattle.stm_rule.specs.Kept.{IsSameSeat, view_of};
+ghost use Rattle.stm_rule.specs.Kept.{MovesView, view_of};
 ghost use Rattle.tx_answers.specs.Answers.{Cancels, Commits, HasRead, HasWritten, Irrevs, KeepsRule, Rolls};
 ghost use Rattle.tx_answers.specs.Counting.{AddsAtMost};
 ghost use Rattle.tx_answers.specs.CallerState.{IsRunning};
@@ -32,7 +32,7 @@ pub trait Algorithm {
         requires seat { IsSeatOf stm.now caller seat.old }
         requires caller { caller < stm.now.config.callers }
         requires view { CanBegin alg (view_of seat.old) }
-        ensures same { IsSameSeat seat.old seat.new × (seat.new.me.0 ≡ record seat.old.me.0 { view = view_of seat.new }) }
+        ensures same { MovesView seat.old seat.new }
         ensures begins { Starts (K.good stm.now.rule) stm.now.config caller alg result (view_of seat.old) (view_of seat.new) }
         ensures steps { TakesAtMost (begin_steps alg) (view_of seat.old) (view_of seat.new) };
 

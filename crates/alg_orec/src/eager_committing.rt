@@ -6,7 +6,7 @@ ghost use Rattle.stm_model.specs.declared.alg.Alg.TheVariants.{OrecEager};
 ghost use Rattle.stm_rule.specs.Attempts.{own_of, Stands};
 ghost use Rattle.stm_rule.specs.Callers.{IsOf, IsSameCaller, IsSeatOf};
 ghost use Rattle.stm_gate.specs.Knowing.{known, number};
-ghost use Rattle.stm_rule.specs.Kept.{IsSameSeat, view_of};
+ghost use Rattle.stm_rule.specs.Kept.{MovesView, view_of};
 ghost use Rattle.tx_answers.specs.Answers.{KeepsRule, Commits};
 ghost use Rattle.tx_answers.specs.CallerState.{known_of};
 ghost use Rattle.alg_orec.specs.EagerCommitting.{CanCommitPlaced, Revalidates, CanGiveDirect, CanGiveAbove, GivesAbove};
@@ -38,7 +38,7 @@ pub(crate) fn commit_placed<K: MemRule>(
     requires caller { caller < stm.now.config.callers }
     requires attempt { CanCommitPlaced (K.good stm.now.rule) stm.now.config caller local.old (view_of seat.old) }
     requires keeps { KeepsRule (K.good stm.now.rule) stm.now.config caller (known_of (view_of seat.old) (own_of local.old)) }
-    ensures same { IsSameSeat seat.old seat.new × (seat.new.me.0 ≡ record seat.old.me.0 { view = view_of seat.new }) }
+    ensures same { MovesView seat.old seat.new }
     ensures commits { Commits (K.good stm.now.rule) stm.now.config caller result (known_of (view_of seat.old) (own_of local.old)) (known_of (view_of seat.new) (own_of local.new)) }
     ensures stands { Stands (K.good stm.now.rule) stm.now.config caller local.new (view_of seat.new) }
     ensures steps { TakesAtMost (5 + local.old.reads.len + local.old.undo.len + length local.old.locks.items) (view_of seat.old) (view_of seat.new) }
@@ -78,7 +78,7 @@ fn revalidate<K: MemRule>(
     requires seat { IsSeatOf stm.now caller seat.old }
     requires caller { caller < stm.now.config.callers }
     requires attempt { CanCommitPlaced (K.good stm.now.rule) stm.now.config caller local.old (view_of seat.old) }
-    ensures same { IsSameSeat seat.old seat.new × (seat.new.me.0 ≡ record seat.old.me.0 { view = view_of seat.new }) }
+    ensures same { MovesView seat.old seat.new }
     ensures revalidates { Revalidates (K.good stm.now.rule) stm.now.config caller result local.old (view_of seat.old) local.new (view_of seat.new) }
     ensures steps { TakesAtMost (1 + local.old.reads.len) (view_of seat.old) (view_of seat.new) }
 {
@@ -125,7 +125,7 @@ fn give_above<K: MemRule>(seat: &mut Token<K>, local: &Local, stm: &Stm<K>, call
     requires seat { IsSeatOf stm.now caller seat.old }
     requires caller { caller < stm.now.config.callers }
     requires view { CanGiveAbove stm.now.config local.now (view_of seat.old) }
-    ensures same { IsSameSeat seat.old seat.new × (seat.new.me.0 ≡ record seat.old.me.0 { view = view_of seat.new }) }
+    ensures same { MovesView seat.old seat.new }
     ensures gives { GivesAbove (view_of seat.old) (view_of seat.new) }
     ensures steps { TakesAtMost (1 + length local.now.locks.items) (view_of seat.old) (view_of seat.new) }
 {
@@ -151,7 +151,7 @@ fn give_direct<K: MemRule>(
     requires seat { IsSeatOf stm.now caller seat.old }
     requires limit { time ≤ CLOCK_LIMIT }
     requires view { CanGiveDirect stm.now.config time local.now (view_of seat.old) }
-    ensures same { IsSameSeat seat.old seat.new × (seat.new.me.0 ≡ record seat.old.me.0 { view = view_of seat.new }) }
+    ensures same { MovesView seat.old seat.new }
     ensures releases { ReleasesAll (view_of seat.old) (view_of seat.new) }
     ensures steps { TakesAtMost (length local.now.locks.items) (view_of seat.old) (view_of seat.new) }
 {

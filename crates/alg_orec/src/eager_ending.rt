@@ -3,7 +3,7 @@ ghost use Rattle.stm_rule.specs.Counting.{TakesAtMost};
 ghost use Rattle.std.specs.Prelude.{length, ◌≡◌, ℕ, ◌<◌, ◌≤◌, false, ◌+◌};
 ghost use Rattle.stm_rule.specs.Attempts.{ended, IsFenceOf};
 ghost use Rattle.stm_rule.specs.Callers.{IsSeatOf};
-ghost use Rattle.stm_rule.specs.Kept.{IsSameSeat, view_of};
+ghost use Rattle.stm_rule.specs.Kept.{MovesView, view_of};
 ghost use Rattle.alg_orec.specs.EagerEnding.{CanRestoreAll, RestoresAll, IsNewest, CanReleaseAbove, CanGiveBack, GivesBack, CanAbortEager, AbortsEager};
 ghost use Rattle.alg_orec.specs.Locking.{ReleasesAll};
 
@@ -24,7 +24,7 @@ pub(crate) fn abort<K: MemRule>(seat: &mut Token<K>, local: &mut Local, stm: &St
     requires fence { IsFenceOf local.old (view_of seat.old) }
     requires holds { local.old.holds ≡ (view_of seat.old).gate.holds }
     requires named { local.old.algorithm ≡ (view_of seat.old).gate.algorithm }
-    ensures same { IsSameSeat seat.old seat.new × (seat.new.me.0 ≡ record seat.old.me.0 { view = view_of seat.new }) }
+    ensures same { MovesView seat.old seat.new }
     ensures aborts { AbortsEager caller (view_of seat.old) (view_of seat.new) }
     ensures idle { local.new ≡ ended (record local.old { committing = false }) }
     ensures steps { TakesAtMost (3 + local.old.undo.len + length local.old.locks.items) (view_of seat.old) (view_of seat.new) }
@@ -41,7 +41,7 @@ fn give_back<K: MemRule>(seat: &mut Token<K>, local: &Local, stm: &Stm<K>, calle
     requires seat { IsSeatOf stm.now caller seat.old }
     requires caller { caller < stm.now.config.callers }
     requires view { CanGiveBack stm.now.config local.now (view_of seat.old) }
-    ensures same { IsSameSeat seat.old seat.new × (seat.new.me.0 ≡ record seat.old.me.0 { view = view_of seat.new }) }
+    ensures same { MovesView seat.old seat.new }
     ensures gives_back { GivesBack (view_of seat.old) (view_of seat.new) }
     ensures steps { TakesAtMost (1 + local.now.undo.len + length local.now.locks.items) (view_of seat.old) (view_of seat.new) }
 {
@@ -58,7 +58,7 @@ fn give_back<K: MemRule>(seat: &mut Token<K>, local: &Local, stm: &Stm<K>, calle
 fn restore_all<K: MemRule>(seat: &mut Token<K>, local: &Local, stm: &Stm<K>, caller: usize)
     requires seat { IsSeatOf stm.now caller seat.old }
     requires view { CanRestoreAll stm.now.config local.now (view_of seat.old) }
-    ensures same { IsSameSeat seat.old seat.new × (seat.new.me.0 ≡ record seat.old.me.0 { view = view_of seat.new }) }
+    ensures same { MovesView seat.old seat.new }
     ensures restores { RestoresAll (view_of seat.old) (view_of seat.new) }
     ensures steps { TakesAtMost local.now.undo.len (view_of seat.old) (view_of seat.new) }
 {
@@ -84,7 +84,7 @@ pub(crate) fn newest(local: &Local) -> u64
 fn release_all_above<K: MemRule>(seat: &mut Token<K>, local: &Local, stm: &Stm<K>, caller: usize)
     requires seat { IsSeatOf stm.now caller seat.old }
     requires view { CanReleaseAbove stm.now.config local.now (view_of seat.old) }
-    ensures same { IsSameSeat seat.old seat.new × (seat.new.me.0 ≡ record seat.old.me.0 { view = view_of seat.new }) }
+    ensures same { MovesView seat.old seat.new }
     ensures releases { ReleasesAll (view_of seat.old) (view_of seat.new) }
     ensures steps { TakesAtMost (length local.now.locks.items) (view_of seat.old) (view_of seat.new) }
 {

@@ -7,7 +7,7 @@ ghost use Rattle.stm_rule.specs.Counting.{TakesAtMost};
 ghost use Rattle.std.specs.Prelude.{◌≡◌, ℕ, ◌≤◌, ◌-◌, false, length};
 ghost use Rattle.stm_model.specs.declared.alg.Alg.TheVariants.{OrecEager};
 ghost use Rattle.stm_rule.specs.Callers.{IsOf, IsSameCaller, IsSeatOf};
-ghost use Rattle.stm_rule.specs.Kept.{IsSameSeat, view_of};
+ghost use Rattle.stm_rule.specs.Kept.{MovesView, view_of};
 ghost use Rattle.tx_answers.specs.Answers.{Rolls};
 ghost use Rattle.tx_answers.specs.Counting.{AddsAtMost};
 ghost use Rattle.tx_answers.specs.CallerState.{IsRunning};
@@ -64,7 +64,7 @@ fn restore_after<K: MemRule>(
 )
     requires seat { IsSeatOf stm.now caller seat.old }
     requires behind { CanRestoreAfter stm.now.config.words undo.now.items writes.now.items (view_of seat.old) }
-    ensures same { IsSameSeat seat.old seat.new × (seat.new.me.0 ≡ record seat.old.me.0 { view = view_of seat.new }) }
+    ensures same { MovesView seat.old seat.new }
     ensures behind { RestoresAfter left writes.now.items (view_of seat.old) (view_of seat.new) }
     ensures steps { TakesAtMost (length writes.now.items - left) (view_of seat.old) (view_of seat.new) }
 {
@@ -82,7 +82,7 @@ fn restore_after<K: MemRule>(
 fn place_again<K: MemRule>(seat: &mut Token<K>, stm: &Stm<K>, caller: usize, writes: &WriteLog)
     requires seat { IsSeatOf stm.now caller seat.old }
     requires again { CanPlaceAgain stm.now.config.words writes.now.items (view_of seat.old) }
-    ensures same { IsSameSeat seat.old seat.new × (seat.new.me.0 ≡ record seat.old.me.0 { view = view_of seat.new }) }
+    ensures same { MovesView seat.old seat.new }
     ensures again { PlacesAgain writes.now.items (view_of seat.old) (view_of seat.new) }
     ensures steps { TakesAtMost (length writes.now.items) (view_of seat.old) (view_of seat.new) }
 {

@@ -2,7 +2,7 @@
 ghost use Rattle.stm_rule.specs.Counting.{TakesAtMost};
 ghost use Rattle.std.specs.Prelude.{◌≡◌, ℕ, ◌<◌, ◌+◌};
 ghost use Rattle.stm_rule.specs.Callers.{IsSeatOf};
-ghost use Rattle.stm_rule.specs.Kept.{IsSameSeat, good_of, view_of};
+ghost use Rattle.stm_rule.specs.Kept.{MovesView, good_of, view_of};
 ghost use Rattle.alg_orec.specs.EagerTaking.{CanTake, Takes, CanStoreFirst, StoresFirst};
 
 use crate::records::{held, record_of};
@@ -29,7 +29,7 @@ pub(crate) fn take_record<K: MemRule>(
     requires seat { IsSeatOf stm.now caller seat.old }
     requires caller { caller < stm.now.config.callers }
     requires view { CanTake stm.now.config a local.old (view_of seat.old) }
-    ensures same { IsSameSeat seat.old seat.new × (seat.new.me.0 ≡ record seat.old.me.0 { view = view_of seat.new }) }
+    ensures same { MovesView seat.old seat.new }
     ensures takes { Takes (good_of K.good stm.now.config stm.now.rule) stm.now.config caller a result local.old (view_of seat.old) local.new (view_of seat.new) }
     ensures steps { TakesAtMost (4 + local.old.reads.len) (view_of seat.old) (view_of seat.new) }
 {
@@ -73,7 +73,7 @@ pub(crate) fn store_first<K: MemRule>(
     requires seat { IsSeatOf stm.now caller seat.old }
     requires place { a < stm.now.config.words }
     requires view { CanStoreFirst stm.now.config a local.old (view_of seat.old) }
-    ensures same { IsSameSeat seat.old seat.new × (seat.new.me.0 ≡ record seat.old.me.0 { view = view_of seat.new }) }
+    ensures same { MovesView seat.old seat.new }
     ensures stores { StoresFirst a x local.old (view_of seat.old) local.new (view_of seat.new) }
     ensures steps { TakesAtMost 2 (view_of seat.old) (view_of seat.new) }
 {

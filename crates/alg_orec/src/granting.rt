@@ -1,7 +1,7 @@
 //! How an attempt of OrecLazy or of OrecEager that is alone is promoted.
 ghost use Rattle.std.specs.Prelude.{◌≡◌, ℕ, ◌<◌, ◌+◌, None, Some};
 ghost use Rattle.stm_rule.specs.Callers.{IsSeatOf};
-ghost use Rattle.stm_rule.specs.Kept.{IsSameSeat, view_of};
+ghost use Rattle.stm_rule.specs.Kept.{MovesView, view_of};
 ghost use Rattle.stm_rule.specs.Counting.{TakesAtMost};
 ghost use Rattle.alg_orec.specs.Granting.{CanPromote, Promotes};
 ghost use Rattle.alg_orec.specs.Validating.{IsLast};
@@ -27,7 +27,7 @@ pub(crate) fn grant_reads<K: MemRule>(
     requires seat { IsSeatOf stm.now caller seat.old }
     requires caller { caller < stm.now.config.callers }
     requires attempt { CanPromote stm.now.config caller local.old (view_of seat.old) }
-    ensures same { IsSameSeat seat.old seat.new × (seat.new.me.0 ≡ record seat.old.me.0 { view = view_of seat.new }) }
+    ensures same { MovesView seat.old seat.new }
     ensures promotes { Promotes (K.good stm.now.rule) stm.now.config caller result local.old (view_of seat.old) local.new (view_of seat.new) }
     ensures steps { TakesAtMost (2 + local.old.reads.len) (view_of seat.old) (view_of seat.new) }
 {
@@ -48,7 +48,7 @@ fn grant_none<K: MemRule>(
     requires caller { caller < stm.now.config.callers }
     requires attempt { CanPromote stm.now.config caller local.old (view_of seat.old) }
     requires none { IsLast stm.now.config.records None local.old }
-    ensures same { IsSameSeat seat.old seat.new × (seat.new.me.0 ≡ record seat.old.me.0 { view = view_of seat.new }) }
+    ensures same { MovesView seat.old seat.new }
     ensures promotes { Promotes (K.good stm.now.rule) stm.now.config caller result local.old (view_of seat.old) local.new (view_of seat.new) }
     ensures steps { TakesAtMost 1 (view_of seat.old) (view_of seat.new) }
 {
@@ -72,7 +72,7 @@ fn grant_valid<K: MemRule>(
     requires caller { caller < stm.now.config.callers }
     requires attempt { CanPromote stm.now.config caller local.old (view_of seat.old) }
     requires last { IsLast stm.now.config.records (Some i) local.old }
-    ensures same { IsSameSeat seat.old seat.new × (seat.new.me.0 ≡ record seat.old.me.0 { view = view_of seat.new }) }
+    ensures same { MovesView seat.old seat.new }
     ensures promotes { Promotes (K.good stm.now.rule) stm.now.config caller result local.old (view_of seat.old) local.new (view_of seat.new) }
     ensures steps { TakesAtMost (3 + i) (view_of seat.old) (view_of seat.new) }
 {

@@ -3,7 +3,7 @@ ghost use Rattle.stm_rule.specs.Counting.{TakesAtMost};
 ghost use Rattle.std.specs.Prelude.{◌≡◌, ℕ, ◌<◌, ◌≤◌, false, ◌+◌, ◌*◌, length};
 ghost use Rattle.stm_rule.specs.Attempts.{IsFenceOf, own_of, Stands, ended};
 ghost use Rattle.stm_rule.specs.Callers.{IsSeatOf};
-ghost use Rattle.stm_rule.specs.Kept.{IsSameSeat, view_of};
+ghost use Rattle.stm_rule.specs.Kept.{MovesView, view_of};
 ghost use Rattle.tx_answers.specs.Answers.{KeepsRule, Commits};
 ghost use Rattle.tx_answers.specs.CallerState.{known_of};
 ghost use Rattle.alg_orec.specs.Committing.{CanCommit, Prepares, CanFinish};
@@ -33,7 +33,7 @@ pub(crate) fn commit_writes<K: MemRule>(
     requires caller { caller < stm.now.config.callers }
     requires attempt { CanCommit (K.good stm.now.rule) stm.now.config caller local.old (view_of seat.old) }
     requires keeps { KeepsRule (K.good stm.now.rule) stm.now.config caller (known_of (view_of seat.old) (own_of local.old)) }
-    ensures same { IsSameSeat seat.old seat.new × (seat.new.me.0 ≡ record seat.old.me.0 { view = view_of seat.new }) }
+    ensures same { MovesView seat.old seat.new }
     ensures commits { Commits (K.good stm.now.rule) stm.now.config caller result (known_of (view_of seat.old) (own_of local.old)) (known_of (view_of seat.new) (own_of local.new)) }
     ensures stands { Stands (K.good stm.now.rule) stm.now.config caller local.new (view_of seat.new) }
     ensures steps { TakesAtMost (5 + local.old.reads.len + 4 * local.old.writes.len) (view_of seat.old) (view_of seat.new) }
@@ -72,7 +72,7 @@ fn prepare<K: MemRule>(
     requires seat { IsSeatOf stm.now caller seat.old }
     requires caller { caller < stm.now.config.callers }
     requires attempt { CanCommit (K.good stm.now.rule) stm.now.config caller local.old (view_of seat.old) }
-    ensures same { IsSameSeat seat.old seat.new × (seat.new.me.0 ≡ record seat.old.me.0 { view = view_of seat.new }) }
+    ensures same { MovesView seat.old seat.new }
     ensures prepares { Prepares (K.good stm.now.rule) stm.now.config caller result local.old (view_of seat.old) local.new (view_of seat.new) }
     ensures steps { TakesAtMost (1 + local.old.reads.len + 2 * local.old.writes.len) (view_of seat.old) (view_of seat.new) }
 {
@@ -99,7 +99,7 @@ fn finish<K: MemRule>(
     requires limit { time ≤ CLOCK_LIMIT }
     requires view { CanFinish stm.now.config time local.old (view_of seat.old) }
     requires fence { IsFenceOf local.old (view_of seat.old) }
-    ensures same { IsSameSeat seat.old seat.new × (seat.new.me.0 ≡ record seat.old.me.0 { view = view_of seat.new }) }
+    ensures same { MovesView seat.old seat.new }
     ensures finishes { GivesUp caller (view_of seat.old) (view_of seat.new) }
     ensures idle { local.new ≡ ended (record local.old { committing = false }) }
     ensures steps { TakesAtMost (2 + local.old.writes.len + length local.old.locks.items) (view_of seat.old) (view_of seat.new) }

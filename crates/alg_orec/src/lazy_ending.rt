@@ -3,7 +3,7 @@ ghost use Rattle.std.specs.Prelude.{◌≡◌, ℕ, ◌<◌, ◌+◌, length, fa
 ghost use Rattle.stm_rule.specs.Counting.{TakesAtMost};
 ghost use Rattle.stm_rule.specs.Attempts.{ended, IsFenceOf};
 ghost use Rattle.stm_rule.specs.Callers.{IsSeatOf};
-ghost use Rattle.stm_rule.specs.Kept.{IsSameSeat, view_of};
+ghost use Rattle.stm_rule.specs.Kept.{MovesView, view_of};
 ghost use Rattle.alg_orec.specs.Ending.{CanAbortLazy, GivesUp};
 
 use steps_orec::lazy::release_old;
@@ -23,7 +23,7 @@ pub(crate) fn abort<K: MemRule>(seat: &mut Token<K>, local: &mut Local, stm: &St
     requires fence { IsFenceOf local.old (view_of seat.old) }
     requires holds { local.old.holds ≡ (view_of seat.old).gate.holds }
     requires named { local.old.algorithm ≡ (view_of seat.old).gate.algorithm }
-    ensures same { IsSameSeat seat.old seat.new × (seat.new.me.0 ≡ record seat.old.me.0 { view = view_of seat.new }) }
+    ensures same { MovesView seat.old seat.new }
     ensures gives_up { GivesUp caller (view_of seat.old) (view_of seat.new) }
     ensures idle { local.new ≡ ended (record local.old { committing = false }) }
     ensures steps { TakesAtMost (2 + length local.old.locks.items) (view_of seat.old) (view_of seat.new) }

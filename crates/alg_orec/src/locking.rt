@@ -3,7 +3,7 @@ ghost use Rattle.stm_rule.specs.Counting.{TakesAtMost};
 ghost use Rattle.std.specs.Prelude.{◌≡◌, ℕ, ◌<◌, ◌≤◌, ◌+◌, length, None, ◌*◌, ◌%◌};
 ghost use Rattle.stm_model.specs.Memories.{item_at};
 ghost use Rattle.stm_rule.specs.Callers.{IsSeatOf};
-ghost use Rattle.stm_rule.specs.Kept.{IsSameSeat, view_of};
+ghost use Rattle.stm_rule.specs.Kept.{MovesView, view_of};
 ghost use Rattle.alg_orec.specs.Locking.{CanLock, CanLockAll, LocksOne, LocksAll, Owes, OwesNothing, Pays, ReleasesAll};
 
 use crate::records::{held, record_of};
@@ -26,7 +26,7 @@ pub(crate) fn lock_all<K: MemRule>(
     requires seat { IsSeatOf stm.now caller seat.old }
     requires caller { caller < stm.now.config.callers }
     requires view { CanLockAll stm.now.config local.old (view_of seat.old) }
-    ensures same { IsSameSeat seat.old seat.new × (seat.new.me.0 ≡ record seat.old.me.0 { view = view_of seat.new }) }
+    ensures same { MovesView seat.old seat.new }
     ensures locks { LocksAll stm.now.config caller result local.old (view_of seat.old) local.new (view_of seat.new) }
     ensures steps { TakesAtMost (2 * local.old.writes.len) (view_of seat.old) (view_of seat.new) }
 {
@@ -56,7 +56,7 @@ fn lock_record_of<K: MemRule>(
     requires view { CanLock local.old (view_of seat.old) }
     requires new { item_at (a % stm.now.config.records) local.old.locks.items ≡ None }
     requires room { length local.old.locks.items < local.old.locks.len }
-    ensures same { IsSameSeat seat.old seat.new × (seat.new.me.0 ≡ record seat.old.me.0 { view = view_of seat.new }) }
+    ensures same { MovesView seat.old seat.new }
     ensures locks { LocksOne stm.now.config caller (a % stm.now.config.records) result local.old (view_of seat.old) local.new (view_of seat.new) }
     ensures steps { TakesAtMost 2 (view_of seat.old) (view_of seat.new) }
 {
@@ -79,7 +79,7 @@ fn lock_record<K: MemRule>(
     requires view { CanLock local.old (view_of seat.old) }
     requires new { item_at r local.old.locks.items ≡ None }
     requires room { length local.old.locks.items < local.old.locks.len }
-    ensures same { IsSameSeat seat.old seat.new × (seat.new.me.0 ≡ record seat.old.me.0 { view = view_of seat.new }) }
+    ensures same { MovesView seat.old seat.new }
     ensures locks { LocksOne stm.now.config caller r result local.old (view_of seat.old) local.new (view_of seat.new) }
     ensures steps { TakesAtMost (2) (view_of seat.old) (view_of seat.new) }
 {
@@ -113,7 +113,7 @@ pub(crate) fn write_back_all<K: MemRule>(
 )
     requires seat { IsSeatOf stm.now caller seat.old }
     requires view { Owes stm.now.config.words local.now (view_of seat.old) }
-    ensures same { IsSameSeat seat.old seat.new × (seat.new.me.0 ≡ record seat.old.me.0 { view = view_of seat.new }) }
+    ensures same { MovesView seat.old seat.new }
     ensures pays { Pays (view_of seat.old) (view_of seat.new) }
     ensures steps { TakesAtMost local.now.writes.len (view_of seat.old) (view_of seat.new) }
 {
@@ -134,7 +134,7 @@ pub(crate) fn release_all<K: MemRule>(
     requires seat { IsSeatOf stm.now caller seat.old }
     requires limit { time ≤ CLOCK_LIMIT }
     requires view { OwesNothing stm.now.config time local.now (view_of seat.old) }
-    ensures same { IsSameSeat seat.old seat.new × (seat.new.me.0 ≡ record seat.old.me.0 { view = view_of seat.new }) }
+    ensures same { MovesView seat.old seat.new }
     ensures releases { ReleasesAll (view_of seat.old) (view_of seat.new) }
     ensures steps { TakesAtMost (length local.now.locks.items) (view_of seat.old) (view_of seat.new) }
 {

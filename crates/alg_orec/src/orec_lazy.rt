@@ -11,7 +11,7 @@ ghost use Rattle.stm_rule.specs.Counting.{TakesAtMost};
 ghost use Rattle.tx_answers.specs.Counting.{AddsAtMost};
 ghost use Rattle.stm_model.specs.Memories.{item_at};
 ghost use Rattle.stm_rule.specs.Callers.{IsOf, IsSameCaller, IsSeatOf};
-ghost use Rattle.stm_rule.specs.Kept.{IsSameSeat, good_of, view_of};
+ghost use Rattle.stm_rule.specs.Kept.{MovesView, good_of, view_of};
 ghost use Rattle.tx_answers.specs.Answers.{HasRead};
 ghost use Rattle.tx_answers.specs.CallerState.{IsRunning};
 ghost use Rattle.rule_base.specs.Encodings.{fenced};
@@ -185,7 +185,7 @@ fn load_valid<K: MemRule>(
     requires caller { caller < stm.now.config.callers }
     requires view { CanLoadValid stm.now.config a local.old (view_of seat.old) }
     requires spared { fenced (view_of seat.old).gate.fence a ≡ false }
-    ensures same { IsSameSeat seat.old seat.new × (seat.new.me.0 ≡ record seat.old.me.0 { view = view_of seat.new }) }
+    ensures same { MovesView seat.old seat.new }
     ensures loads { LoadsValid (good_of K.good stm.now.config stm.now.rule) stm.now.config caller a result local.old (view_of seat.old) local.new (view_of seat.new) }
     ensures steps { TakesAtMost (4 + local.old.reads.len) (view_of seat.old) (view_of seat.new) }
 {

@@ -2,7 +2,7 @@
 //! and Fetzer, "A Lazy Snapshot Algorithm with Eager Validation", 2006).
 ghost use Rattle.std.specs.Prelude.{◌≡◌, ℕ, ◌+◌, ◌%◌, ◌<◌, ◌≤◌, length, IfSome};
 ghost use Rattle.stm_rule.specs.Callers.{IsSeatOf};
-ghost use Rattle.stm_rule.specs.Kept.{IsSameSeat, good_of, view_of};
+ghost use Rattle.stm_rule.specs.Kept.{MovesView, good_of, view_of};
 ghost use Rattle.stm_rule.specs.Counting.{TakesAtMost};
 ghost use Rattle.alg_orec.specs.Validating.{HasVersions, MustLoad, IsLast, CanValidate, Judges, Passes, Validates};
 
@@ -27,7 +27,7 @@ pub(crate) fn validate<K: MemRule>(
     requires seat { IsSeatOf stm.now caller seat.old }
     requires view { CanValidate stm.now.config local.old (view_of seat.old) }
     requires caller { caller < stm.now.config.callers }
-    ensures same { IsSameSeat seat.old seat.new × (seat.new.me.0 ≡ record seat.old.me.0 { view = view_of seat.new }) }
+    ensures same { MovesView seat.old seat.new }
     ensures validates { Validates stm.now.config caller (good_of K.good stm.now.config stm.now.rule) result local.old (view_of seat.old) local.new (view_of seat.new) }
     ensures steps { TakesAtMost (1 + local.old.reads.len) (view_of seat.old) (view_of seat.new) }
 {
@@ -48,7 +48,7 @@ fn validate_reads<K: MemRule>(
     requires seat { IsSeatOf stm.now caller seat.old }
     requires view { CanValidate stm.now.config local.old (view_of seat.old) }
     requires caller { caller < stm.now.config.callers }
-    ensures same { IsSameSeat seat.old seat.new × (seat.new.me.0 ≡ record seat.old.me.0 { view = view_of seat.new }) }
+    ensures same { MovesView seat.old seat.new }
     ensures validates { Validates stm.now.config caller (good_of K.good stm.now.config stm.now.rule) result local.old (view_of seat.old) local.new (view_of seat.new) }
     ensures steps { TakesAtMost (1 + local.old.reads.len) (view_of seat.old) (view_of seat.new) }
 {
@@ -98,7 +98,7 @@ pub(crate) fn pass_before<K: MemRule>(
     requires caller { caller < stm.now.config.callers }
     requires view { CanValidate stm.now.config local.now (view_of seat.old) }
     requires last { last ≤ length local.now.reads.items }
-    ensures same { IsSameSeat seat.old seat.new × (seat.new.me.0 ≡ record seat.old.me.0 { view = view_of seat.new }) }
+    ensures same { MovesView seat.old seat.new }
     ensures passes { Passes stm.now.config caller 0 last result local.now (view_of seat.old) (view_of seat.new) }
     ensures steps { TakesAtMost last (view_of seat.old) (view_of seat.new) }
 {
@@ -120,7 +120,7 @@ fn pass_read<K: MemRule>(
     requires caller { caller < stm.now.config.callers }
     requires view { CanValidate stm.now.config local.now (view_of seat.old) }
     requires place { i < length local.now.reads.items }
-    ensures same { IsSameSeat seat.old seat.new × (seat.new.me.0 ≡ record seat.old.me.0 { view = view_of seat.new }) }
+    ensures same { MovesView seat.old seat.new }
     ensures passes { Passes stm.now.config caller i (i + 1) result local.now (view_of seat.old) (view_of seat.new) }
     ensures steps { TakesAtMost 1 (view_of seat.old) (view_of seat.new) }
 {

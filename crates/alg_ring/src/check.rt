@@ -3,7 +3,7 @@ ghost use Rattle.std.specs.Prelude.{◌≡◌, ◌≢◌, ℕ, ◌<◌, ◌+◌,
 ghost use Rattle.stm_rule.specs.Counting.{TakesAtMost};
 ghost use Rattle.alg_ring.specs.Checking.{CanScan, CanLoadSlot, LoadsPart, MeetsSlot, MeetsOne, Scans, Checks, ChecksOn, CanCheck, ChecksToGrant, CanCheckToGrant};
 ghost use Rattle.stm_rule.specs.Callers.{IsSeatOf};
-ghost use Rattle.stm_rule.specs.Kept.{IsSameSeat, view_of};
+ghost use Rattle.stm_rule.specs.Kept.{MovesView, view_of};
 
 use steps_ring::promoting::{advance_grant, look_grant};
 use steps_ring::reading::{advance, again, first_word, look, word};
@@ -24,7 +24,7 @@ pub(crate) fn check<K: MemRule>(
 ) -> Result<u64, Cause>
     requires seat { IsSeatOf stm.now caller seat.old }
     requires view { CanCheck stm.now.config start filter.now (view_of seat.old) }
-    ensures same { IsSameSeat seat.old seat.new × (seat.new.me.0 ≡ record seat.old.me.0 { view = view_of seat.new }) }
+    ensures same { MovesView seat.old seat.new }
     ensures checks { Checks (K.good stm.now.rule) stm.now.config result filter.now (view_of seat.old) (view_of seat.new) }
     ensures steps { TakesAtMost (3 + 16 * (stm.now.config.ring - 1)) (view_of seat.old) (view_of seat.new) }
 {
@@ -49,7 +49,7 @@ pub(crate) fn catch_up<K: MemRule>(
     requires seat { IsSeatOf stm.now caller seat.old }
     requires apart { clock ≢ start }
     requires view { CanScan start clock filter.now (view_of seat.old) }
-    ensures same { IsSameSeat seat.old seat.new × (seat.new.me.0 ≡ record seat.old.me.0 { view = view_of seat.new }) }
+    ensures same { MovesView seat.old seat.new }
     ensures checks { ChecksOn (K.good stm.now.rule) stm.now.config start clock result filter.now (view_of seat.old) (view_of seat.new) }
     ensures steps { TakesAtMost (2 + 16 * (stm.now.config.ring - 1)) (view_of seat.old) (view_of seat.new) }
 {
@@ -72,7 +72,7 @@ pub(crate) fn check_to_grant<K: MemRule>(
 ) -> Result<u64, Cause>
     requires seat { IsSeatOf stm.now caller seat.old }
     requires view { CanCheckToGrant stm.now.config start filter.now (view_of seat.old) }
-    ensures same { IsSameSeat seat.old seat.new × (seat.new.me.0 ≡ record seat.old.me.0 { view = view_of seat.new }) }
+    ensures same { MovesView seat.old seat.new }
     ensures checks { ChecksToGrant (K.good stm.now.rule) stm.now.config result filter.now (view_of seat.old) (view_of seat.new) }
     ensures steps { TakesAtMost (3 + 16 * (stm.now.config.ring - 1)) (view_of seat.old) (view_of seat.new) }
 {
@@ -110,7 +110,7 @@ fn scan<K: MemRule>(
 ) -> Result<(), Cause>
     requires seat { IsSeatOf stm.now caller seat.old }
     requires view { CanScan start clock filter.now (view_of seat.old) }
-    ensures same { IsSameSeat seat.old seat.new × (seat.new.me.0 ≡ record seat.old.me.0 { view = view_of seat.new }) }
+    ensures same { MovesView seat.old seat.new }
     ensures scans { Scans stm.now.config start clock result filter.now (view_of seat.old) (view_of seat.new) }
     ensures steps { TakesAtMost (1 + 16 * (stm.now.config.ring - 1)) (view_of seat.old) (view_of seat.new) }
 {
@@ -144,7 +144,7 @@ fn first_met<K: MemRule>(
     requires seat { IsSeatOf stm.now caller seat.old }
     requires view { CanScan start clock filter.now (view_of seat.old) }
     requires near { clock < start + stm.now.config.ring }
-    ensures same { IsSameSeat seat.old seat.new × (seat.new.me.0 ≡ record seat.old.me.0 { view = view_of seat.new }) }
+    ensures same { MovesView seat.old seat.new }
     ensures meets { MeetsOne stm.now.config start clock result filter.now (view_of seat.old) (view_of seat.new) }
     ensures steps { TakesAtMost (16 * (clock - start)) (view_of seat.old) (view_of seat.new) }
 {
@@ -169,7 +169,7 @@ fn slot_bits<K: MemRule>(
 ) -> u64
     requires seat { IsSeatOf stm.now caller seat.old }
     requires view { CanLoadSlot stm.now.config.ring time (view_of seat.old) }
-    ensures same { IsSameSeat seat.old seat.new × (seat.new.me.0 ≡ record seat.old.me.0 { view = view_of seat.new }) }
+    ensures same { MovesView seat.old seat.new }
     ensures meets { MeetsSlot stm.now.config.ring time filter.now result (view_of seat.old) (view_of seat.new) }
     ensures steps { TakesAtMost 16 (view_of seat.old) (view_of seat.new) }
 {
@@ -198,7 +198,7 @@ fn part_bits<K: MemRule>(
     requires seat { IsSeatOf stm.now caller seat.old }
     requires view { CanLoadSlot stm.now.config.ring time (view_of seat.old) }
     requires part { part < 4 }
-    ensures same { IsSameSeat seat.old seat.new × (seat.new.me.0 ≡ record seat.old.me.0 { view = view_of seat.new }) }
+    ensures same { MovesView seat.old seat.new }
     ensures loads { LoadsPart stm.now.config.ring time filter.now part result (view_of seat.old) (view_of seat.new) }
     ensures steps { TakesAtMost 4 (view_of seat.old) (view_of seat.new) }
 {

@@ -12,7 +12,7 @@ ghost use Rattle.rule_base.specs.History.{Inside};
 ghost use Rattle.stm_model.specs.Memories.{item_at};
 ghost use Rattle.stm_rule.specs.Attempts.{IsInside};
 ghost use Rattle.stm_rule.specs.Callers.{IsOf, IsSameCaller, IsSeatOf};
-ghost use Rattle.stm_rule.specs.Kept.{IsSameSeat, view_of};
+ghost use Rattle.stm_rule.specs.Kept.{MovesView, view_of};
 ghost use Rattle.stm_rule.specs.RecordsKept.{Apart, cells_of};
 ghost use Rattle.tx_answers.specs.Answers.{Commits};
 ghost use Rattle.tx_answers.specs.CallerState.{IsRunning, is_irrevocable};
@@ -154,7 +154,7 @@ fn load_new<K: MemRule>(
     requires inside { a < stm.now.config.words }
     requires spared { fenced (view_of seat.old).gate.fence a ≡ false }
     requires fresh { item_at a local.old.writes.items ≡ None }
-    ensures same { IsSameSeat seat.old seat.new × (seat.new.me.0 ≡ record seat.old.me.0 { view = view_of seat.new }) }
+    ensures same { MovesView seat.old seat.new }
     ensures loads { LoadsNew (K.good stm.now.rule) stm.now.config caller.now a result local.old (view_of seat.old) local.new (view_of seat.new) }
     ensures steps { TakesAtMost (6 + 16 * (stm.now.config.ring - 1)) (view_of seat.old) (view_of seat.new) }
 {
@@ -187,7 +187,7 @@ fn commit_writes<K: MemRule>(
     requires seat { IsSeatOf stm.now caller seat.old }
     requires caller { caller < stm.now.config.callers }
     requires wrote { HasWrites (K.good stm.now.rule) stm.now.config caller local.old (view_of seat.old) }
-    ensures same { IsSameSeat seat.old seat.new × (seat.new.me.0 ≡ record seat.old.me.0 { view = view_of seat.new }) }
+    ensures same { MovesView seat.old seat.new }
     ensures commits { StandsTold (K.good stm.now.rule) stm.now.config caller (Commits (K.good stm.now.rule) stm.now.config caller result) local.old (view_of seat.old) local.new (view_of seat.new) }
     ensures steps { TakesAtMost (26 + local.old.writes.len + 16 * (stm.now.config.ring - 1)) (view_of seat.old) (view_of seat.new) }
 {
@@ -208,7 +208,7 @@ pub fn turn<K: MemRule>(
     requires seat { IsSeatOf stm.now caller seat.old }
     requires caller { caller < stm.now.config.callers }
     requires wrote { HasWrites (K.good stm.now.rule) stm.now.config caller local.old (view_of seat.old) }
-    ensures same { IsSameSeat seat.old seat.new × (seat.new.me.0 ≡ record seat.old.me.0 { view = view_of seat.new }) }
+    ensures same { MovesView seat.old seat.new }
     ensures turns { Turns (K.good stm.now.rule) stm.now.config caller result local.old (view_of seat.old) local.new (view_of seat.new) }
     ensures steps { TakesAtMost 1 (view_of seat.old) (view_of seat.new) }
 {
@@ -236,7 +236,7 @@ pub fn finish<K: MemRule>(
     requires seat { IsSeatOf stm.now caller seat.old }
     requires caller { caller < stm.now.config.callers }
     requires turn { CanFinish (K.good stm.now.rule) stm.now.config caller local.old (view_of seat.old) }
-    ensures same { IsSameSeat seat.old seat.new × (seat.new.me.0 ≡ record seat.old.me.0 { view = view_of seat.new }) }
+    ensures same { MovesView seat.old seat.new }
     ensures finishes { Finishes (K.good stm.now.rule) stm.now.config caller result local.old (view_of seat.old) local.new (view_of seat.new) }
     ensures steps { TakesAtMost (25 + local.old.writes.len + 16 * (stm.now.config.ring - 1)) (view_of seat.old) (view_of seat.new) }
 {
@@ -257,7 +257,7 @@ fn commit_locked<K: MemRule>(
     requires seat { IsSeatOf stm.now caller seat.old }
     requires caller { caller < stm.now.config.callers }
     requires turn { CanFinish (K.good stm.now.rule) stm.now.config caller local.now (view_of seat.old) }
-    ensures same { IsSameSeat seat.old seat.new × (seat.new.me.0 ≡ record seat.old.me.0 { view = view_of seat.new }) }
+    ensures same { MovesView seat.old seat.new }
     ensures decides { Decides (K.good stm.now.rule) stm.now.config caller result local.now (view_of seat.old) (view_of seat.new) }
     ensures steps { TakesAtMost (22 + local.now.writes.len + 16 * (stm.now.config.ring - 1)) (view_of seat.old) (view_of seat.new) }
 {
@@ -280,7 +280,7 @@ fn enter<K: MemRule>(seat: &mut Token<K>, local: &Local, stm: &Stm<K>, caller: u
     requires seat { IsSeatOf stm.now caller seat.old }
     requires caller { caller < stm.now.config.callers }
     requires enter { CanEnter (K.good stm.now.rule) stm.now.config time local.now (view_of seat.old) }
-    ensures same { IsSameSeat seat.old seat.new × (seat.new.me.0 ≡ record seat.old.me.0 { view = view_of seat.new }) }
+    ensures same { MovesView seat.old seat.new }
     ensures enters { Enters (K.good stm.now.rule) stm.now.config caller time local.now (view_of seat.old) (view_of seat.new) }
     ensures steps { TakesAtMost 17 (view_of seat.old) (view_of seat.new) }
 {
@@ -304,7 +304,7 @@ fn enter<K: MemRule>(seat: &mut Token<K>, local: &Local, stm: &Stm<K>, caller: u
 fn write_back<K: MemRule>(seat: &mut Token<K>, writes: &WriteLog, stm: &Stm<K>, caller: usize)
     requires seat { IsSeatOf stm.now caller seat.old }
     requires back { CanWriteBack stm.now.config writes.now (view_of seat.old) }
-    ensures same { IsSameSeat seat.old seat.new × (seat.new.me.0 ≡ record seat.old.me.0 { view = view_of seat.new }) }
+    ensures same { MovesView seat.old seat.new }
     ensures back { WritesBack (view_of seat.old) (view_of seat.new) }
     ensures steps { TakesAtMost writes.now.len (view_of seat.old) (view_of seat.new) }
 {
@@ -357,7 +357,7 @@ fn store_all<K: MemRule>(seat: &mut Token<K>, writes: &WriteLog, stm: &Stm<K>, c
     requires granted { (view_of seat.old).gate.granted ≡ true }
     requires inside { Inside stm.now.config.words (cells_of writes.now.items) }
     requires spared { Apart (view_of seat.old).gate.fence (cells_of writes.now.items) }
-    ensures same { IsSameSeat seat.old seat.new × (seat.new.me.0 ≡ record seat.old.me.0 { view = view_of seat.new }) }
+    ensures same { MovesView seat.old seat.new }
     ensures stores { Stores writes.now (view_of seat.old) (view_of seat.new) }
     ensures steps { TakesAtMost writes.now.len (view_of seat.old) (view_of seat.new) }
 {

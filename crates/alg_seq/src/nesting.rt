@@ -6,7 +6,7 @@ ghost use Rattle.tx_answers.specs.Counting.{AddsAtMost};
 ghost use Rattle.std.specs.Prelude.{◌≡◌, ℕ, ◌≤◌, ◌-◌, false, length};
 ghost use Rattle.stm_model.specs.declared.alg.Alg.TheVariants.{Serial};
 ghost use Rattle.stm_rule.specs.Callers.{IsOf, IsSameCaller, IsSeatOf};
-ghost use Rattle.stm_rule.specs.Kept.{IsSameSeat, view_of};
+ghost use Rattle.stm_rule.specs.Kept.{MovesView, view_of};
 ghost use Rattle.tx_answers.specs.Answers.{Rolls};
 ghost use Rattle.tx_answers.specs.CallerState.{IsRunning, is_irrevocable};
 ghost use Rattle.stm_gate.specs.Knowing.{known, number};
@@ -60,7 +60,7 @@ pub fn store_back<K: MemRule>(
 )
     requires seat { IsSeatOf stm.now caller seat.old }
     requires olds { HasOlds stm.now.config.words undo.now.items writes.now.items (view_of seat.old) }
-    ensures same { IsSameSeat seat.old seat.new × (seat.new.me.0 ≡ record seat.old.me.0 { view = view_of seat.new }) }
+    ensures same { MovesView seat.old seat.new }
     ensures back { IsStoredBack left (view_of seat.old) (view_of seat.new) }
     ensures steps { TakesAtMost (length writes.now.items - left) (view_of seat.old) (view_of seat.new) }
 {
@@ -78,7 +78,7 @@ pub fn store_back<K: MemRule>(
 fn store_again<K: MemRule>(seat: &mut Token<K>, stm: &Stm<K>, caller: usize, writes: &WriteLog)
     requires seat { IsSeatOf stm.now caller seat.old }
     requires again { CanStoreAgain stm.now.config.words writes.now.items (view_of seat.old) }
-    ensures same { IsSameSeat seat.old seat.new × (seat.new.me.0 ≡ record seat.old.me.0 { view = view_of seat.new }) }
+    ensures same { MovesView seat.old seat.new }
     ensures again { IsStoredAgain writes.now.items (view_of seat.old) (view_of seat.new) }
     ensures steps { TakesAtMost (length writes.now.items) (view_of seat.old) (view_of seat.new) }
 {

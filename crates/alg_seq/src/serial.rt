@@ -7,7 +7,7 @@ ghost use Rattle.stm_rule.specs.Counting.{TakesAtMost};
 ghost use Rattle.std.specs.Prelude.{◌≡◌, ℕ, ◌<◌, ◌≤◌, MatchResult, true, false, ◌+◌};
 ghost use Rattle.stm_rule.specs.Attempts.{IsInside, ended};
 ghost use Rattle.stm_rule.specs.Callers.{IsSeatOf};
-ghost use Rattle.stm_rule.specs.Kept.{IsSameSeat, view_of};
+ghost use Rattle.stm_rule.specs.Kept.{MovesView, view_of};
 ghost use Rattle.rule_base.specs.Encodings.{fenced};
 ghost use Rattle.alg_seq.specs.Storing.{GivesUp, KeepsOld, HasClock, HasLogged, HasPlace};
 
@@ -134,7 +134,7 @@ fn keep_old<K: MemRule>(
     requires free { (local.old.holds ≡ false) × ((view_of seat.old).gate.holds ≡ false) }
     requires inside { a < stm.now.config.words }
     requires spared { fenced (view_of seat.old).gate.fence a ≡ false }
-    ensures same { IsSameSeat seat.old seat.new × (seat.new.me.0 ≡ record seat.old.me.0 { view = view_of seat.new }) }
+    ensures same { MovesView seat.old seat.new }
     ensures keeps { KeepsOld (K.good stm.now.rule) stm.now.config caller a x result local.old (view_of seat.old) local.new (view_of seat.new) }
     ensures steps { MatchResult result (λ _. TakesAtMost 2 (view_of seat.old) (view_of seat.new)) (λ _. TakesAtMost (4 + local.old.undo.len) (view_of seat.old) (view_of seat.new)) }
 {
@@ -173,7 +173,7 @@ fn below_limit<K: MemRule>(
     requires seat { IsSeatOf stm.now caller seat.old }
     requires attempt { IsInside (K.good stm.now.rule) stm.now.config caller local.now (view_of seat.old) }
     requires serial { local.now.algorithm ≡ Alg.Serial }
-    ensures same { IsSameSeat seat.old seat.new × (seat.new.me.0 ≡ record seat.old.me.0 { view = view_of seat.new }) }
+    ensures same { MovesView seat.old seat.new }
     ensures below { HasClock result local.now (view_of seat.old) (view_of seat.new) }
     ensures steps { TakesAtMost 1 (view_of seat.old) (view_of seat.new) }
 {
@@ -205,7 +205,7 @@ fn log_old<K: MemRule>(
     requires place { HasPlace true a local.old.undo }
     requires inside { a < stm.now.config.words }
     requires spared { fenced (view_of seat.old).gate.fence a ≡ false }
-    ensures same { IsSameSeat seat.old seat.new × (seat.new.me.0 ≡ record seat.old.me.0 { view = view_of seat.new }) }
+    ensures same { MovesView seat.old seat.new }
     ensures logs { HasLogged stm.now.config.words a x local.old (view_of seat.old) local.new (view_of seat.new) }
     ensures steps { TakesAtMost 1 (view_of seat.old) (view_of seat.new) }
 {
@@ -226,7 +226,7 @@ fn abort<K: MemRule>(seat: &mut Token<K>, local: &mut Local, stm: &Stm<K>, calle
     requires attempt { IsInside (K.good stm.now.rule) stm.now.config caller local.old (view_of seat.old) }
     requires serial { (local.old.algorithm ≡ Alg.Serial) × (local.old.granted ≡ false) }
     requires free { (local.old.holds ≡ false) × ((view_of seat.old).gate.holds ≡ false) }
-    ensures same { IsSameSeat seat.old seat.new × (seat.new.me.0 ≡ record seat.old.me.0 { view = view_of seat.new }) }
+    ensures same { MovesView seat.old seat.new }
     ensures ended { local.new ≡ ended local.old }
     ensures gives_up { GivesUp caller (view_of seat.old) (view_of seat.new) }
     ensures steps { TakesAtMost (2 + local.old.undo.len) (view_of seat.old) (view_of seat.new) }
