@@ -32,8 +32,7 @@ impl Transaction<Bank> for Open {
     ghost postcondition = { λ it bank words opened log. DoesOver IsBalanced words opened_in nothing opened log };
 
     fn run<A: Access>(&self, _: &Bank, memory: &mut A) -> Result<bool, Stop> {
-        let (paid, _) = read_two(memory, 8, 0)?;
-        if paid != 0 {
+        if memory.read(8)? != 0 {
             return Ok(false);
         }
         write_two(memory, (8, 8_000), (0, 8_000))?;
