@@ -41,5 +41,5 @@ returns-in-Some-Added-clause-gave g c =
     let u = known c.loop.caller.desc in
     let w = known c.run.new.self.desc in
     let came = subst (λ (r : Put). TookEffect (IsQueue q) s.config n (λ log. DoesOver (IsQueue q) s.config.words (put_in q c.args.job) no_log r log) u.front u w) c.in-Some-Added.field-0-is c.in-Some-Added.ensures.took in
-    let did = subst (λ b. HasDone q s.config.words (c.args.job ∷ []) [] b w.made) c.loop.invariant.made (gave q s.config n u w c.args.job c.ranges.job.precondition came) in
+    let did = subst (λ b. HasDone q s.config.words (c.args.job ∷ []) [] b w.made) c.loop.invariant.made (gave q s.config n u w c.args.job c.ranges.job.fits came) in
     rw c.loop.invariant.same at did
