@@ -4,5 +4,4 @@ pub mod Giving
 pub mod Held
 pub mod NoteExchanges
 pub mod Newcomers
-pub mod Reach
 pub mod Refused

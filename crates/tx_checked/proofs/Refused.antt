@@ -1,5 +1,5 @@
 -- Where a caller stands after a refusal, and what the refusals of one call are to another.
-use Rattle.std.proofs.Common.{ℕ, ◌≡◌, Bool, refl, subst}
+use Rattle.std.proofs.Common.{ℕ, ◌≡◌, Bool, subst}
 use Rattle.stm_model.specs.declared.config.Config.{Config}
 use Rattle.tx_answers.specs.declared.answers.Give.{Give}
 use Rattle.tx_answers.specs.declared.answers.Give.TheVariants as gives
@@ -13,24 +13,11 @@ use Rattle.tx_checked.specs.declared.refusal.Refusal.TheVariants as refusals
 use Rattle.tx_checked.specs.declared.phase.CallerPhase.TheVariants.{Idle, Running, Beside, Committing, Closing}
 use Rattle.tx_checked.specs.Alone.{IsAlone, IsHeldUp, IsTakeRefused, FindsTaken, FindsFullAt}
 use Rattle.tx_checked.specs.Errands.{phase_after}
-use Rattle.tx_checked.specs.Phases.{Any, IsInPhase, reach_at}
+use Rattle.tx_checked.specs.Phases.{Any, IsInPhase}
 use Rattle.tx_checked.proofs.Held.{idle-in_phase}
 
 pub closing-in_phase : (errand : Errand) (v : CallerState) → HoldsClosed v → IsInPhase (Closing errand) v
 closing-in_phase errand v h = (λ e. absurd (let no : Closing errand ≡ Idle = e in cc), λ e. absurd (let no : Closing errand ≡ Running = e in cc), λ e. absurd (let no : Closing errand ≡ Beside = e in cc), λ e. absurd (let no : Closing errand ≡ Committing = e in cc), λ x e. h)
-
--- who closes the gate, or is refused it, reads and writes nothing
-pub after-reach : (errand : Errand) (e : Refusal) (words : ℕ) → 0 ≡ reach_at (phase_after errand e) words
-after-reach errand (refusals.Conflict cause) words = refl
-after-reach errand (refusals.GateClosed gate) words = refl
-after-reach errand (refusals.Held word) words = refl
-after-reach errand (refusals.Busy caller status) words = refl
-after-reach errand (refusals.Again word had now) words = refl
-after-reach errand (refusals.LogFull limit) words = refl
-after-reach errand (refusals.ClockFull clock) words = refl
-after-reach errand refusals.Irrevocable words = refl
-after-reach errand (refusals.Deep limit) words = refl
-after-reach errand (refusals.RangeTaken gate) words = refl
 
 module _ (c : Config) (n : ℕ) (closing : Bool) where
   pub held-in_phase : (errand : Errand) (e : Refusal) (v w : CallerState) → IsHeldUp c n closing e v w → IsInPhase (phase_after errand e) w
