@@ -7,10 +7,11 @@
 # nothing and takes a minute or two, for trying; `nekchhaul_version` tells the two apart. It needs Python 3. `--asan` and `--tsan`
 # are unproved builds that the address or the thread sanitizer sees into, as capi/build/asan/libnekchhaul.a and
 # capi/build/tsan/libnekchhaul.a. NEKCHHAUL_ARCHIVE=FILE takes an archive made before in place of a build, and says so.
+# NEKCHHAUL_BUILD=FOLDER is where it is made in place of capi/build, as where the sources can't be written.
 set -eu
 here=$(cd "$(dirname "$0")" && pwd)
 crates=$here/../crates
-to=$here/build
+to=${NEKCHHAUL_BUILD:-$here/build}
 flags=
 room=$(mktemp -d)
 trap 'rm -rf "$room"' EXIT
@@ -47,11 +48,17 @@ over_proved() {
         --jobs "$(nproc)" -o out/libnekchhaul_c.a
 }
 
+has() { command -v "$1" >/dev/null; }
 cc=${CC:-}
 for name in gcc clang cc; do
-    [ "$cc" ] || ! command -v $name >/dev/null || cc=$name
+    [ "$cc" ] || ! has $name || cc=$name
 done
-[ "$cc" ] || fail "no C compiler is there"
+[ "$cc" ] || fail "no C compiler is there: apt-get install gcc"
+for name in ar ld nm objcopy; do
+    has $name || fail "no $name is there: apt-get install binutils"
+done
+case $to in /*) ;; *) to=$PWD/$to ;; esac
+mkdir -p "$to" && [ -w "$to" ] || fail "$to can't be written: set NEKCHHAUL_BUILD to a folder for what is built"
 given=${NEKCHHAUL_ARCHIVE:-}
 case $given in "" | /*) ;; *) given=$PWD/$given ;; esac
 mkdir -p "$room/objects"
@@ -61,6 +68,8 @@ if [ "$given" ]; then
     ar x "$given"
     rm -f functions.o
 else
+    has rt || fail "no rt of the Rattle kit is there"
+    case ${1:-} in --*) has python3 || fail "no python3 is there, which $1 needs: apt-get install python3" ;; esac
     kit=${RATTLE_KIT:-$(dirname "$(rt doc)")}
     case ${1:-} in
     --unproved) follow "$here/unproved" nekchhaul_c.o ;;

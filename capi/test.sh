@@ -1,14 +1,27 @@
 #!/bin/sh
-# test.sh [--unproved | --asan | --tsan]: builds the library (build.sh says how), and tries all that is C, C++, Rust and Python
-# here with each compiler that is there. Silent where all goes well; else the last line says what did not, and the status is 1.
-# Needs what build.sh does; a fresh Debian or Ubuntu has it after `apt-get install gcc python3`. With --asan or --tsan the examples
-# in C and C++ run over a library that the sanitizer sees into, and nothing else.
+# test.sh [--quiet] [--unproved | --asan | --tsan]: builds the library (build.sh says how), and tries all that is C, C++, Rust and
+# Python here with each compiler that is there. Where all goes well it says at most which tools are not there, and with --quiet
+# nothing; else the last line says what went wrong, and the status is 1. Needs what build.sh does; docs/C.md says what a fresh
+# Debian or Ubuntu installs for that, and for every test. With --asan or --tsan the examples in C and C++ run over a library that
+# the sanitizer sees into, and nothing else.
 set -eu
 here=$(cd "$(dirname "$0")" && pwd)
-build=$here/build
+build=${NEKCHHAUL_BUILD:-$here/build}
+case $build in /*) ;; *) build=$PWD/$build ;; esac
+quiet=
+[ "${1:-}" != --quiet ] || quiet=1
+[ ! "$quiet" ] || shift
 room=$(mktemp -d)
 trap 'rm -rf "$room"' EXIT
 has() { command -v "$1" >/dev/null 2>&1; }
+lacks=
+# tries TOOL: whether it is there; of one that isn't the end tells
+tries() {
+    has "$1" || {
+        lacks="$lacks $1"
+        return 1
+    }
+}
 fail() {
     cat "$room/log" >&2
     echo "capi/test.sh: $*" >&2
@@ -76,15 +89,19 @@ share=1
 [ ! "$flags" ] || share=20
 cc=
 for compiler in gcc clang; do
-    has $compiler || continue
+    tries $compiler || continue
     [ "$cc" ] || cc=$compiler
-    for example in misuse whole nested alone stops cost bank; do
+    for example in misuse causes whole nested alone committing memory stops cost bank; do
         compiled "$compiler" $example.c -std=c11
     done
-    for example in misuse whole nested stops; do
+    for example in misuse causes whole nested stops; do
         ran "$example.c-$compiler"
     done
-    [ "$compiler" != "$cc" ] || ran "alone.c-$compiler" # which tries the library, and not the header
+    if [ "$compiler" = "$cc" ]; then # these try the library, and not the header
+        ran "alone.c-$compiler"
+        ran "committing.c-$compiler"
+        [ "$flags" ] || ran "memory.c-$compiler" # (a sanitizer takes memory of its own)
+    fi
     ran "cost.c-$compiler" bank OrecLazy 2 2000
     for algorithm in CGL TML OrecLazy OrecEager RingSW Serial; do
         for threads in 3 15; do
@@ -96,20 +113,23 @@ for compiler in gcc clang; do
 done
 cxx=
 for compiler in g++ clang++; do
-    has $compiler || continue
+    tries $compiler || continue
     cxx=$compiler
     for example in bank calls counters parts; do
         compiled "$compiler" $example.cpp -std=c++17
         ran "$example.cpp-$compiler"
     done
 done
+[ "$cc" ] || fail "no gcc or clang is there, which the examples are compiled with"
 [ ! "$flags" ] || exit 0
 
 # The shared library, by Python; what Rust has, by cargo.
 nm -D --defined-only "$build/libnekchhaul.so.1" | sed -n 's/.* T \([^@]*\).*/\1/p' | sort >"$room/shared"
 compare declared shared "the shared library has other names than the header declares"
-has python3 && try "python/bank.py" env NEKCHHAUL_LIB="$build" python3 -B "$here/python/bank.py"
-if has cargo && cargo --version >/dev/null 2>&1; then
+if tries python3; then
+    try "python/bank.py" env NEKCHHAUL_LIB="$build" python3 -B "$here/python/bank.py"
+fi
+if tries cargo && cargo --version >/dev/null 2>&1; then
     cp -r "$here/rust" "$room/rust"
     cargo_in() { try "cargo $*" env -C "$room/rust" NEKCHHAUL_LIB="$build" RUSTFLAGS="-D warnings" RUSTDOCFLAGS="-D warnings" CARGO_NET_OFFLINE=true cargo "$@"; }
     cargo_in test
@@ -121,16 +141,16 @@ fi
 # Programs outside the repository, by what install.sh puts below a relative prefix with a blank and a sign of sed's in it.
 mkdir "$room/outside"
 cp "$here/examples/whole.c" "$here/examples/counters.cpp" "$room/outside/"
-try "install.sh" env -C "$room" PREFIX="a & b" DESTDIR= "$here/install.sh"
+try "install.sh" env -C "$room" PREFIX="a & b" DESTDIR= NEKCHHAUL_BUILD="$build" "$here/install.sh"
 at="$room/a & b"
-if has pkg-config; then
+if tries pkg-config; then
     for package in nekchhaul nekchhaul-static; do
         flags=$(PKG_CONFIG_PATH="$at/lib/pkgconfig" pkg-config --cflags --libs $package) || fail "pkg-config"
-        try "a program by pkg-config of $package" sh -c "$cc -std=c11 -Wall -Wextra -Werror $room/outside/whole.c $flags -o $room/outside/whole"
+        try "a program by pkg-config of $package" env -C "$room/outside" sh -c "$cc -std=c11 -Wall -Wextra -Werror whole.c $flags -o whole"
         try "that program" env LD_LIBRARY_PATH="$at/lib" "$room/outside/whole"
     done
 fi
-if has cmake && has make && [ "$cxx" ]; then
+if tries cmake && tries make && [ "$cxx" ]; then
     cat >"$room/outside/CMakeLists.txt" <<'END'
 cmake_minimum_required(VERSION 3.13)
 project(outside C CXX)
@@ -146,7 +166,7 @@ END
     try "a program by CMake, with the shared library" "$room/made/shared"
     try "a program by CMake, with the archive" "$room/made/static"
 fi
-if has python3 && has groff; then
+if has python3 && tries groff; then
     try "the manual page" groff -man -ww -z "$at/share/man/man3/nekchhaul.3"
     [ ! -s "$room/log" ] || fail "the manual page"
     sed -n 's/^\.SS //p' "$at/share/man/man3/nekchhaul.3" | tr ' ' '\n' | grep '^nekchhaul_' | sort >"$room/paged"
@@ -159,7 +179,7 @@ if has python3; then
     try "the table of docs/C.md" "$here/instructions"
     ! has valgrind || try "instructions of a call" env CC=$cc "$here/instructions" "$archive" "$here/include"
 fi
-if has valgrind; then
+if tries valgrind; then
     try "valgrind over misuse.c" valgrind -q --error-exitcode=9 --leak-check=full --errors-for-leak-kinds=all "$room/misuse.c-$cc"
     try "valgrind over bank.c" valgrind -q --error-exitcode=9 --leak-check=full --errors-for-leak-kinds=definite "$room/bank.c-$cc" OrecLazy switching 3 100
 fi
@@ -168,3 +188,4 @@ if echo 'int main(void) { return 0; }' >"$room/one.c" && $cc -fsanitize=thread "
     compiled "$cc" bank.c -std=c11
     ran "bank.c-$cc" OrecLazy switching 3 10
 fi
+[ "$quiet" ] || [ ! "$lacks" ] || echo "capi/test.sh: not there, and so not tried:$lacks (docs/C.md says what to install)" >&2

@@ -98,7 +98,7 @@ typedef enum nekchhaul_algorithm {
     NEKCHHAUL_CGL = 0,        /* one lock; an attempt can never be cancelled */
     NEKCHHAUL_TML = 1,        /* one sequence lock: for many readers; after its first write an attempt can't be cancelled */
     NEKCHHAUL_OREC_LAZY = 2,  /* ownership records, taken at the commit */
-    NEKCHHAUL_OREC_EAGER = 3, /* ownership records, taken at the first write; no marks */
+    NEKCHHAUL_OREC_EAGER = 3, /* ownership records, taken at the first write */
     NEKCHHAUL_RING_SW = 4,    /* a ring of write filters */
     NEKCHHAUL_SERIAL = 5      /* one lock, with an undo log */
 } nekchhaul_algorithm;
@@ -171,7 +171,7 @@ uint32_t nekchhaul_version(void);
  * SIZE_WORDS to SIZE_CLOCK, MEMORY, or BUSY where the algorithm couldn't be installed; then no handle has changed. */
 uint32_t nekchhaul_open(const nekchhaul_sizes *sizes, uint32_t algorithm, nekchhaul_caller *callers, size_t count) NEKCHHAUL_CALL;
 
-/* Begins an attempt. GATE_CLOSED, HELD, CLOCK_FULL; IN_ATTEMPT. */
+/* Begins an attempt. GATE_CLOSED, HELD, CLOCK_FULL; IN_ATTEMPT, CLOSING. */
 uint32_t nekchhaul_begin(nekchhaul_caller *caller) NEKCHHAUL_CALL;
 
 /* Begins an attempt, as nekchhaul_begin, and says under which algorithm: `under` is its number, and NEKCHHAUL_BESIDE more where
@@ -213,9 +213,9 @@ uint32_t nekchhaul_become_irrevocable(nekchhaul_caller *caller) NEKCHHAUL_CALL;
  * gate, so that no attempt of others begins, and looks once whether those that run have ended. Where one hasn't, the answer
  * is BUSY, and the gate stays closed: the same call with the same arguments looks on from there, and each other caller is
  * seen idle once. So it comes through as soon as the attempts that ran have ended, however many are to begin. Meanwhile the
- * others' begins and such calls answer GATE_CLOSED, and all other calls of this caller answer CLOSING; nekchhaul_reopen
- * gives up. GATE_CLOSED: another caller has the gate; then this one holds nothing. nekchhaul_install and its like, below,
- * call until done. */
+ * others' begins and such calls answer GATE_CLOSED, and all other calls of this caller, but those that ask it (nekchhaul_state,
+ * nekchhaul_why, nekchhaul_counts), answer CLOSING; nekchhaul_reopen gives up. GATE_CLOSED: another caller has the gate; then
+ * this one holds nothing. nekchhaul_install and its like, below, call until done. */
 
 /* Installs an algorithm, for attempts that begin from then on. GATE_CLOSED, BUSY; ALGORITHM, IN_ATTEMPT, CLOSING. */
 uint32_t nekchhaul_switch(nekchhaul_caller *caller, uint32_t algorithm) NEKCHHAUL_CALL;
@@ -251,7 +251,8 @@ uint32_t nekchhaul_give_back(nekchhaul_caller *caller) NEKCHHAUL_CALL;
  * GATE_CLOSED, BUSY, RANGE_TAKEN; IN_ATTEMPT, HOLDS_RANGE, ROOM, CLOSING. */
 uint32_t nekchhaul_close(nekchhaul_caller *caller, uint64_t *words, size_t count) NEKCHHAUL_CALL;
 
-/* Makes the caller's logs longer, each 1 to 4,096. MEMORY, and then all is as before; IN_ATTEMPT, LOGS. */
+/* Makes the caller's logs longer, each 1 to 4,096. One that is as long already stays. MEMORY, and then all is as
+ * before; IN_ATTEMPT, LOGS, CLOSING. */
 uint32_t nekchhaul_reserve(nekchhaul_caller *caller, size_t reads, size_t writes) NEKCHHAUL_CALL;
 
 /* nekchhaul_learn, below, of two handles that are known to be two. */
@@ -354,7 +355,7 @@ NEKCHHAUL_INLINE nekchhaul_caller nekchhaul_move(nekchhaul_caller *from)
 
 /* Has `to` take in what `from` has seen: an attempt of `to` that begins after this starts no earlier than anything that
  * `from` had seen. They are two handles, of callers of one memory, which this thread uses meanwhile; the clock of `to` is
- * read, and nothing else changes. IN_ATTEMPT, of either; STRANGER (docs/C.md says how the two are compared); ONE_CALLER. */
+ * read, and nothing else changes. IN_ATTEMPT and CLOSING, of either; STRANGER (docs/C.md says how the two are compared); ONE_CALLER. */
 NEKCHHAUL_INLINE uint32_t nekchhaul_learn(nekchhaul_caller *to, nekchhaul_caller *from)
 {
     if (to != from) return nekchhaul_learn_of_another(to, from);
@@ -410,8 +411,9 @@ static inline uint32_t nekchhaul_enter(nekchhaul_caller *caller, int may_stop)
     uint32_t under, s = nekchhaul_begin_under(caller, &under);
     if (s != NEKCHHAUL_OK) return s;
     if (may_stop ? under > NEKCHHAUL_TML && under < NEKCHHAUL_BESIDE : under < NEKCHHAUL_BESIDE) return s;
+    s = under >= NEKCHHAUL_BESIDE ? (uint32_t)NEKCHHAUL_RANGE_TAKEN : (uint32_t)NEKCHHAUL_UNCANCELLABLE;
     (void)nekchhaul_abandon(caller); /* which has done nothing */
-    return under & NEKCHHAUL_BESIDE ? (uint32_t)NEKCHHAUL_RANGE_TAKEN : (uint32_t)NEKCHHAUL_UNCANCELLABLE;
+    return s;
 }
 
 /* Makes the attempt irrevocable. With any answer but 0 none is open. */
@@ -427,8 +429,11 @@ static inline uint32_t nekchhaul_be_sure(nekchhaul_caller *caller, struct nekchh
 static inline uint32_t nekchhaul_leave(nekchhaul_caller *caller, struct nekchhaul_pause *pause)
 {
     uint32_t s;
-    while ((s = nekchhaul_commit(caller)) == NEKCHHAUL_AGAIN) nekchhaul_wait(pause);
-    return s;
+    while ((s = nekchhaul_commit(caller)) != NEKCHHAUL_OK) {
+        if (s != NEKCHHAUL_AGAIN) return s;
+        nekchhaul_wait(pause);
+    }
+    return NEKCHHAUL_OK;
 }
 
 /* After a full log: makes the logs twice as long as that one was. LOG_FULL where it had 4,096 items; MEMORY. */

@@ -36,7 +36,7 @@
 //! assert_eq!(taken, 5);
 //! # Ok::<(), Status>(())
 //! ```
-#![warn(missing_docs)]
+#![warn(missing_docs, unsafe_op_in_unsafe_fn)]
 
 mod attempt;
 mod raw;
@@ -50,7 +50,7 @@ pub use word::{Layout, Value, Word, Words};
 
 use raw::Handle;
 use status::told;
-use std::ffi::c_ulong;
+use std::os::raw::c_ulong;
 
 impl Sizes {
     /// Sizes to begin with, for so many words.

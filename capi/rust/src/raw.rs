@@ -1,5 +1,6 @@
 //! The calls of `nekchhaul.h`, and its types.
-use std::ffi::{c_char, c_ulong, c_void};
+use std::ffi::c_void;
+use std::os::raw::{c_char, c_ulong};
 
 /// A handle, as the library has it.
 #[repr(C)]

@@ -73,7 +73,9 @@ pub record CanGrant (alg : Alg) (good : List ℕ → Type 0) (c : Config) (n : �
   pub free : l.committing ≡ false
   pub alone : IsAlone c.callers n v
 
-module _ {K : Type 0} (good : K → List ℕ → Type 0) (stm : Stm K) {e : Handle K} {who : Who K} {v : View} {n : ℕ} {l : Local} (a : Opened good stm e who v n l) (runs : IsRunning (known e)) (alg : Alg) (has : has_records alg ≡ true) (named : (known e).alg ≡ alg) where
+module _ {K : Type 0} (good : K → List ℕ → Type 0) (stm : Stm K) {e : Handle K} {who : Who K} {v : View} {n : ℕ} {l : Local}
+    (a : Opened good stm e who v n l) (runs : IsRunning (known e)) (alg : Alg) (has : has_records alg ≡ true)
+    (named : (known e).alg ≡ alg) where
   inside : IsInside (good stm.rule) stm.config n l v
   inside = inside-of (good stm.rule) stm.config n l v (in-of v.gate.phase (ap (λ (k : CallerState). k.running) (sym a.knows) ∙ runs.0)) a.stands
 
@@ -99,7 +101,9 @@ module _ {K : Type 0} (good : K → List ℕ → Type 0) (stm : Stm K) {e : Hand
       (irrevocable-already (good stm.rule) stm.config n l v (own_of l) (ap (λ (k : CallerState). k.committing) (sym a.knows) ∙ runs.1) inside (granted-of ∙ granted))
 
 -- of e came y by a promotion, and of that z
-pub granted-alone : {K : Type 0} (good : List ℕ → Type 0) (c : Config) (r : irrevs.the_data) (e y z : Handle K) → y.who ≡ e.who → Waits good c (number e) (known e) (known y) → SparesRecords (known e) (known y) → Grants good c (number y) r (known y) (known z) → Irrevs good c (number e) r (known e) (known z)
+pub granted-alone : {K : Type 0} (good : List ℕ → Type 0) (c : Config) (r : irrevs.the_data) (e y z : Handle K) → y.who ≡ e.who
+    → Waits good c (number e) (known e) (known y) → SparesRecords (known e) (known y) → Grants good c (number y) r (known y) (known z)
+    → Irrevs good c (number e) r (known e) (known z)
 granted-alone {K} good c r e y z who waits spares grants =
     irrevs-after good c (number e) r (known e) (known y) (known z) waits spares (subst (λ (k : ℕ). Grants good c k r (known y) (known z)) (ap (λ (w : Who K). caller_of w.role) who) grants)
 
@@ -133,12 +137,29 @@ module _ {alg : Alg} {good : List ℕ → Type 0} {c : Config} {n : ℕ} {l : Lo
     fence-kept = subst (λ (x : Local). IsFenceOf x u) (sym q.local) (record { is = ap (λ (y : View). y.gate.fence) q.is ∙ i.spared.is; fits = i.spared.fits })
 
     pub unmade : IsUnmade v u
-    unmade = subst (IsUnmade v) (sym q.is) (record { carried = record { named = refl; base = refl; installs = refl; fence = refl; step_trace = (q.more, refl); unlocked = optimistic.unlocked; unwritten = optimistic.unwritten }; history = refl })
+    unmade =
+        subst (IsUnmade v) (sym q.is)
+        (record {
+          carried = record {
+            named = refl;
+            base = refl;
+            installs = refl;
+            fence = refl;
+            step_trace = (q.more, refl);
+            unlocked = optimistic.unlocked;
+            unwritten = optimistic.unwritten;
+          };
+          history = refl;
+        })
 
     -- and what is told after it
-    pub tells-refused : (z : View) (p : Local) → p ≡ ended (record m { committing = false }) → Quits (known_of v (own_of l)) (known_of z (with_commit false (own_of l))) → (more : List TracedStep) × (z.steps.step_trace ≡ more ++ u.steps.step_trace)
+    pub tells-refused : (z : View) (p : Local) → p ≡ ended (record m { committing = false })
+        → Quits (known_of v (own_of l)) (known_of z (with_commit false (own_of l)))
+        → (more : List TracedStep) × (z.steps.step_trace ≡ more ++ u.steps.step_trace)
         → Grants good c n refusal (known_of v (own_of l)) (known_of z (own_of p))
-    tells-refused z p idle quits t = subst (λ (x : Local). Grants good c n refusal (known_of v o) (known_of z (own_of x))) (sym (idle ∙ ap (λ (x : Local). ended (record x { committing = false })) q.local)) (by refusal q.why)
+    tells-refused z p idle quits t =
+        subst (λ (x : Local). Grants good c n refusal (known_of v o) (known_of z (own_of x)))
+        (sym (idle ∙ ap (λ (x : Local). ended (record x { committing = false })) q.local)) (by refusal q.why)
       where
         o : Own
         o = own_of l
@@ -181,45 +202,49 @@ module _ {alg : Alg} {good : List ℕ → Type 0} {c : Config} {n : ℕ} {l : Lo
       keeps = subst (λ (a : Alg). Keeps c a true promoted y) (sym can.named) keeps;
     })))
 
-    pub tells-promoted : Contains more (load_of Clock t) → written_under alg true y (own_of promoted) ≡ written_under alg false v (own_of l) → (kept_under alg v (own_of l) ≡ [] → kept_under alg y (own_of promoted) ≡ []) → v.gate.granted ≡ false → (m : Local) (w : View) → m ≡ promoted → w ≡ y
+    pub tells-promoted : Contains more (load_of Clock t) → written_under alg true y (own_of promoted) ≡ written_under alg false v (own_of l)
+        → (kept_under alg v (own_of l) ≡ [] → kept_under alg y (own_of promoted) ≡ []) → v.gate.granted ≡ false → (m : Local) (w : View)
+        → m ≡ promoted → w ≡ y
         → Grants good c n irrevs.Granted (known_of v (own_of l)) (known_of w (own_of m))
-    tells-promoted found written kept ungranted m w local is = subst (λ (q : Local). TriesIrrevocable good c n (known_of v o) (known_of w (own_of q))) (sym local) (subst (λ (q : View). TriesIrrevocable good c n (known_of v o) (known_of q p)) (sym is) (record {
-      continues = record {
-        running = ap is_in i.phase;
-        closing = ap is_closing i.phase;
-        made = refl;
-        grows = (let q = later-seen seen v.history.front t moves.below moves.front in record {
-          later = q.0;
-          is = q.1 ∙ ap (λ (hs : List Entry). public_history hs ++ q.0) (sym moves.seen);
-          ascending = q.2;
-          up_to = q.3;
-          front_rose = moves.front;
-          more = more;
-          step_trace = refl;
-          reads_limit = refl;
-          writes_limit = refl;
-          fenced = refl;
-        });
-        alg = refl;
-        fence = refl;
-        base = refl;
-        rises = (omega arith, omega arith);
-        later = (let a = i.start in let b = i.front in let d = moves.front in omega arith);
-        installs = refl;
-        depth = refl;
-        locked = inl refl;
-      };
-      still = refl;
-      uncommitted = can.free;
-      kept = λ none. ap (λ (a : Alg). kept_under a y p) can.under ∙ kept (ap (λ (a : Alg). kept_under a v o) (sym can.under) ∙ none);
-      log = (λ j. record { reads = items v.attempt.reads; writes = written_under (can.under j) true y p }) ∙ ((λ j. record { reads = items v.attempt.reads; writes = written j })
-          ∙ (λ j. record { reads = items v.attempt.reads; writes = written_under (sym can.under j) (sym ungranted j) v o }));
-      irrevocable = irrevocable-is v.gate.algorithm has-here y.gate y.lock (wrote (known_of y p));
-      opaque = opaque-at good c n y p t refl refl moves.legal moves.below moves.sees i.reads_inside;
-      before = λ e. absurd (let f : true ≡ false = sym e ∙ (irrevocable-is v.gate.algorithm has-here v.gate v.lock (wrote (known_of v o)) ∙ ungranted) in cc);
-      now = λ e. (granted-is v.gate.algorithm has-here y.gate y.lock, (more, refl, Load, found));
-      alone = λ e q. (can.alone.holds, can.alone.quiet);
-    }))
+    tells-promoted found written kept ungranted m w local is =
+        subst (λ (q : Local). TriesIrrevocable good c n (known_of v o) (known_of w (own_of q))) (sym local) (subst
+        (λ (q : View). TriesIrrevocable good c n (known_of v o) (known_of q p)) (sym is) (record {
+          continues = record {
+            running = ap is_in i.phase;
+            closing = ap is_closing i.phase;
+            made = refl;
+            grows = (let q = later-seen seen v.history.front t moves.below moves.front in record {
+              later = q.0;
+              is = q.1 ∙ ap (λ (hs : List Entry). public_history hs ++ q.0) (sym moves.seen);
+              ascending = q.2;
+              up_to = q.3;
+              front_rose = moves.front;
+              more = more;
+              step_trace = refl;
+              reads_limit = refl;
+              writes_limit = refl;
+              fenced = refl;
+            });
+            alg = refl;
+            fence = refl;
+            base = refl;
+            rises = (omega arith, omega arith);
+            later = (let a = i.start in let b = i.front in let d = moves.front in omega arith);
+            installs = refl;
+            depth = refl;
+            locked = inl refl;
+          };
+          still = refl;
+          uncommitted = can.free;
+          kept = λ none. ap (λ (a : Alg). kept_under a y p) can.under ∙ kept (ap (λ (a : Alg). kept_under a v o) (sym can.under) ∙ none);
+          log = (λ j. record { reads = items v.attempt.reads; writes = written_under (can.under j) true y p }) ∙ ((λ j. record { reads = items v.attempt.reads; writes = written j })
+              ∙ (λ j. record { reads = items v.attempt.reads; writes = written_under (sym can.under j) (sym ungranted j) v o }));
+          irrevocable = irrevocable-is v.gate.algorithm has-here y.gate y.lock (wrote (known_of y p));
+          opaque = opaque-at good c n y p t refl refl moves.legal moves.below moves.sees i.reads_inside;
+          before = λ e. absurd (let f : true ≡ false = sym e ∙ (irrevocable-is v.gate.algorithm has-here v.gate v.lock (wrote (known_of v o)) ∙ ungranted) in cc);
+          now = λ e. (granted-is v.gate.algorithm has-here y.gate y.lock, (more, refl, Load, found));
+          alone = λ e q. (can.alone.holds, can.alone.quiet);
+        }))
       where
         o : Own
         o = own_of l

@@ -34,7 +34,7 @@ use Rattle.tx_answers.specs.Evidence.{Untouched, changes}
 use Rattle.tx_answers.specs.CallerState.{known_of}
 use Rattle.alg_orec.proofs.Passing.{loads-append}
 use Rattle.alg_orec.proofs.RecordReads.{newer-shown}
-use Rattle.alg_orec.specs.Loading.{CanLoadValid, moved, sampled_at, MayMove, MovesOwed, ShowsNewer, HasSampled, RefusesRead, HasLoaded}
+use Rattle.alg_orec.specs.Loading.{CanLoadValid, TellsSeen, moved, sampled_at, MayMove, MovesOwed, ShowsNewer, HasSampled, RefusesRead, HasLoaded}
 use Rattle.alg_orec.specs.Validating.{load_of, OnlyLoads, CanValidate, IsFoundStale, IsHeldNewer, IsStale, Refuses, IsValid}
 
 -- loads change no word
@@ -55,6 +55,11 @@ owed-earlier c a start more early v (inr s) = inr (s.0, Contains-append_left mor
 has-read : (reads : List Cell) (a : ℕ) → touches reads a ≡ true → has_item a (items reads) ≡ true
 has-read reads a t = ap is_some (item-touched reads a t)
 
+-- a free word that isn't seen is newer
+pub newer-of : (x start : ℕ) → TellsSeen false x start → is_owned x ≡ false → start < version_of x
+newer-of x start (inl owned) free = absurd (let e : true ≡ false = sym owned ∙ free in cc)
+newer-of x start (inr late) free = late
+
 -- the word of a free record
 pub free-word : (x : ℕ) → is_owned x ≡ false → free_record (version_of x) ≡ x
 free-word x free = let e : x % 2 ≢ 1 = grind (arith, nat_tests, free) in omega arith
@@ -64,8 +69,18 @@ module _ (good : (ℕ → ℕ) → Type 0) (c : Config) (n : ℕ) (low : n < c.c
   r = a % c.records
 
   -- where the start stays
-  stays : (sample : Sample) (check : Validation) (more : List TracedStep) → record v { sample = sample; check = check; steps = record v.steps { step_trace = more ++ v.steps.step_trace } } ≡ moved v l.start v.history.seen v.attempt.reads sample check more
-  stays sample check more = λ i. record v { history = record v.history { front = can.front i }; attempt = record v.attempt { start = can.can.start i }; sample = sample; check = check; steps = record v.steps { step_trace = more ++ v.steps.step_trace } }
+  stays : (sample : Sample) (check : Validation) (more : List TracedStep)
+      → record v { sample = sample; check = check; steps = record v.steps { step_trace = more ++ v.steps.step_trace } }
+      ≡ moved v l.start v.history.seen v.attempt.reads sample check more
+  stays sample check more =
+      λ i.
+      record v {
+        history = record v.history { front = can.front i };
+        attempt = record v.attempt { start = can.can.start i };
+        sample = sample;
+        check = check;
+        steps = record v.steps { step_trace = more ++ v.steps.step_trace };
+      }
 
   pub may-sample : CanOrecSample (home_of c) r a v
   may-sample = record { has = can.can.opens.has; its = refl }
@@ -144,9 +159,23 @@ module _ (good : (ℕ → ℕ) → Type 0) (c : Config) (n : ℕ) (low : n < c.c
           next = inr (newer free late);
         })
           where
-            flat : record (sampled false) { history = record v.history { seen = k.history; front = m.start }; attempt = record v.attempt { start = m.start }; sample = sampled_at a (version_of x); check = no_check; steps = record v.steps { step_trace = k.more ++ load_of (Record r) x ∷ v.steps.step_trace } }
+            flat : record (sampled false) {
+              history = record v.history { seen = k.history; front = m.start };
+              attempt = record v.attempt { start = m.start };
+              sample = sampled_at a (version_of x);
+              check = no_check;
+              steps = record v.steps { step_trace = k.more ++ load_of (Record r) x ∷ v.steps.step_trace };
+            }
                 ≡ moved v m.start k.history v.attempt.reads (sampled_at a (version_of x)) no_check (k.more ++ load_of (Record r) x ∷ [])
-            flat = ap (λ (s : List TracedStep). record (sampled false) { history = record v.history { seen = k.history; front = m.start }; attempt = record v.attempt { start = m.start }; sample = sampled_at a (version_of x); check = no_check; steps = record v.steps { step_trace = s } })
+            flat =
+                ap (λ (s : List TracedStep).
+                record (sampled false) {
+                  history = record v.history { seen = k.history; front = m.start };
+                  attempt = record v.attempt { start = m.start };
+                  sample = sampled_at a (version_of x);
+                  check = no_check;
+                  steps = record v.steps { step_trace = s };
+                })
                 (sym (append_assoc k.more (load_of (Record r) x ∷ []) v.steps.step_trace))
 
     -- and a read before isn't valid
@@ -172,9 +201,13 @@ module _ (good : (ℕ → ℕ) → Type 0) (c : Config) (n : ℕ) (low : n < c.c
             last = moved v l.start v.history.seen v.attempt.reads (sampled_at a (version_of x)) w.check more
 
             flat : record (sampled false) { check = w.check; steps = record v.steps { step_trace = k.more ++ load_of (Record r) x ∷ v.steps.step_trace } } ≡ last
-            flat = ap (λ (s : List TracedStep). record (sampled false) { check = w.check; steps = record v.steps { step_trace = s } }) (sym (append_assoc k.more (load_of (Record r) x ∷ []) v.steps.step_trace)) ∙ stays (sampled_at a (version_of x)) w.check more
+            flat =
+                ap (λ (s : List TracedStep). record (sampled false) { check = w.check; steps = record v.steps { step_trace = s } })
+                (sym (append_assoc k.more (load_of (Record r) x ∷ []) v.steps.step_trace))
+                ∙ stays (sampled_at a (version_of x)) w.check more
 
-            why : (o p : Own) → IsFoundStale c n index word start k.more (sampled false) ⊎ IsHeldNewer c n index word start (sampled false) → Conflicts c n (ForWord a) (causes.Record index word start) (known_of v o) (known_of last p)
+            why : (o p : Own) → IsFoundStale c n index word start k.more (sampled false) ⊎ IsHeldNewer c n index word start (sampled false)
+                → Conflicts c n (ForWord a) (causes.Record index word start) (known_of v o) (known_of last p)
             why o p (inl f) = (
               can.can.opens.has.runs.algorithm,
               k.start,
@@ -204,7 +237,13 @@ module _ (good : (ℕ → ℕ) → Type 0) (c : Config) (n : ℕ) (low : n < c.c
     before = h.late ++ load_of (Record r) word ∷ []
 
     open_in : (sample : Sample) (more : List TracedStep) → HasOpen (moved v m.start h.seen v.attempt.reads sample s.check more)
-    open_in sample more = let o = can.can.opens in record { has = record { runs = record { phase = o.has.runs.phase; algorithm = o.has.runs.algorithm; plain = o.has.runs.plain }; inside = o.has.inside }; open_yet = o.open_yet }
+    open_in sample more =
+        let o = can.can.opens in
+        record {
+          has = record
+              { runs = record { phase = o.has.runs.phase; algorithm = o.has.runs.algorithm; plain = o.has.runs.plain }; inside = o.has.inside };
+          open_yet = o.open_yet;
+        }
 
     pub may-load : CanOrecLoad a s
     may-load = subst (CanOrecLoad a) (sym h.is) (record { has = (open_in (sampled_at a (version_of word)) before).has; sampled = refl; from = refl; version = h.old })
@@ -217,7 +256,14 @@ module _ (good : (ℕ → ℕ) → Type 0) (c : Config) (n : ℕ) (low : n < c.c
       load_path = t.2 ∙ ap (λ (y : View). view_after (orec_load a) t.0 y x) h.is
 
       pub may-confirm : CanOrecConfirm (home_of c) c.words r u
-      may-confirm = subst (CanOrecConfirm (home_of c) c.words r) (sym load_path) (record { opens = open_in (record (sampled_at a (version_of word)) { loaded = true; value = x }) (load_of (Heap a) x ∷ before); loaded = refl; its = refl; inside = can.inside })
+      may-confirm =
+          subst (CanOrecConfirm (home_of c) c.words r) (sym load_path)
+          (record {
+            opens = open_in (record (sampled_at a (version_of word)) { loaded = true; value = x }) (load_of (Heap a) x ∷ before);
+            loaded = refl;
+            its = refl;
+            inside = can.inside;
+          })
 
       module _ (y : ℕ) (w : View) (k : Tells (orec_confirm r) (FindsAgain good c n r) u y w) where
         abbrev after : List TracedStep
@@ -238,7 +284,13 @@ module _ (good : (ℕ → ℕ) → Type 0) (c : Config) (n : ℕ) (low : n < c.c
           where
             by : MayMove good c n m.start h.seen h.late v → MayMove good c n m.start h.seen after v
             by (inl q) = inl q
-            by (inr q) = inr (Contains-append_right (load_of (Record r) y ∷ load_of (Heap a) x ∷ []) before (load_of Clock m.start) (Contains-append_left h.late (load_of (Record r) word ∷ []) (load_of Clock m.start) q.0), q.1, q.2)
+            by (inr q) =
+                inr (
+                  Contains-append_right (load_of (Record r) y ∷ load_of (Heap a) x ∷ []) before (load_of Clock m.start)
+                      (Contains-append_left h.late (load_of (Record r) word ∷ []) (load_of Clock m.start) q.0),
+                  q.1,
+                  q.2,
+                )
 
         pub loads-same : y ≡ word → HasLoaded good c n a x l v m w
         loads-same same = subst (HasLoaded good c n a x l v m) (sym (confirm_path true here)) (record {
@@ -284,5 +336,8 @@ module _ (good : (ℕ → ℕ) → Type 0) (c : Config) (n : ℕ) (low : n < c.c
             there = let e : y ≢ free_record (version_of word) = (λ q. apart (q ∙ free-word word h.free)) in grind (arith, nat_tests)
 
             others : (h.late ≡ []) ⊎ (1 < c.callers) → 1 < c.callers
-            others (inl none) = moved-others c n low k.0 loaded y r word shown.found (ap (λ (q : List TracedStep). left_at r ((q ++ load_of (Record r) word ∷ []) ++ v.steps.step_trace)) none ∙ left-found r word v.steps.step_trace) apart
+            others (inl none) =
+                moved-others c n low k.0 loaded y r word shown.found
+                (ap (λ (q : List TracedStep). left_at r ((q ++ load_of (Record r) word ∷ []) ++ v.steps.step_trace)) none
+                ∙ left-found r word v.steps.step_trace) apart
             others (inr many) = many

@@ -37,7 +37,8 @@ keep-new : (a v : ℕ) (ws : List (ℕ × ℕ)) → item_at a ws ≡ None → ke
 keep-new a v [] e = refl
 keep-new a v (w ∷ ws) e = by (w.0 == a) refl e (keep-new a v ws)
   where
-    by : (b : Bool) → (w.0 == a) ≡ b → (if w.0 == a then Some w.1 else item_at a ws) ≡ None → (item_at a ws ≡ None → keep a v ws ≡ ws ++ (a, v) ∷ []) → (if w.0 == a then w ∷ ws else w ∷ keep a v ws) ≡ w ∷ (ws ++ (a, v) ∷ [])
+    by : (b : Bool) → (w.0 == a) ≡ b → (if w.0 == a then Some w.1 else item_at a ws) ≡ None
+        → (item_at a ws ≡ None → keep a v ws ≡ ws ++ (a, v) ∷ []) → (if w.0 == a then w ∷ ws else w ∷ keep a v ws) ≡ w ∷ (ws ++ (a, v) ∷ [])
     by true q f rec = absurd (let g = rw q at f in cc)
     by false q f rec = rw q (ap (λ l. w ∷ l) (rec (rw q at f)))
 
@@ -84,7 +85,9 @@ module _ (c : Config) (n r : ℕ) (low : n < c.callers) (l : Local) (v : View) (
     steps = record v.steps { step_trace = lock_item n r version found ∷ load_of (Record r) word ∷ v.steps.step_trace };
   }
 
-  lock_path : (word found : ℕ) (s u : View) (b : Bool) → (found == free_record (version_of word)) ≡ b → Tells (orec_look r) (FindsRecord c n r) v word s → Tells (orec_lock n r (version_of word)) (FindsRecord c n r) s found u → u ≡ locked_at (version_of word) word found b
+  lock_path : (word found : ℕ) (s u : View) (b : Bool) → (found == free_record (version_of word)) ≡ b
+      → Tells (orec_look r) (FindsRecord c n r) v word s → Tells (orec_lock n r (version_of word)) (FindsRecord c n r) s found u
+      → u ≡ locked_at (version_of word) word found b
   lock_path word found s u b e t h = h.2 ∙ (ap (λ (y : View). view_after (orec_lock n r (version_of word)) h.0 y found) t.2 ∙ ap (locked_at (version_of word) word found) e)
 
   pub refuses-moved : (word found : ℕ) (s u : View) → is_owned word ≡ false → found ≢ word → Tells (orec_look r) (FindsRecord c n r) v word s → Tells (orec_lock n r (version_of word)) (FindsRecord c n r) s found u
@@ -107,7 +110,8 @@ module _ (c : Config) (n r : ℕ) (low : n < c.callers) (l : Local) (v : View) (
     ),
   )
 
-  pub has-locked : (word found : ℕ) (s u : View) (p : Push) (new : LogState) → is_owned word ≡ false → found ≡ word → Tells (orec_look r) (FindsRecord c n r) v word s → Tells (orec_lock n r (version_of word)) (FindsRecord c n r) s found u
+  pub has-locked : (word found : ℕ) (s u : View) (p : Push) (new : LogState) → is_owned word ≡ false → found ≡ word
+      → Tells (orec_look r) (FindsRecord c n r) v word s → Tells (orec_lock n r (version_of word)) (FindsRecord c n r) s found u
       → Pushes l.locks r (keep r (version_of word) l.locks.items) p new → item_at r l.locks.items ≡ None → length l.locks.items < l.locks.len → HasLocked c n r (version_of word) l v (record l { locks = new }) u
   has-locked word found s u p new free same t h push none room = let is = free-word word free in record {
     within = t.1.within free;
@@ -133,7 +137,16 @@ none-logged c l v k = let e : length l.locks.items ≡ 0 = ap length (k.can.lock
 module _ (c : Config) (n : ℕ) (l : Local) (v : View) where
   pub locks-none : CanLockAll c l v → Locks c n l v l v []
   locks-none k = record {
-    holds = record { local = refl; len = refl; is = refl; locks = k.can.locks; places = λ r t. absurd (none-held c l v k r t); few = (let z = none-logged c l v k in omega arith); versions = λ r t. absurd (none-held c l v k r t) };
+    holds =
+        record {
+          local = refl;
+          len = refl;
+          is = refl;
+          locks = k.can.locks;
+          places = λ r t. absurd (none-held c l v k r t);
+          few = (let z = none-logged c l v k in omega arith);
+          versions = λ r t. absurd (none-held c l v k r t);
+        };
     free = λ r t. absurd (none-held c l v k r t);
     apart = λ r t. tt;
     sole = λ r t. absurd (none-held c l v k r t);
@@ -142,18 +155,31 @@ module _ (c : Config) (n : ℕ) (l : Local) (v : View) where
   -- the next record can be looked at
   pub can-lock : CanLockAll c l v → (m : Local) (w : View) (more : List TracedStep) → Locks c n l v m w more → CanLock m w
   can-lock k m w more e = record {
-    opens = subst HasOpen (sym e.holds.is) (record { has = record { runs = record { phase = k.can.opens.has.runs.phase; algorithm = k.can.opens.has.runs.algorithm; plain = k.can.opens.has.runs.plain }; inside = k.can.opens.has.inside }; open_yet = k.can.opens.open_yet });
+    opens =
+        subst HasOpen (sym e.holds.is)
+        (record {
+          has = record {
+            runs =
+                record { phase = k.can.opens.has.runs.phase; algorithm = k.can.opens.has.runs.algorithm; plain = k.can.opens.has.runs.plain };
+            inside = k.can.opens.has.inside;
+          };
+          open_yet = k.can.opens.open_yet;
+        });
     lazy = ap (λ (y : View). y.owned.eager) e.holds.is ∙ k.can.lazy;
     unraised = ap (λ (y : View). y.owned.raised) e.holds.is ∙ k.can.unraised;
     locks = e.holds.locks;
   }
 
   -- all records of what was written are held once that of each item is
-  pub covers-all : (held : List Cell) → ((j : ℕ) → j < length l.writes.items → touches held (home_of c (get_or l.writes.items j (0, 0)).0) ≡ true) → (a : ℕ) → touches (cells_of l.writes.items) a ≡ true → touches held (home_of c a) ≡ true
+  pub covers-all : (held : List Cell)
+      → ((j : ℕ) → j < length l.writes.items → touches held (home_of c (get_or l.writes.items j (0, 0)).0) ≡ true) → (a : ℕ)
+      → touches (cells_of l.writes.items) a ≡ true → touches held (home_of c a) ≡ true
   covers-all held h a t = let p = cells-at l.writes.items a t in subst (λ (b : ℕ). touches held (home_of c b) ≡ true) p.2 (h p.0 p.1)
 
   -- one record more
-  module _ (r version : ℕ) (m m' : Local) (w w' : View) (more : List TracedStep) (k : Locks c n l v m w more) (h : HasLocked c n r version m w m' w') (low : r < c.records) (new : touches w.owned.held r ≡ false) (few : length m'.locks.items ≤ l.writes.len) where
+  module _ (r version : ℕ) (m m' : Local) (w w' : View) (more : List TracedStep) (k : Locks c n l v m w more)
+      (h : HasLocked c n r version m w m' w') (low : r < c.records) (new : touches w.owned.held r ≡ false)
+      (few : length m'.locks.items ≤ l.writes.len) where
     abbrev grown : List Cell
     grown = record { at = r; value = version } ∷ w.owned.held
 
@@ -174,7 +200,11 @@ module _ (c : Config) (n : ℕ) (l : Local) (v : View) where
     versions_of q false e t = rw e (k.holds.versions q (rw e at t))
 
     free_of : (q : ℕ) (b : Bool) → (r == q) ≡ b → (if r == q then true else touches w.owned.held q) ≡ true → WasFree q (if r == q then version else over w.owned.held q 0) steps
-    free_of q true e t = rw e (let same : r ≡ q = grind (arith, nat_tests) in subst (λ (p : ℕ). WasFree p version steps) same (record { late = lock_item n r version (free_record version) ∷ []; early = more; is = refl; untouched = k.apart r new }))
+    free_of q true e t =
+        rw e
+        (let same : r ≡ q = grind (arith, nat_tests) in
+        subst (λ (p : ℕ). WasFree p version steps) same
+        (record { late = lock_item n r version (free_record version) ∷ []; early = more; is = refl; untouched = k.apart r new }))
     free_of q false e t = rw e (let f = k.free q (rw e at t) in record {
       late = lock_item n r version (free_record version) ∷ load_of (Record r) (free_record version) ∷ f.late;
       early = f.early;
@@ -216,7 +246,8 @@ module _ (c : Config) (n : ℕ) (l : Local) (v : View) where
   untouched-last r q s (causes.Overrun start clock) last before f u = absurd f
 
   -- a record that can't be taken ends it
-  pub locks-stop : (cause : causes.the_data) (a : ℕ) (m m' : Local) (w w' : View) (before last : List TracedStep) → Locks c n l v m w before → touches w.owned.held (home_of c a) ≡ false → touches (cells_of l.writes.items) a ≡ true
+  pub locks-stop : (cause : causes.the_data) (a : ℕ) (m m' : Local) (w w' : View) (before last : List TracedStep) → Locks c n l v m w before
+      → touches w.owned.held (home_of c a) ≡ false → touches (cells_of l.writes.items) a ≡ true
       → m' ≡ m → w' ≡ holding_still w w.owned.held last → IsRefused c n (home_of c a) cause m.start last → StopsLocking c n cause l v m' w'
   locks-stop cause a m m' w w' before last k unheld written same is why = subst (λ (q : Local). StopsLocking c n cause l v q w') (sym same) (subst (StopsLocking c n cause l v m) (sym path) (record {
     before = before;
@@ -225,7 +256,16 @@ module _ (c : Config) (n : ℕ) (l : Local) (v : View) where
     written = written;
     locks = record {
       holds = record { local = k.holds.local; len = k.holds.len; is = refl; locks = k.holds.locks; places = k.holds.places; few = k.holds.few; versions = k.holds.versions };
-      free = λ r t. let f = k.free r t in record { late = last ++ f.late; early = f.early; is = ap (λ (s : List TracedStep). last ++ s) f.is ∙ sym (append_assoc last f.late (load_of (Record r) (free_record (over w.owned.held r 0)) ∷ f.early)); untouched = f.untouched };
+      free =
+          λ r t.
+          let f = k.free r t in
+          record {
+            late = last ++ f.late;
+            early = f.early;
+            is = ap (λ (s : List TracedStep). last ++ s) f.is
+                ∙ sym (append_assoc last f.late (load_of (Record r) (free_record (over w.owned.held r 0)) ∷ f.early));
+            untouched = f.untouched;
+          };
       apart = λ r t. untouched-last (home_of c a) r m.start cause last before why (k.apart r t);
       sole = k.sole;
     };
@@ -235,7 +275,11 @@ module _ (c : Config) (n : ℕ) (l : Local) (v : View) where
   }))
     where
       path : w' ≡ holding_still v w.owned.held (last ++ before)
-      path = is ∙ (ap (λ (y : View). holding_still y w.owned.held last) k.holds.is ∙ ap (λ (t : List TracedStep). record (holding_still v w.owned.held []) { steps = record v.steps { step_trace = t } }) (sym (append_assoc last before v.steps.step_trace)))
+      path =
+          is
+          ∙ (ap (λ (y : View). holding_still y w.owned.held last) k.holds.is
+          ∙ ap (λ (t : List TracedStep). record (holding_still v w.owned.held []) { steps = record v.steps { step_trace = t } })
+          (sym (append_assoc last before v.steps.step_trace)))
 
 -- what holds of the items so far, and of the next one
 pub next-item : (P : ℕ → Type 0) (i : ℕ) → ((j : ℕ) → j < i → P j) → P i → (j : ℕ) → j < i + 1 → P j
@@ -257,7 +301,8 @@ pub touches-new : (cs ds : List Cell) (r version : ℕ) → ds ≡ record { at =
 touches-new cs ds r version is = ap (λ (es : List Cell). touches es r) is ∙ ap (λ (b : Bool). if b then true else touches cs r) (let e : (r == r) ≡ true = grind (arith, nat_tests) in e)
 
 -- and its version is at most the greater of the two
-pub versions-more : (cs ds : List Cell) (r version old new : ℕ) → ds ≡ record { at = r; value = version } ∷ cs → old ≤ new → version ≤ new → ((q : ℕ) → touches cs q ≡ true → over cs q 0 ≤ old) → (q : ℕ) → touches ds q ≡ true → over ds q 0 ≤ new
+pub versions-more : (cs ds : List Cell) (r version old new : ℕ) → ds ≡ record { at = r; value = version } ∷ cs → old ≤ new → version ≤ new
+    → ((q : ℕ) → touches cs q ≡ true → over cs q 0 ≤ old) → (q : ℕ) → touches ds q ≡ true → over ds q 0 ≤ new
 versions-more cs ds r version old new is le fits h q t = subst (λ (es : List Cell). touches es q ≡ true → over es q 0 ≤ new) (sym is) (by (r == q) refl) t
   where
     by : (b : Bool) → (r == q) ≡ b → (if r == q then true else touches cs q) ≡ true → (if r == q then version else over cs q 0) ≤ new

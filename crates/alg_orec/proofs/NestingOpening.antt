@@ -42,11 +42,14 @@ by-known good c n l v k knows runs stands = record {
 }
 
 -- of the descriptor e, which is d, in a call that is not given the memory
-pub goes-on : {K : Type 0} (good : K → List ℕ → Type 0) {d e : Handle K} (n : ℕ) (l : Local) → d ≡ e → d.own ≡ own_of l → IsRunning (known e) → Stands (good_by good d.who.rule) d.who.config n l d.view → GoesOn (good_by good d.who.rule) d.who.config n l d.view (known e)
+pub goes-on : {K : Type 0} (good : K → List ℕ → Type 0) {d e : Handle K} (n : ℕ) (l : Local) → d ≡ e → d.own ≡ own_of l
+    → IsRunning (known e) → Stands (good_by good d.who.rule) d.who.config n l d.view
+    → GoesOn (good_by good d.who.rule) d.who.config n l d.view (known e)
 goes-on {K} good {d} {e} n l same own = by-known (good_by good d.who.rule) d.who.config n l d.view (known e) (ap known (sym same) ∙ ap (λ (o : Own). known_of d.view o) own)
 
 -- and in one that is
-pub goes-on-of : {K : Type 0} (good : K → List ℕ → Type 0) (stm : Stm K) {e : Handle K} {who : Who K} {v : View} {n : ℕ} {l : Local} → Opened good stm e who v n l → IsRunning (known e) → GoesOn (good stm.rule) stm.config n l v (known e)
+pub goes-on-of : {K : Type 0} (good : K → List ℕ → Type 0) (stm : Stm K) {e : Handle K} {who : Who K} {v : View} {n : ℕ} {l : Local}
+    → Opened good stm e who v n l → IsRunning (known e) → GoesOn (good stm.rule) stm.config n l v (known e)
 goes-on-of {K} good stm {e} {who} {v} {n} {l} a runs = by-known (good stm.rule) stm.config n l v (known e) a.knows runs a.stands
 
 module _ {good : List ℕ → Type 0} {c : Config} {n : ℕ} {l : Local} {v : View} {k : CallerState} (a : GoesOn good c n l v k) where
@@ -76,14 +79,22 @@ module _ {good : List ℕ → Type 0} {c : Config} {n : ℕ} {l : Local} {v : Vi
   }
 
   -- where nothing moved
-  pub inside-with : (log : LogState) (wrote : Bool) (d : ℕ) → Keeps c l.algorithm l.granted (record l { writes = log; wrote = wrote; depth = d }) v → IsInside good c n (record l { writes = log; wrote = wrote; depth = d }) v
+  pub inside-with : (log : LogState) (wrote : Bool) (d : ℕ)
+      → Keeps c l.algorithm l.granted (record l { writes = log; wrote = wrote; depth = d }) v
+      → IsInside good c n (record l { writes = log; wrote = wrote; depth = d }) v
   inside-with log wrote d keeps = inside-at log wrote d v.owned.in_place [] keeps
 
-  pub stands-with : (log : LogState) (wrote : Bool) (d : ℕ) → log.len ≡ l.writes.len → Keeps c l.algorithm l.granted (record l { writes = log; wrote = wrote; depth = d }) v → Stands good c n (record l { writes = log; wrote = wrote; depth = d }) v
-  stands-with log wrote d len keeps = stands-on good c n l (record l { writes = log; wrote = wrote; depth = d }) v v i.phase a.stands refl refl (len ∙ a.stands.lengths.0, a.stands.lengths.1) refl (inside-with log wrote d keeps)
+  pub stands-with : (log : LogState) (wrote : Bool) (d : ℕ) → log.len ≡ l.writes.len
+      → Keeps c l.algorithm l.granted (record l { writes = log; wrote = wrote; depth = d }) v
+      → Stands good c n (record l { writes = log; wrote = wrote; depth = d }) v
+  stands-with log wrote d len keeps =
+      stands-on good c n l (record l { writes = log; wrote = wrote; depth = d }) v v i.phase a.stands refl refl
+      (len ∙ a.stands.lengths.0, a.stands.lengths.1) refl (inside-with log wrote d keeps)
 
   pub rolls-log : has_records v.gate.algorithm ≡ true → l.granted ≡ false → (log : LogState) (wrote : Bool) (d : ℕ) (in_place : List Cell) (more : List TracedStep) → log ≡ rolled d l.writes → d ≤ length l.writes.marks
-      → (known_of (restoring v in_place more) (own_of (record l { writes = log; wrote = wrote; depth = d }))).kept ≡ kept_rolled v.gate.algorithm (known_of v (own_of l)).kept (known_of (restoring v in_place more) (own_of (record l { writes = log; wrote = wrote; depth = d }))).log.writes
+      → (known_of (restoring v in_place more) (own_of (record l { writes = log; wrote = wrote; depth = d }))).kept
+      ≡ kept_rolled v.gate.algorithm (known_of v (own_of l)).kept
+      (known_of (restoring v in_place more) (own_of (record l { writes = log; wrote = wrote; depth = d }))).log.writes
       → written_under v.gate.algorithm v.gate.granted (restoring v in_place more) (own_of (record l { writes = log; wrote = wrote; depth = d })) ≡ log.items
       → IsInside good c n (record l { writes = log; wrote = wrote; depth = d }) (restoring v in_place more)
       → Rolls good c n d Rolled (known_of v (own_of l)) (known_of (restoring v in_place more) (own_of (record l { writes = log; wrote = wrote; depth = d })))

@@ -63,7 +63,13 @@ module _ (c : Config) (n : ℕ) (low : n < c.callers) (l : Local) (v : View) (ca
   under check more = record v { check = check; steps = record v.steps { step_trace = more ++ v.steps.step_trace } }
 
   pub opens-under : (check : Validation) (more : List TracedStep) → HasOpen (under check more)
-  opens-under check more = let o = can.opens in record { has = record { runs = record { phase = o.has.runs.phase; algorithm = o.has.runs.algorithm; plain = o.has.runs.plain }; inside = o.has.inside }; open_yet = o.open_yet }
+  opens-under check more =
+      let o = can.opens in
+      record {
+        has = record
+            { runs = record { phase = o.has.runs.phase; algorithm = o.has.runs.algorithm; plain = o.has.runs.plain }; inside = o.has.inside };
+        open_yet = o.open_yet;
+      }
 
   pub can-under : (check : Validation) (more : List TracedStep) → CanValidate c l (under check more)
   can-under check more = record { opens = opens-under check more; start = can.start; reads = can.reads; locks = can.locks; versions = can.versions; level = can.level }
@@ -80,12 +86,28 @@ module _ (c : Config) (n : ℕ) (low : n < c.callers) (l : Local) (v : View) (ca
   stale-by : (check : Validation) (more : List TracedStep) (r x : ℕ) (m : World) → item_at r l.locks.items ≡ None → FindsRecord c n r m (under check more) x → OrecFails n m (under check more) x
       → (is_owned x ≡ true) ⊎ ((is_owned x ≡ false) × (l.start < version_of x)) → (after : List TracedStep) → after ≡ load_of (Record r) x ∷ more → IsFoundStale c n r x l.start after v
   stale-by check more r x m none f fails (inl owned) after is = let free = unheld r none in
-      record { early = more; last = is; unheld = free; stale = inl (owned, f.others owned free); others = owned-others c n low m (under check more) x r f owned free; later = λ quiescent. absurd (let q = f.others owned free in let own = fails.own quiescent owned in let e = q.3 in q.2 (omega arith)) }
+      record {
+        early = more;
+        last = is;
+        unheld = free;
+        stale = inl (owned, f.others owned free);
+        others = owned-others c n low m (under check more) x r f owned free;
+        later = λ quiescent. absurd (let q = f.others owned free in let own = fails.own quiescent owned in let e = q.3 in q.2 (omega arith));
+      }
   stale-by check more r x m none f fails (inr newer) after is = let free = unheld r none in
-      record { early = more; last = is; unheld = free; stale = inr newer; others = newer-others c n low m (under check more) x r f newer.0 can.level (let s = can.start in let e = newer.1 in omega arith); later = λ quiescent. fails.later quiescent newer.0 (fails-by check more x (inr newer)) }
+      record {
+        early = more;
+        last = is;
+        unheld = free;
+        stale = inr newer;
+        others = newer-others c n low m (under check more) x r f newer.0 can.level (let s = can.start in let e = newer.1 in omega arith);
+        later = λ quiescent. fails.later quiescent newer.0 (fails-by check more x (inr newer));
+      }
 
   -- the read at a was found stale in the last step, or its record is held in the place of a newer version
-  pub refused-found : (a x : ℕ) (check : Validation) (more : List TracedStep) (w : View) (after : Validation) (m : World) → touches v.attempt.reads a ≡ true → item_at (a % c.records) l.locks.items ≡ None → FindsRecord c n (a % c.records) m (under check more) x → OrecFails n m (under check more) x
+  pub refused-found : (a x : ℕ) (check : Validation) (more : List TracedStep) (w : View) (after : Validation) (m : World)
+      → touches v.attempt.reads a ≡ true → item_at (a % c.records) l.locks.items ≡ None
+      → FindsRecord c n (a % c.records) m (under check more) x → OrecFails n m (under check more) x
       → (is_owned x ≡ true) ⊎ ((is_owned x ≡ false) × (l.start < version_of x)) → OnlyLoads more → w ≡ under after (load_of (Record (a % c.records)) x ∷ more) → Refuses c n (causes.Record (a % c.records) x l.start) v w
   refused-found a x check more w after m read none f fails stale loads is = subst (λ (y : View). Refuses c n (causes.Record (a % c.records) x l.start) v y) (sym is) (record {
     start = sym can.start;
@@ -98,7 +120,8 @@ module _ (c : Config) (n : ℕ) (low : n < c.callers) (l : Local) (v : View) (ca
     why = inl (stale-by check more (a % c.records) x m none f fails stale (load_of (Record (a % c.records)) x ∷ more) refl);
   })
 
-  pub refused-held : (a version : ℕ) (w : View) (after : Validation) (more : List TracedStep) → touches v.attempt.reads a ≡ true → item_at (a % c.records) l.locks.items ≡ Some version → l.start < version → OnlyLoads more → w ≡ under after more
+  pub refused-held : (a version : ℕ) (w : View) (after : Validation) (more : List TracedStep) → touches v.attempt.reads a ≡ true
+      → item_at (a % c.records) l.locks.items ≡ Some version → l.start < version → OnlyLoads more → w ≡ under after more
       → Refuses c n (causes.Record (a % c.records) (free_record version) l.start) v w
   refused-held a version w after more read some newer loads is = subst (λ (y : View). Refuses c n (causes.Record (a % c.records) (free_record version) l.start) v y) (sym is) (record {
     start = sym can.start;
@@ -165,7 +188,8 @@ module _ (c : Config) (n : ℕ) (low : n < c.callers) (l : Local) (v : View) (ca
 
   -- ONE READ
   module _ (i : ℕ) (lt : i < length l.reads.items) where
-    one : (todo : List Cell) → (vouches l (read_at l i % c.records) ≡ false → touches todo (read_at l i) ≡ false) → (j : ℕ) → i ≤ j → j < i + 1 → vouches l (read_at l j % c.records) ≡ false → touches todo (read_at l j) ≡ false
+    one : (todo : List Cell) → (vouches l (read_at l i % c.records) ≡ false → touches todo (read_at l i) ≡ false) → (j : ℕ) → i ≤ j
+        → j < i + 1 → vouches l (read_at l j % c.records) ≡ false → touches todo (read_at l j) ≡ false
     one todo this j from to e = let same : j ≡ i = omega arith in subst (λ (q : ℕ). vouches l (read_at l q % c.records) ≡ false → touches todo (read_at l q) ≡ false) (sym same) this e
 
     module _ (b : ℕ) (at : b ≡ read_at l i) where
@@ -176,7 +200,8 @@ module _ (c : Config) (n : ℕ) (low : n < c.callers) (l : Local) (v : View) (ca
       pub refused-mine : (version : ℕ) → item_at (b % c.records) l.locks.items ≡ Some version → l.start < version → Refuses c n (causes.Record (b % c.records) (free_record version) l.start) v v
       refused-mine version some newer = refused-held b version v v.check [] read-at some newer tt refl
 
-      pass_path : (x : ℕ) (w : View) (p : Bool) → passes x v ≡ p → Tells (orec_pass (b % c.records) b) (FindsRead c n (b % c.records)) v x w → w ≡ under (if p then passed b v.check else no_check) (load_of (Record (b % c.records)) x ∷ [])
+      pass_path : (x : ℕ) (w : View) (p : Bool) → passes x v ≡ p → Tells (orec_pass (b % c.records) b) (FindsRead c n (b % c.records)) v x w
+          → w ≡ under (if p then passed b v.check else no_check) (load_of (Record (b % c.records)) x ∷ [])
       pass_path x w p e t = t.2 ∙ ap (λ (q : Bool). under (if q then passed b v.check else no_check) (load_of (Record (b % c.records)) x ∷ [])) e
 
       -- its record was loaded
@@ -199,10 +224,14 @@ module _ (c : Config) (n : ℕ) (low : n < c.callers) (l : Local) (v : View) (ca
           self : touches (without v.check.todo b) b ≡ false
           self = touches-without v.check.todo b b ∙ (let e : (b == b) ≡ true = grind (arith, nat_tests) in ap (λ (q : Bool). if q then false else touches v.check.todo b) e)
 
-      refused-on : (x : ℕ) (w : View) → item_at (b % c.records) l.locks.items ≡ None → (is_owned x ≡ true) ⊎ ((is_owned x ≡ false) × (l.start < version_of x)) → Tells (orec_pass (b % c.records) b) (FindsRead c n (b % c.records)) v x w
+      refused-on : (x : ℕ) (w : View) → item_at (b % c.records) l.locks.items ≡ None
+          → (is_owned x ≡ true) ⊎ ((is_owned x ≡ false) × (l.start < version_of x))
+          → Tells (orec_pass (b % c.records) b) (FindsRead c n (b % c.records)) v x w
           → Refuses c n (causes.Record (b % c.records) x l.start) v w
       refused-on x w none stale t = refused-found b x v.check [] w no_check t.0 read-at none t.1.found t.1.fails stale tt (pass_path x w false (fails-by v.check [] x stale) t)
 
-      pub judged : (x : ℕ) (w : View) (q : Result (Unit {0}) Cause) → item_at (b % c.records) l.locks.items ≡ None → Judges (b % c.records) q x l.start → Tells (orec_pass (b % c.records) b) (FindsRead c n (b % c.records)) v x w → Passes c n i (i + 1) q l v w
+      pub judged : (x : ℕ) (w : View) (q : Result (Unit {0}) Cause) → item_at (b % c.records) l.locks.items ≡ None
+          → Judges (b % c.records) q x l.start → Tells (orec_pass (b % c.records) b) (FindsRead c n (b % c.records)) v x w
+          → Passes c n i (i + 1) q l v w
       judged x w (Ok u) none j t = passed-on x w j.0 j.1 t
       judged x w (Err cause) none j t = subst (λ (k : Cause). Refuses c n k v w) (sym j.0) (refused-on x w none j.1 t)

@@ -164,11 +164,15 @@ module _ (good : List ℕ → Type 0) (c : Config) (n : ℕ) (low : n < c.caller
     stale-later index word start w q = by q.why
       where
         by : IsFoundStale c n index word start q.more s ⊎ IsHeldNewer c n index word start s → l.start < time
-        by (inl f) = let g = f.later (ap (λ (y : View). y.gate.quiescent) settled_path) in let e : s.attempt.start ≡ v.attempt.start = ap (λ (y : View). y.attempt.start) settled_path in let d : s.gate.time ≡ time = ap (λ (y : View). y.gate.time) settled_path in let x = ready.start in omega arith
+        by (inl f) =
+            let g = f.later (ap (λ (y : View). y.gate.quiescent) settled_path) in
+            let e : s.attempt.start ≡ v.attempt.start = ap (λ (y : View). y.attempt.start) settled_path in
+            let d : s.gate.time ≡ time = ap (λ (y : View). y.gate.time) settled_path in let x = ready.start in omega arith
         by (inr f) = absurd (held-newer index word start w q f)
 
     -- a read that isn't valid, as found since the clock was loaded
-    found-conflicts : (index word start : ℕ) (w : View) (q : IsStale c n index word start s w) → IsFoundStale c n index word start q.more s → (o : Own) → Conflicts c n ToPromote (causes.Record index word start) (known_of v o) (known_of w o) × (1 < c.callers)
+    found-conflicts : (index word start : ℕ) (w : View) (q : IsStale c n index word start s w) → IsFoundStale c n index word start q.more s
+        → (o : Own) → Conflicts c n ToPromote (causes.Record index word start) (known_of v o) (known_of w o) × (1 < c.callers)
     found-conflicts index word start w q f o = (
       (
         ready.opens.has.runs.algorithm,
@@ -177,7 +181,11 @@ module _ (good : List ℕ → Type 0) (c : Config) (n : ℕ) (low : n < c.caller
           early = f.early ++ load_of Clock time ∷ [];
           act = Load;
           late = [];
-          step_trace = step_trace ∙ (ap (λ (is : List TracedStep). is ++ (load_of Clock time ∷ v.steps.step_trace)) f.last ∙ ap (λ (is : List TracedStep). load_of (Record index) word ∷ is) (sym (append_assoc f.early (load_of Clock time ∷ []) v.steps.step_trace)));
+          step_trace =
+              step_trace
+              ∙ (ap (λ (is : List TracedStep). is ++ (load_of Clock time ∷ v.steps.step_trace)) f.last
+              ∙ ap (λ (is : List TracedStep). load_of (Record index) word ∷ is)
+              (sym (append_assoc f.early (load_of Clock time ∷ []) v.steps.step_trace)));
           untouched = untouched-loads (Record index) f.early (load_of Clock time ∷ []) (subst OnlyLoads f.last q.loads).1 ((λ e. refl), tt);
         },
         inr (tt, (q.a, q.home, read), subst (λ (t : ℕ). IsStaleAt c n t word) from f.stale),
@@ -257,7 +265,9 @@ module _ (good : List ℕ → Type 0) (c : Config) (n : ℕ) (low : n < c.caller
         steps = record v.steps { step_trace = load_of (Record r) x ∷ ((done ++ load_of Clock time ∷ []) ++ v.steps.step_trace) };
       }
 
-      last_path : (b x : ℕ) (w : View) (q : Bool) → passes x (passing.under c n low l s may-validate check done) ≡ q → (t : Tells (orec_grant (b % c.records) b) (FindsGrant rule c n (b % c.records)) u x w) → w ≡ last_at t.0.history (b % c.records) x q
+      last_path : (b x : ℕ) (w : View) (q : Bool) → passes x (passing.under c n low l s may-validate check done) ≡ q
+          → (t : Tells (orec_grant (b % c.records) b) (FindsGrant rule c n (b % c.records)) u x w)
+          → w ≡ last_at t.0.history (b % c.records) x q
       last_path b x w q e t = t.2 ∙ (ap (λ (y : View). view_after (orec_grant (b % c.records) b) t.0 y x) passed_path ∙ ap (last_at t.0.history (b % c.records) x) (same ∙ e))
         where
           same : passes x (knowing true time false false check (done ++ load_of Clock time ∷ [])) ≡ passes x (passing.under c n low l s may-validate check done)
@@ -308,11 +318,21 @@ module _ (good : List ℕ → Type 0) (c : Config) (n : ℕ) (low : n < c.caller
           alike = passing.under c n low l s may-validate no_check (load_of (Record (b % c.records)) x ∷ done)
 
           refusal : b ≡ read_at l j → item_at (b % c.records) l.locks.items ≡ None → Refuses c n (causes.Record (b % c.records) x l.start) s alike
-          refusal at none = passing.refused-found c n low l s may-validate b x check done alike no_check t.0 (subst (λ (a : ℕ). touches s.attempt.reads a ≡ true) (sym at) (validity.read-last rule c n low l s may-validate j now last p second u h)) none
-              (subst (λ (y : View). FindsRecord c n (b % c.records) t.0 y x) (validity.path rule c n low l s may-validate j now last p second u h) t.1.read.found) (subst (λ (y : View). OrecFails n t.0 y x) (validity.path rule c n low l s may-validate j now last p second u h) t.1.read.fails) stale (validity.loads rule c n low l s may-validate j now last p second u h) refl
+          refusal at none =
+              passing.refused-found c n low l s may-validate b x check done alike no_check t.0
+              (subst (λ (a : ℕ). touches s.attempt.reads a ≡ true) (sym at)
+              (validity.read-last rule c n low l s may-validate j now last p second u h)) none
+              (subst (λ (y : View). FindsRecord c n (b % c.records) t.0 y x)
+              (validity.path rule c n low l s may-validate j now last p second u h) t.1.read.found) (subst
+              (λ (y : View). OrecFails n t.0 y x) (validity.path rule c n low l s may-validate j now last p second u h) t.1.read.fails)
+              stale (validity.loads rule c n low l s may-validate j now last p second u h) refl
 
           same-step_trace : w.steps.step_trace ≡ alike.steps.step_trace
-          same-step_trace = ap (λ (y : View). y.steps.step_trace) stale_path ∙ ap (λ (is : List TracedStep). load_of (Record (b % c.records)) x ∷ is) (append_assoc done (load_of Clock time ∷ []) v.steps.step_trace ∙ ap (λ (y : View). done ++ y.steps.step_trace) (sym settled_path))
+          same-step_trace =
+              ap (λ (y : View). y.steps.step_trace) stale_path
+              ∙ ap (λ (is : List TracedStep). load_of (Record (b % c.records)) x ∷ is)
+              (append_assoc done (load_of Clock time ∷ []) v.steps.step_trace
+              ∙ ap (λ (y : View). done ++ y.steps.step_trace) (sym settled_path))
 
           pub refused-last : b ≡ read_at l j → IsNotPromoted c n (irrevs.Conflict (causes.Record (b % c.records) x l.start)) l v l w
           refused-last at = record {
@@ -321,7 +341,9 @@ module _ (good : List ℕ → Type 0) (c : Config) (n : ℕ) (low : n < c.caller
             is = by-loads w (last_at t.0.history (b % c.records) x false) loads stale_path refl;
             earlier = λ quiescent. seen-below w.gate.time (let d = stale-later (b % c.records) x l.start alike stays in let e : w.gate.time ≡ time = ap (λ (y : View). y.gate.time) stale_path in omega arith);
             why = (
-              (λ o. conflicts-later c n ToPromote (causes.Record (b % c.records) x l.start) (known_of v o) (known_of alike o) (known_of w o) ready.opens.has.runs.algorithm [] same-step_trace (stale-conflicts (b % c.records) x l.start alike stays o).0),
+              (λ o.
+                  conflicts-later c n ToPromote (causes.Record (b % c.records) x l.start) (known_of v o) (known_of alike o) (known_of w o)
+                  ready.opens.has.runs.algorithm [] same-step_trace (stale-conflicts (b % c.records) x l.start alike stays o).0),
               (stale-conflicts (b % c.records) x l.start alike stays (own_of l)).1,
             );
           }

@@ -26,10 +26,27 @@ use Rattle.alg_orec.specs.Ending.{GivesUp}
 
 -- more steps were taken
 pub as-was-later : (p : At) (x : ℕ) (v u w : CallerState) (more : List TracedStep) → w.step_trace ≡ more ++ u.step_trace → FoundAsWas p x v u → FoundAsWas p x v w
-as-was-later p x v u w more t f = record { early = f.early; act = f.act; late = more ++ f.late; step_trace = t ∙ (ap (λ (s : List TracedStep). more ++ s) f.step_trace ∙ sym (append_assoc more f.late _)); untouched = f.untouched }
+as-was-later p x v u w more t f =
+    record {
+      early = f.early;
+      act = f.act;
+      late = more ++ f.late;
+      step_trace = t ∙ (ap (λ (s : List TracedStep). more ++ s) f.step_trace ∙ sym (append_assoc more f.late _));
+      untouched = f.untouched;
+    }
 
 pub moved-later : (p : At) (x y : ℕ) (v u w : CallerState) (more : List TracedStep) → w.step_trace ≡ more ++ u.step_trace → FoundMoved p x y v u → FoundMoved p x y v w
-moved-later p x y v u w more t f = record { apart = f.apart; early = f.early; middle = f.middle; act = f.act; late = more ++ f.late; step_trace = t ∙ (ap (λ (s : List TracedStep). more ++ s) f.step_trace ∙ sym (append_assoc more f.late _)); untouched = f.untouched; refused = f.refused }
+moved-later p x y v u w more t f =
+    record {
+      apart = f.apart;
+      early = f.early;
+      middle = f.middle;
+      act = f.act;
+      late = more ++ f.late;
+      step_trace = t ∙ (ap (λ (s : List TracedStep). more ++ s) f.step_trace ∙ sym (append_assoc more f.late _));
+      untouched = f.untouched;
+      refused = f.refused;
+    }
 
 -- what owed a validation
 newer-later : (c : Config) (a : ℕ) (v u w : CallerState) (more : List TracedStep) → w.step_trace ≡ more ++ u.step_trace → FindsNewer c a v u → FindsNewer c a v w
@@ -42,7 +59,8 @@ owes-later c ToCommit v u w more t (inr k) = inr (k.0, k.1, newer-later c k.0 v 
 owes-later c ToPromote v u w more t k = tt
 
 module _ (c : Config) (n : ℕ) (asked : Asked) where
-  pub conflicts-by-records : (cause : causes.the_data) (v u w : CallerState) → has_records v.alg ≡ true → (more : List TracedStep) → w.step_trace ≡ more ++ u.step_trace → Conflicts c n asked cause v u → Conflicts c n asked cause v w
+  pub conflicts-by-records : (cause : causes.the_data) (v u w : CallerState) → has_records v.alg ≡ true → (more : List TracedStep)
+      → w.step_trace ≡ more ++ u.step_trace → Conflicts c n asked cause v u → Conflicts c n asked cause v w
   conflicts-by-records (causes.Clock had now) v u w has more t k = absurd (let e : true ≡ false = sym has ∙ ap has_records k.0 in cc)
   conflicts-by-records (causes.Record index word start) v u w has more t k = (k.0, k.1, as-was-later _ word v u w more t k.2, way k.3)
     where
@@ -78,7 +96,16 @@ pub quits-leads : (u v w : CallerState) → Leads u v → Quits v w → Quits u 
 quits-leads u v w a b = record {
   ends = ends-leads u v w a b.ends;
   made = b.made ∙ a.made;
-  rises = (let e = a.base in let r = b.rises.0 in omega arith, let e = a.base in let r = b.rises.1 in let q : quit_rise v.alg (has_written v) ≡ quit_rise u.alg (has_written u) = (λ j. quit_rise (a.alg j) (wrote-leads u v a j || not (is_none (a.kept j)))) in omega arith);
+  rises = (
+    let e = a.base in
+        let r = b.rises.0 in
+        omega arith,
+    let e = a.base in
+        let r = b.rises.1 in
+        let q : quit_rise v.alg (has_written v) ≡ quit_rise u.alg (has_written u) =
+        (λ j. quit_rise (a.alg j) (wrote-leads u v a j || not (is_none (a.kept j)))) in
+        omega arith,
+  );
   revocable = sym (λ j. irrevocable_under (a.alg j) (a.granted j) (wrote-leads u v a j)) ∙ b.revocable;
 }
 
@@ -125,7 +152,12 @@ unmade-trans u v w a b = record {
     base = b.carried.base ∙ a.carried.base;
     installs = b.carried.installs ∙ a.carried.installs;
     fence = b.carried.fence ∙ a.carried.fence;
-    step_trace = (b.carried.step_trace.0 ++ a.carried.step_trace.0, b.carried.step_trace.1 ∙ (ap (λ (t : List TracedStep). b.carried.step_trace.0 ++ t) a.carried.step_trace.1 ∙ sym (append_assoc b.carried.step_trace.0 a.carried.step_trace.0 u.steps.step_trace)));
+    step_trace = (
+      b.carried.step_trace.0 ++ a.carried.step_trace.0,
+      b.carried.step_trace.1
+          ∙ (ap (λ (t : List TracedStep). b.carried.step_trace.0 ++ t) a.carried.step_trace.1
+          ∙ sym (append_assoc b.carried.step_trace.0 a.carried.step_trace.0 u.steps.step_trace)),
+    );
     unlocked = b.carried.unlocked;
     unwritten = b.carried.unwritten;
   };
@@ -136,9 +168,12 @@ abbrev pub with_commit : Bool → Own → Own
 with_commit b o = record o { committing = b }
 
 -- an attempt of OrecLazy that was taken back
-pub quits-back : (n : ℕ) (v u z : View) (o : Own) → v.gate.algorithm ≡ OrecLazy → v.gate.granted ≡ false → v.steps.rises ≡ v.steps.rises_at_begin → IsUnmade v u → u.steps.rises ≡ v.steps.rises → GivesUp n u z → Quits (known_of v o) (known_of z (with_commit false o))
+pub quits-back : (n : ℕ) (v u z : View) (o : Own) → v.gate.algorithm ≡ OrecLazy → v.gate.granted ≡ false
+    → v.steps.rises ≡ v.steps.rises_at_begin → IsUnmade v u → u.steps.rises ≡ v.steps.rises → GivesUp n u z
+    → Quits (known_of v o) (known_of z (with_commit false o))
 quits-back n v u z o lazy plain level m rises g = quits-own v z o (with_commit false o) refl refl (subst (λ (y : View). Quits (known_of v o) (known_of y o)) (sym g.is)
-    (quits-left n v g.before o (unmade-trans v u g.before m g.unmade) (let a = g.rises in (omega arith, omega arith)) ((λ j. irrevocable_under (lazy j) (granted_under (lazy j) v.gate v.lock) (wrote (known_of v o))) ∙ plain)))
+    (quits-left n v g.before o (unmade-trans v u g.before m g.unmade) (let a = g.rises in (omega arith, omega arith))
+    ((λ j. irrevocable_under (lazy j) (granted_under (lazy j) v.gate v.lock) (wrote (known_of v o))) ∙ plain)))
 
 -- more steps were taken until it ended
 pub ended-by : (n : ℕ) (u z : View) → GivesUp n u z → (more : List TracedStep) × (z.steps.step_trace ≡ more ++ u.steps.step_trace)

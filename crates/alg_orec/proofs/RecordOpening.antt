@@ -40,7 +40,9 @@ module _ {K : Type 0} (good : K → List ℕ → Type 0) (stm : Stm K) where
     place-told at place is = is-known good stm a.opening (λ n v. HasPlace at place v) (subst (λ (xs : List (ℕ × ℕ)). IsPlace (2 * l.reads.len) xs at place) a.reading.reads is)
 
     -- after the call the seat is w, and q are the descriptor's fields
-    pub stays-tied : {y : View} (q : Local) (w : SeatView K × List (ℕ × Unit {0})) → w.0 ≡ record me.0 { view = y } → w.1 ≡ me.1 → q.running ≡ l.running → q.holds ≡ l.holds → HasRoom q → w.0.view.gate.holds ≡ me.0.view.gate.holds → IsInside (good stm.rule) stm.config n q w.0.view
+    pub stays-tied : {y : View} (q : Local) (w : SeatView K × List (ℕ × Unit {0})) → w.0 ≡ record me.0 { view = y } → w.1 ≡ me.1
+        → q.running ≡ l.running → q.holds ≡ l.holds → HasRoom q → w.0.view.gate.holds ≡ me.0.view.gate.holds
+        → IsInside (good stm.rule) stm.config n q w.0.view
         → IsTied n w × Stands (good_by good w.0.who.rule) w.0.who.config n q w.0.view
     stays-tied q w seated empty running held lengths gate inside = (
       record {
@@ -56,8 +58,11 @@ module _ {K : Type 0} (good : K → List ℕ → Type 0) (stm : Stm K) where
         who = ap (λ (y : SeatView K). y.who) seated
 
     -- the attempt ended, from where it was or from where its start had moved to
-    pub answers-ended : (P : ℕ → CallerState → CallerState → Type 0) (w : View) (m : Local) → m ≡ ended (record l { committing = false }) → P n (known_of me.0.view (own_of l)) (known_of w (own_of l)) → P (number e) (known e) (known_of w (own_of m))
+    pub answers-ended : (P : ℕ → CallerState → CallerState → Type 0) (w : View) (m : Local) → m ≡ ended (record l { committing = false })
+        → P n (known_of me.0.view (own_of l)) (known_of w (own_of l)) → P (number e) (known e) (known_of w (own_of m))
     answers-ended P w m is p = shows good stm a.opening P w m (ended-own l m a.reading.quiet is) p
 
-    pub answers-moved : (P : ℕ → CallerState → CallerState → Type 0) (q : Local) (w : View) (m : Local) → q ≡ record l { start = q.start } → m ≡ ended (record q { committing = false }) → P n (known_of me.0.view (own_of l)) (known_of w (own_of l)) → P (number e) (known e) (known_of w (own_of m))
+    pub answers-moved : (P : ℕ → CallerState → CallerState → Type 0) (q : Local) (w : View) (m : Local) → q ≡ record l { start = q.start }
+        → m ≡ ended (record q { committing = false }) → P n (known_of me.0.view (own_of l)) (known_of w (own_of l))
+        → P (number e) (known e) (known_of w (own_of m))
     answers-moved P q w m moved is p = shows good stm a.opening P w m (ended-moved l q m a.reading.quiet moved is) p

@@ -123,7 +123,12 @@ module _ {good : List ℕ → Type 0} {c : Config} {n : ℕ} {l : Local} {v : Vi
 
   -- by whether the read log has its length
   pub full-by : (at : ℕ) (b : Bool) → item_at at l.writes.items ≡ None → item_at at l.reads.items ≡ None → (length l.reads.items == l.reads.len) ≡ b → reads_full at (known_of v o) ≡ b
-  full-by at b unwritten unread count = (λ j. logs-reads v.gate.algorithm orec j && (not (revocable j) && (not (is_some ((ap (item_at at) written-here ∙ unwritten) j)) && (not (is_some ((ap (item_at at) (sym a.reads) ∙ unread) j)) && (length (sym a.reads j) == l.reads.len))))) ∙ count
+  full-by at b unwritten unread count =
+      (λ j.
+      logs-reads v.gate.algorithm orec j
+      && (not (revocable j)
+      && (not (is_some ((ap (item_at at) written-here ∙ unwritten) j))
+      && (not (is_some ((ap (item_at at) (sym a.reads) ∙ unread) j)) && (length (sym a.reads j) == l.reads.len))))) ∙ count
 
   -- READ, of what was written or read before
   stays : {asked : Asked} → GoesOn c asked (known_of v o) (known_of v o)
@@ -258,7 +263,14 @@ module _ {good : List ℕ → Type 0} {c : Config} {n : ℕ} {l : Local} {v : Vi
       pub quits-moved : (before : View) → IsUnmade u before → (v.steps.rises_at_begin ≤ before.steps.rises) × (before.steps.rises ≤ v.steps.rises_at_begin + quit_rise v.gate.algorithm (has_written (known_of v o)))
           → Quits (known_of v o) (known_of (left n before) o)
       quits-moved before unmade rises = record {
-        ends = record { idle = q.ends.idle; grows = grows-trans (known_of v o) (known_of u o) (known_of (left n before) o) (grown o refl refl) q.ends.grows; alg = q.ends.alg; base = q.ends.base; installs = q.ends.installs };
+        ends =
+            record {
+              idle = q.ends.idle;
+              grows = grows-trans (known_of v o) (known_of u o) (known_of (left n before) o) (grown o refl refl) q.ends.grows;
+              alg = q.ends.alg;
+              base = q.ends.base;
+              installs = q.ends.installs;
+            };
         made = q.made;
         rises = rises;
         revocable = revocable;
@@ -268,11 +280,18 @@ module _ {good : List ℕ → Type 0} {c : Config} {n : ℕ} {l : Local} {v : Vi
           as-here = written-here ∙ sym (written u refl refl)
 
           q : Quits (known_of u o) (known_of (left n before) o)
-          q = quits-left n u before o unmade (rises.0, subst (λ (b : Bool). before.steps.rises ≤ v.steps.rises_at_begin + quit_rise v.gate.algorithm b) (λ j. not (is_empty (as-here j)) || not (is_none (sym (kept-same v.gate.algorithm v u o o refl refl refl) j))) rises.1)
+          q =
+              quits-left n u before o unmade (
+                rises.0,
+                subst (λ (b : Bool). before.steps.rises ≤ v.steps.rises_at_begin + quit_rise v.gate.algorithm b)
+                    (λ j. not (is_empty (as-here j)) || not (is_none (sym (kept-same v.gate.algorithm v u o o refl refl refl) j))) rises.1,
+              )
               (promoted-by v.gate.algorithm v.gate v.lock (not (is_empty (known_of u o).log.writes)) orec ∙ ungranted)
 
       -- or it stands there, and its descriptor has what was read
-      pub stays-moved : (log : LogState) → Legal rule c seen → Below seen (start + 1) → Explains (word_now seen) rs → Inside c.words rs → attempts.Keeps c l.algorithm l.granted (record l { start = start; reads = log }) u → IsInside good c n (record l { start = start; reads = log }) u
+      pub stays-moved : (log : LogState) → Legal rule c seen → Below seen (start + 1) → Explains (word_now seen) rs → Inside c.words rs
+          → attempts.Keeps c l.algorithm l.granted (record l { start = start; reads = log }) u
+          → IsInside good c n (record l { start = start; reads = log }) u
       stays-moved log legal below sees inside keeps = record {
         phase = i.phase;
         named = i.named;
@@ -292,13 +311,27 @@ module _ {good : List ℕ → Type 0} {c : Config} {n : ℕ} {l : Local} {v : Vi
       }
 
       pub optimistic-moved : IsOptimistic v → IsOptimistic u
-      optimistic-moved k = record { unlocked = k.unlocked; unfixed = k.unfixed; unwritten = k.unwritten; uncommitted = k.uncommitted; ungranted = ungranted; not_quiescent = k.not_quiescent; unstored = k.unstored; rises = k.rises }
+      optimistic-moved k =
+          record {
+            unlocked = k.unlocked;
+            unfixed = k.unfixed;
+            unwritten = k.unwritten;
+            uncommitted = k.uncommitted;
+            ungranted = ungranted;
+            not_quiescent = k.not_quiescent;
+            unstored = k.unstored;
+            rises = k.rises;
+          }
 
   -- THE REFUSALS
-  pub reads-full : (at : ℕ) (w : View) → item_at at l.writes.items ≡ None → item_at at l.reads.items ≡ None → length l.reads.items ≡ l.reads.len → Quits (known_of v o) (known_of w o) → HasRead good c n at (reads.Full l.reads.len) (known_of v o) (known_of w o)
+  pub reads-full : (at : ℕ) (w : View) → item_at at l.writes.items ≡ None → item_at at l.reads.items ≡ None
+      → length l.reads.items ≡ l.reads.len → Quits (known_of v o) (known_of w o)
+      → HasRead good c n at (reads.Full l.reads.len) (known_of v o) (known_of w o)
   reads-full at w unwritten unread count quits = (quits, full-by at true unwritten unread (grind (arith, nat_tests)), refl)
 
-  pub reads-refused : (at : ℕ) (cause : Cause) (m : Local) (w before : View) → item_at at l.writes.items ≡ None → item_at at l.reads.items ≡ None → length l.reads.items ≢ l.reads.len → RefusesRead rule c n at cause l v m w → IsUnmade w before → Quits (known_of v o) (known_of (left n before) o)
+  pub reads-refused : (at : ℕ) (cause : Cause) (m : Local) (w before : View) → item_at at l.writes.items ≡ None
+      → item_at at l.reads.items ≡ None → length l.reads.items ≢ l.reads.len → RefusesRead rule c n at cause l v m w → IsUnmade w before
+      → Quits (known_of v o) (known_of (left n before) o)
       → HasRead good c n at (reads.Conflict cause) (known_of v o) (known_of (left n before) o)
   reads-refused at cause m w before unwritten unread room h unmade quits = let more = step_trace-left n w before unmade.carried in (
     quits,
@@ -352,7 +385,17 @@ module _ (good : List ℕ → Type 0) (c : Config) (n : ℕ) (alg : Alg) (orec :
     b = t.1.begins
 
     pub optimistic-begun : IsOptimistic y
-    optimistic-begun = record { unlocked = can.clear.unlocked; unfixed = can.clear.unfixed; unwritten = can.clear.unwritten; uncommitted = can.clear.uncommitted; ungranted = can.ungranted; not_quiescent = t.1.not_quiescent can.reopened; unstored = refl; rises = can.rises }
+    optimistic-begun =
+        record {
+          unlocked = can.clear.unlocked;
+          unfixed = can.clear.unfixed;
+          unwritten = can.clear.unwritten;
+          uncommitted = can.clear.uncommitted;
+          ungranted = can.ungranted;
+          not_quiescent = t.1.not_quiescent can.reopened;
+          unstored = refl;
+          rises = can.rises;
+        }
 
     pub sole-begun : c.callers ≡ 1 → clock ≡ c.clock + v.steps.rises_at_begin
     sole-begun one = let q = t.1.sole one in let r = can.rises in omega arith

@@ -26,7 +26,9 @@ use Rattle.alg_orec.specs.Validating.{HasVersions}
 abbrev pub release_item : ℕ → ℕ → TracedStep
 release_item r version = record { place = Record r; act = Store (free_record version); found = None }
 
-pub released-step : {K : Type 0} → (first s t : SeatView K) (more : List TracedStep) (r version x : ℕ) (m : World) → s ≡ record first { view = holding_still first.view s.view.owned.held more } → t ≡ record s { view = view_after (orec_release r version) m s.view x }
+pub released-step : {K : Type 0} → (first s t : SeatView K) (more : List TracedStep) (r version x : ℕ) (m : World)
+    → s ≡ record first { view = holding_still first.view s.view.owned.held more }
+    → t ≡ record s { view = view_after (orec_release r version) m s.view x }
     → t ≡ record first { view = holding_still first.view t.view.owned.held (release_item r version ∷ more) }
 released-step {K} first s t more r version x m e p = p ∙ (ap (λ (y : SeatView K). record y { view = view_after (orec_release r version) m y.view x }) e
     ∙ (λ i. record first { view = holding_still first.view (sym held i) (release_item r version ∷ more) }))

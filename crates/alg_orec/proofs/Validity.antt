@@ -47,7 +47,9 @@ module _ (good : (ℕ → ℕ) → Type 0) (c : Config) (n : ℕ) (low : n < c.c
       both : (a : ℕ) → touches v.attempt.reads a ≡ true → (touches v.owned.held (home_of c a) ≡ true) × (over v.owned.held (home_of c a) 0 ≤ v.attempt.start)
       both a read = by (touches v.owned.held (home_of c a)) refl (nat_le (over v.owned.held (home_of c a) 0) v.attempt.start) refl (vouched a read)
         where
-          by : (h : Bool) → touches v.owned.held (home_of c a) ≡ h → (o : Bool) → nat_le (over v.owned.held (home_of c a) 0) v.attempt.start ≡ o → (if h then o else false) ≡ true → (touches v.owned.held (home_of c a) ≡ true) × (over v.owned.held (home_of c a) 0 ≤ v.attempt.start)
+          by : (h : Bool) → touches v.owned.held (home_of c a) ≡ h → (o : Bool)
+              → nat_le (over v.owned.held (home_of c a) 0) v.attempt.start ≡ o → (if h then o else false) ≡ true
+              → (touches v.owned.held (home_of c a) ≡ true) × (over v.owned.held (home_of c a) 0 ≤ v.attempt.start)
           by true p true q e = (p, grind (arith, nat_tests))
           by true p false q e = absurd cc
           by false p o q e = absurd cc
@@ -121,7 +123,10 @@ module _ (good : (ℕ → ℕ) → Type 0) (c : Config) (n : ℕ) (low : n < c.c
               shut = at-place (open_read t)
 
               go : (q : Bool) → ltb p.0 i ≡ q → (r : Bool) → ltb i p.0 ≡ r → ⊥
-              go true q r e = let f : touches u.check.todo a ≡ false = subst (λ (k : ℕ). touches u.check.todo k ≡ false) p.2 (h.done p.0 (omega arith) (grind (arith, nat_tests)) shut) in let g : true ≡ false = sym t ∙ f in cc
+              go true q r e =
+                  let f : touches u.check.todo a ≡ false =
+                  subst (λ (k : ℕ). touches u.check.todo k ≡ false) p.2 (h.done p.0 (omega arith) (grind (arith, nat_tests)) shut) in
+                  let g : true ≡ false = sym t ∙ f in cc
               go false q true e = let f : vouches l (read_at l p.0 % c.records) ≡ true = last.2 p.0 (grind (arith, nat_tests)) p.1 in let g : true ≡ false = sym f ∙ shut in cc
               go false q false e = let same : i ≡ p.0 = grind (arith, nat_tests) in apart (at ∙ (ap (λ (k : ℕ). read_at l k) same ∙ p.2))
 
@@ -145,17 +150,25 @@ module _ (good : (ℕ → ℕ) → Type 0) (c : Config) (n : ℕ) (low : n < c.c
         steps = record v.steps { step_trace = load_of (Record r) x ∷ (more ++ v.steps.step_trace) };
       }
 
-      last_path : (b x : ℕ) (w : View) (p : Bool) → passes x (passing.under c n low l v can here more) ≡ p → (t : Tells (orec_last (b % c.records) b) (FindsLast good c n (b % c.records)) u x w) → w ≡ after_last (b % c.records) x (upto t.0.history now) p
+      last_path : (b x : ℕ) (w : View) (p : Bool) → passes x (passing.under c n low l v can here more) ≡ p
+          → (t : Tells (orec_last (b % c.records) b) (FindsLast good c n (b % c.records)) u x w)
+          → w ≡ after_last (b % c.records) x (upto t.0.history now) p
       last_path b x w p e t = t.2 ∙ (ap (λ (y : View). view_after (orec_last (b % c.records) b) t.0 y x) path ∙ ap (after_last (b % c.records) x (upto t.0.history now)) e)
 
       -- the last one isn't valid
-      pub refused-last : (b x : ℕ) (w : View) → b ≡ read_at l i → item_at (b % c.records) l.locks.items ≡ None → (is_owned x ≡ true) ⊎ ((is_owned x ≡ false) × (l.start < version_of x)) → Tells (orec_last (b % c.records) b) (FindsLast good c n (b % c.records)) u x w
+      pub refused-last : (b x : ℕ) (w : View) → b ≡ read_at l i → item_at (b % c.records) l.locks.items ≡ None
+          → (is_owned x ≡ true) ⊎ ((is_owned x ≡ false) × (l.start < version_of x))
+          → Tells (orec_last (b % c.records) b) (FindsLast good c n (b % c.records)) u x w
           → Refuses c n (causes.Record (b % c.records) x l.start) v w
       refused-last b x w at none stale t = passing.refused-found c n low l v can b x here more w no_check t.0 (subst (λ (a : ℕ). touches v.attempt.reads a ≡ true) (sym at) read-last) none
-          (subst (λ (y : View). FindsRecord c n (b % c.records) t.0 y x) path t.1.read.found) (subst (λ (y : View). OrecFails n t.0 y x) path t.1.read.fails) stale loads (last_path b x w false (passing.fails-by c n low l v can here more x stale) t)
+          (subst (λ (y : View). FindsRecord c n (b % c.records) t.0 y x) path t.1.read.found)
+          (subst (λ (y : View). OrecFails n t.0 y x) path t.1.read.fails) stale loads
+          (last_path b x w false (passing.fails-by c n low l v can here more x stale) t)
 
       -- or all are
-      pub valid-last : (b x : ℕ) (w : View) → is_owned x ≡ false → version_of x ≤ l.start → Tells (orec_last (b % c.records) b) (FindsLast good c n (b % c.records)) u x w → IsValid c n good l v (record l { start = now }) w
+      pub valid-last : (b x : ℕ) (w : View) → is_owned x ≡ false → version_of x ≤ l.start
+          → Tells (orec_last (b % c.records) b) (FindsLast good c n (b % c.records)) u x w
+          → IsValid c n good l v (record l { start = now }) w
       valid-last b x w free old t = record {
         local = refl;
         history = upto t.0.history now;

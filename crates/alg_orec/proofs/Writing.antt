@@ -20,7 +20,9 @@ owing v back more = record v { owned = record v.owned { back = back }; steps = r
 abbrev pub store_item : ℕ → ℕ → TracedStep
 store_item a x = record { place = Heap a; act = Store x; found = None }
 
-pub written-step : {K : Type 0} → (first s t : SeatView K) (more : List TracedStep) (a x : ℕ) (m : World) → s ≡ record first { view = owing first.view s.view.owned.back more } → t ≡ record s { view = view_after (orec_write_back a x) m s.view x }
+pub written-step : {K : Type 0} → (first s t : SeatView K) (more : List TracedStep) (a x : ℕ) (m : World)
+    → s ≡ record first { view = owing first.view s.view.owned.back more }
+    → t ≡ record s { view = view_after (orec_write_back a x) m s.view x }
     → t ≡ record first { view = owing first.view t.view.owned.back (store_item a x ∷ more) }
 written-step {K} first s t more a x m e p = p ∙ (ap (λ (y : SeatView K). record y { view = view_after (orec_write_back a x) m y.view x }) e
     ∙ (λ i. record first { view = owing first.view (sym back i) (store_item a x ∷ more) }))
@@ -32,7 +34,9 @@ written-step {K} first s t more a x m e p = p ∙ (ap (λ (y : SeatView K). reco
 abbrev pub storing : View → List Cell → List TracedStep → View
 storing v stores more = record v { attempt = record v.attempt { stores = stores }; steps = record v.steps { step_trace = more ++ v.steps.step_trace } }
 
-pub stored-step : {K : Type 0} → (first s t : SeatView K) (more : List TracedStep) (a x : ℕ) (m : World) → s ≡ record first { view = storing first.view s.view.attempt.stores more } → t ≡ record s { view = view_after (direct_store a x) m s.view x }
+pub stored-step : {K : Type 0} → (first s t : SeatView K) (more : List TracedStep) (a x : ℕ) (m : World)
+    → s ≡ record first { view = storing first.view s.view.attempt.stores more }
+    → t ≡ record s { view = view_after (direct_store a x) m s.view x }
     → t ≡ record first { view = storing first.view t.view.attempt.stores (store_item a x ∷ more) }
 stored-step {K} first s t more a x m e p = p ∙ (ap (λ (y : SeatView K). record y { view = view_after (direct_store a x) m y.view x }) e
     ∙ (λ i. record first { view = storing first.view (sym stores i) (store_item a x ∷ more) }))

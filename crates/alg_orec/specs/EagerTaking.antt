@@ -116,4 +116,9 @@ pub record StoresFirst (a x : ℕ) (l : Local) (v : View) (m : Local) (w : View)
   pub old : ℕ
   pub more : List TracedStep
   pub local : m ≡ record l { undo = record l.undo { items = l.undo.items ++ (a, old) ∷ [] }; writes = record l.writes { items = l.writes.items ++ (a, x) ∷ [] }; wrote = true }
-  pub is : w ≡ record v { owned = record v.owned { in_place = record { at = a; value = x } ∷ v.owned.in_place; undo = record { at = a; value = old } ∷ v.owned.undo }; steps = record v.steps { step_trace = more ++ v.steps.step_trace } }
+  pub is : w
+      ≡ record v {
+        owned =
+            record v.owned { in_place = record { at = a; value = x } ∷ v.owned.in_place; undo = record { at = a; value = old } ∷ v.owned.undo };
+        steps = record v.steps { step_trace = more ++ v.steps.step_trace };
+      }

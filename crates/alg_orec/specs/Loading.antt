@@ -1,5 +1,5 @@
 -- What the parts of a read ask and tell.
-use Rattle.std.specs.Prelude.{ℕ, ◌≡◌, ◌+◌, ◌*◌, ◌<◌, ◌≤◌, ◌%◌, ◌⊎◌, true, false, List, [], ◌∷◌, ◌++◌, Contains, Result, Ok, Err}
+use Rattle.std.specs.Prelude.{ℕ, ◌≡◌, ◌+◌, ◌*◌, ◌<◌, ◌≤◌, ◌%◌, ◌⊎◌, Bool, true, false, List, [], ◌∷◌, ◌++◌, Contains, Result, Ok, Err}
 use Rattle.stm_model.specs.declared.config.Config.{Config}
 use Rattle.stm_model.specs.declared.stop.Cause.{Cause}
 use Rattle.rule_base.specs.declared.entries.Cell.{Cell}
@@ -33,6 +33,11 @@ pub record CanLoadValid (c : Config) (a : ℕ) (l : Local) (v : View) : Type 0 w
   pub olds : (r : ℕ) → touches v.owned.held r ≡ true → over v.owned.held r 0 ≤ v.attempt.start
   pub front : v.history.front ≡ l.start
   pub inside : a < c.words
+
+-- whether a record's word is free, at a version that the start has seen
+abbrev pub TellsSeen : Bool → ℕ → ℕ → Type 0
+TellsSeen true word start = (is_owned word ≡ false) × (version_of word ≤ start)
+TellsSeen false word start = (is_owned word ≡ true) ⊎ (start < version_of word)
 
 -- the view with this start and what was seen up to it, and with these steps added
 abbrev pub moved : View → ℕ → List Entry → List Cell → Sample → Validation → List TracedStep → View

@@ -126,7 +126,14 @@ module _ (c : Config) (n : ℕ) where
       pub local : m ≡ record l { start = m.start }
       pub history : List Entry
       pub more : List TracedStep
-      pub is : w ≡ record v { history = record v.history { seen = history; front = m.start }; attempt = record v.attempt { start = m.start }; sample = record v.sample { loaded = false }; check = no_check; steps = record v.steps { step_trace = more ++ v.steps.step_trace } }
+      pub is : w
+          ≡ record v {
+            history = record v.history { seen = history; front = m.start };
+            attempt = record v.attempt { start = m.start };
+            sample = record v.sample { loaded = false };
+            check = no_check;
+            steps = record v.steps { step_trace = more ++ v.steps.step_trace };
+          }
       pub loads : OnlyLoads more
       pub found : Contains more (load_of Clock m.start)
       pub moves : Moves good c history v m.start

@@ -36,12 +36,19 @@ pub(crate) fn commit_placed<K: MemRule>(
 ) -> Commit
     requires seat { IsSeatOf stm.now caller seat.old }
     requires caller { caller < stm.now.config.callers }
-    requires attempt { CanCommitPlaced (K.good stm.now.rule) stm.now.config caller local.old (view_of seat.old) }
-    requires keeps { KeepsRule (K.good stm.now.rule) stm.now.config caller (known_of (view_of seat.old) (own_of local.old)) }
+    requires attempt { CanCommitPlaced (K.good stm.now.rule) stm.now.config caller local.old
+        (view_of seat.old) }
+    requires keeps { KeepsRule (K.good stm.now.rule) stm.now.config caller
+        (known_of (view_of seat.old) (own_of local.old)) }
     ensures same { MovesView seat.old seat.new }
-    ensures commits { Commits (K.good stm.now.rule) stm.now.config caller result (known_of (view_of seat.old) (own_of local.old)) (known_of (view_of seat.new) (own_of local.new)) }
-    ensures stands { Stands (K.good stm.now.rule) stm.now.config caller local.new (view_of seat.new) }
-    ensures steps { TakesAtMost (5 + local.old.reads.len + local.old.undo.len + length local.old.locks.items) (view_of seat.old) (view_of seat.new) }
+    ensures commits { Commits (K.good stm.now.rule) stm.now.config caller result
+        (known_of (view_of seat.old) (own_of local.old))
+        (known_of (view_of seat.new) (own_of local.new)) }
+    ensures stands { Stands (K.good stm.now.rule) stm.now.config caller local.new
+        (view_of seat.new) }
+    ensures steps { TakesAtMost
+        (5 + local.old.reads.len + local.old.undo.len + length local.old.locks.items)
+        (view_of seat.old) (view_of seat.new) }
 {
     if let Err(cause) = revalidate(seat, local, stm, caller) {
         abort(seat, local, stm, caller);
@@ -77,9 +84,11 @@ fn revalidate<K: MemRule>(
 ) -> Result<(), Cause>
     requires seat { IsSeatOf stm.now caller seat.old }
     requires caller { caller < stm.now.config.callers }
-    requires attempt { CanCommitPlaced (K.good stm.now.rule) stm.now.config caller local.old (view_of seat.old) }
+    requires attempt { CanCommitPlaced (K.good stm.now.rule) stm.now.config caller local.old
+        (view_of seat.old) }
     ensures same { MovesView seat.old seat.new }
-    ensures revalidates { Revalidates (K.good stm.now.rule) stm.now.config caller result local.old (view_of seat.old) local.new (view_of seat.new) }
+    ensures revalidates { Revalidates (K.good stm.now.rule) stm.now.config caller result local.old
+        (view_of seat.old) local.new (view_of seat.new) }
     ensures steps { TakesAtMost (1 + local.old.reads.len) (view_of seat.old) (view_of seat.new) }
 {
     if local.committing {
@@ -96,10 +105,13 @@ pub(crate) fn commit_direct<K: MemRule>(desc: &mut Desc<K>, stm: &Stm<K>) -> Com
     requires running { (known desc.old).running ≡ true }
     requires algorithm { (known desc.old).alg ≡ OrecEager }
     requires granted { (known desc.old).granted ≡ true }
-    requires keeps { KeepsRule (K.good stm.now.rule) stm.now.config (number desc.old) (known desc.old) }
+    requires keeps { KeepsRule (K.good stm.now.rule) stm.now.config (number desc.old)
+        (known desc.old) }
     ensures same { IsSameCaller desc.old desc.new }
-    ensures commits { Commits (K.good stm.now.rule) stm.now.config (number desc.old) result (known desc.old) (known desc.new) }
-    ensures steps { AddsAtMost (5 + (known desc.old).writes_limit) (known desc.old) (known desc.new) }
+    ensures commits { Commits (K.good stm.now.rule) stm.now.config (number desc.old) result
+        (known desc.old) (known desc.new) }
+    ensures steps { AddsAtMost (5 + (known desc.old).writes_limit) (known desc.old)
+        (known desc.new) }
 {
     let caller = desc.number;
     let start = desc.local.start;
@@ -127,7 +139,8 @@ fn give_above<K: MemRule>(seat: &mut Token<K>, local: &Local, stm: &Stm<K>, call
     requires view { CanGiveAbove stm.now.config local.now (view_of seat.old) }
     ensures same { MovesView seat.old seat.new }
     ensures gives { GivesAbove (view_of seat.old) (view_of seat.new) }
-    ensures steps { TakesAtMost (1 + length local.now.locks.items) (view_of seat.old) (view_of seat.new) }
+    ensures steps { TakesAtMost (1 + length local.now.locks.items) (view_of seat.old)
+        (view_of seat.new) }
 {
     if local.locks.count() == 0 {
         return;
@@ -153,7 +166,8 @@ fn give_direct<K: MemRule>(
     requires view { CanGiveDirect stm.now.config time local.now (view_of seat.old) }
     ensures same { MovesView seat.old seat.new }
     ensures releases { ReleasesAll (view_of seat.old) (view_of seat.new) }
-    ensures steps { TakesAtMost (length local.now.locks.items) (view_of seat.old) (view_of seat.new) }
+    ensures steps { TakesAtMost (length local.now.locks.items) (view_of seat.old)
+        (view_of seat.new) }
 {
     for i in 0..local.locks.count() {
         let (r, _) = local.locks.item(i);

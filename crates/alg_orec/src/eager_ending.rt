@@ -27,7 +27,8 @@ pub(crate) fn abort<K: MemRule>(seat: &mut Token<K>, local: &mut Local, stm: &St
     ensures same { MovesView seat.old seat.new }
     ensures aborts { AbortsEager caller (view_of seat.old) (view_of seat.new) }
     ensures idle { local.new ≡ ended (record local.old { committing = false }) }
-    ensures steps { TakesAtMost (3 + local.old.undo.len + length local.old.locks.items) (view_of seat.old) (view_of seat.new) }
+    ensures steps { TakesAtMost (3 + local.old.undo.len + length local.old.locks.items)
+        (view_of seat.old) (view_of seat.new) }
 {
     give_back(seat, local, stm, caller);
     local.committing = false;
@@ -43,7 +44,8 @@ fn give_back<K: MemRule>(seat: &mut Token<K>, local: &Local, stm: &Stm<K>, calle
     requires view { CanGiveBack stm.now.config local.now (view_of seat.old) }
     ensures same { MovesView seat.old seat.new }
     ensures gives_back { GivesBack (view_of seat.old) (view_of seat.new) }
-    ensures steps { TakesAtMost (1 + local.now.undo.len + length local.now.locks.items) (view_of seat.old) (view_of seat.new) }
+    ensures steps { TakesAtMost (1 + local.now.undo.len + length local.now.locks.items)
+        (view_of seat.old) (view_of seat.new) }
 {
     if local.locks.count() == 0 {
         return;
@@ -86,7 +88,8 @@ fn release_all_above<K: MemRule>(seat: &mut Token<K>, local: &Local, stm: &Stm<K
     requires view { CanReleaseAbove stm.now.config local.now (view_of seat.old) }
     ensures same { MovesView seat.old seat.new }
     ensures releases { ReleasesAll (view_of seat.old) (view_of seat.new) }
-    ensures steps { TakesAtMost (length local.now.locks.items) (view_of seat.old) (view_of seat.new) }
+    ensures steps { TakesAtMost (length local.now.locks.items) (view_of seat.old)
+        (view_of seat.new) }
 {
     for i in 0..local.locks.count() {
         let (r, version) = local.locks.item(i);

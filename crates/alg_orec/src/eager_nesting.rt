@@ -32,7 +32,8 @@ pub(crate) fn roll_in_place<K: MemRule>(desc: &mut Desc<K>, stm: &Stm<K>, depth:
     requires low { 1 ≤ depth }
     requires high { depth ≤ (known desc.old).depth }
     ensures same { IsSameCaller desc.old desc.new }
-    ensures rolls { Rolls (K.good stm.now.rule) stm.now.config (number desc.old) depth result (known desc.old) (known desc.new) }
+    ensures rolls { Rolls (K.good stm.now.rule) stm.now.config (number desc.old) depth result
+        (known desc.old) (known desc.new) }
     ensures steps { AddsAtMost (known desc.old).writes_limit (known desc.old) (known desc.new) }
 {
     let caller = desc.number;
@@ -63,10 +64,12 @@ fn restore_after<K: MemRule>(
     left: usize,
 )
     requires seat { IsSeatOf stm.now caller seat.old }
-    requires behind { CanRestoreAfter stm.now.config.words undo.now.items writes.now.items (view_of seat.old) }
+    requires behind { CanRestoreAfter stm.now.config.words undo.now.items writes.now.items
+        (view_of seat.old) }
     ensures same { MovesView seat.old seat.new }
     ensures behind { RestoresAfter left writes.now.items (view_of seat.old) (view_of seat.new) }
-    ensures steps { TakesAtMost (length writes.now.items - left) (view_of seat.old) (view_of seat.new) }
+    ensures steps { TakesAtMost (length writes.now.items - left) (view_of seat.old)
+        (view_of seat.new) }
 {
     let mut count = writes.count();
     while count > left {

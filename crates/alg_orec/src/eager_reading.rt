@@ -1,7 +1,7 @@
 //! A read of OrecEager in its parts, between which other callers may step: its record is sampled, the word is loaded, and
 //! the record is confirmed.
 ghost use Rattle.tx_answers.specs.Counting.{AddsAtMost};
-ghost use Rattle.std.specs.Prelude.{◌≡◌, ℕ, ◌<◌, None, false, [], ◌∷◌, ◌+◌, ◌*◌, MatchResult};
+ghost use Rattle.std.specs.Prelude.{◌≡◌, ℕ, ◌<◌, None, false, [], ◌∷◌, ◌+◌, ◌*◌, ◌%◌, MatchResult};
 ghost use Rattle.rule_base.specs.declared.layout.At.TheVariants.{Heap};
 ghost use Rattle.stm_model.specs.Memories.{item_at};
 ghost use Rattle.stm_model.specs.declared.alg.Alg.TheVariants.{OrecEager};
@@ -36,13 +36,19 @@ pub fn read_place<K: MemRule>(desc: &Desc<K>, stm: &Stm<K>, a: usize) -> usize
     desc.local.reads.place(a)
 }
 
-/// Loads the record of a word that was neither written nor read before, and answers the record's word: it is free, at a
+/// Loads record `r`, that of a word that was neither written nor read before, and answers the record's word: it is free, at a
 /// version that the start has seen. None, with no step, where the attempt holds the record: then nobody else stores
 /// there. One step, and those of a validation where the record is newer than the start; then those of a rollback where
 /// that, or a full read log, ends the attempt.
 #[inline(always)]
-pub fn sample<K: MemRule>(desc: &mut Desc<K>, stm: &Stm<K>, a: usize) -> Result<Option<u64>, Read>
+pub fn sample<K: MemRule>(
+    desc: &mut Desc<K>,
+    stm: &Stm<K>,
+    a: usize,
+    r: usize,
+) -> Result<Option<u64>, Read>
     requires stm { IsOf desc.old stm.now }
+    requires record { r ≡ a % stm.now.config.records }
     requires running { IsRunning (known desc.old) }
     requires algorithm { (known desc.old).alg ≡ OrecEager }
     requires revocable { (known desc.old).granted ≡ false }
@@ -51,21 +57,26 @@ pub fn sample<K: MemRule>(desc: &mut Desc<K>, stm: &Stm<K>, a: usize) -> Result<
     requires inside { a < stm.now.config.words }
     requires spared { fenced (known desc.old).fence a ≡ false }
     ensures same { IsSameCaller desc.old desc.new }
-    ensures samples { Samples (K.good stm.now.rule) stm.now.config (number desc.old) a result desc.old desc.new }
-    ensures steps { MatchResult result (λ _. AddsAtMost (2 + (known desc.old).reads_limit) (known desc.old) (known desc.new)) (λ _. AddsAtMost (5 + (known desc.old).reads_limit + 2 * (known desc.old).writes_limit) (known desc.old) (known desc.new)) }
+    ensures samples { Samples (K.good stm.now.rule) stm.now.config (number desc.old) a result
+        desc.old desc.new }
+    ensures steps { MatchResult result
+        (λ _. AddsAtMost (2 + (known desc.old).reads_limit) (known desc.old) (known desc.new)) (λ _.
+        AddsAtMost (5 + (known desc.old).reads_limit + 2 * (known desc.old).writes_limit)
+        (known desc.old) (known desc.new)) }
 {
-    let caller = desc.number;
     let limit = desc.local.reads.len();
     if desc.local.reads.count() == limit {
+        let caller = desc.number;
         abort(&mut desc.seat, &mut desc.local, stm, caller);
         return Err(Read::Full { limit });
     }
-    if records::held(&desc.local, stm.config.records, a).is_some() {
+    if desc.local.locks.find(r).is_some() {
         return Ok(None);
     }
-    match sample_valid(&mut desc.seat, &mut desc.local, stm, caller, a) {
+    match sample_valid(&mut desc.seat, &mut desc.local, stm, desc.number, a, r) {
         Ok(word) => Ok(Some(word)),
         Err(cause) => {
+            let caller = desc.number;
             abort(&mut desc.seat, &mut desc.local, stm, caller);
             Err(Read::Conflict(cause))
         }
@@ -84,20 +95,22 @@ pub fn load<K: MemRule>(desc: &mut Desc<K>, stm: &Stm<K>, a: usize) -> u64
     requires inside { a < stm.now.config.words }
     requires spared { fenced (known desc.old).fence a ≡ false }
     ensures same { IsSameCaller desc.old desc.new }
-    ensures goes { GoesOnReading (K.good stm.now.rule) stm.now.config (number desc.old) a (load_of (Heap a) result ∷ []) (known desc.old) (known desc.new) }
+    ensures goes { GoesOnReading (K.good stm.now.rule) stm.now.config (number desc.old) a
+        (load_of (Heap a) result ∷ []) (known desc.old) (known desc.new) }
     ensures loads { LoadsSampled stm.now.config a result desc.old.view desc.new.view }
     ensures steps { AddsAtMost 1 (known desc.old) (known desc.new) }
 {
     reading::load(stm, &mut desc.seat, desc.number, a)
 }
 
-/// Loads the record again, which `sample` found as `word`, after the word, which `load` found as `x`. Where the record
+/// Loads record `r` again, which `sample` found as `word`, after the word, which `load` found as `x`. Where the record
 /// is as it was, `x` is read, and logged at its place; else the attempt ends. One step, then those of a rollback.
 #[inline(always)]
 pub fn confirm<K: MemRule>(
     desc: &mut Desc<K>,
     stm: &Stm<K>,
     a: usize,
+    r: usize,
     place: usize,
     word: u64,
     x: u64,
@@ -107,20 +120,23 @@ pub fn confirm<K: MemRule>(
     requires algorithm { (known desc.old).alg ≡ OrecEager }
     requires revocable { (known desc.old).granted ≡ false }
     requires fresh { IsNew a (known desc.old) }
+    requires record { r ≡ a % stm.now.config.records }
     requires loaded { IsLoaded stm.now.config a word x desc.old.view }
     requires place { HasPlace a place (known desc.old) }
     requires inside { a < stm.now.config.words }
     requires spared { fenced (known desc.old).fence a ≡ false }
     ensures same { IsSameCaller desc.old desc.new }
-    ensures confirms { Confirms (K.good stm.now.rule) stm.now.config (number desc.old) a word x result (known desc.old) (known desc.new) }
-    ensures steps { AddsAtMost (4 + 2 * (known desc.old).writes_limit) (known desc.old) (known desc.new) }
+    ensures confirms { Confirms (K.good stm.now.rule) stm.now.config (number desc.old) a word x
+        result (known desc.old) (known desc.new) }
+    ensures steps { AddsAtMost (4 + 2 * (known desc.old).writes_limit) (known desc.old)
+        (known desc.new) }
 {
-    let caller = desc.number;
-    let after = records::confirm(stm, &mut desc.seat, caller, a);
+    let after = records::confirm(stm, &mut desc.seat, desc.number, a, r);
     if after != word {
+        let caller = desc.number;
         abort(&mut desc.seat, &mut desc.local, stm, caller);
         return Read::Conflict(Cause::Moved {
-            index: a % stm.config.records,
+            index: r,
             before: word,
             after,
         });

@@ -5,7 +5,7 @@ ghost use Rattle.stm_rule.specs.Callers.{IsSeatOf};
 ghost use Rattle.stm_rule.specs.Kept.{MovesView, good_of, view_of};
 ghost use Rattle.alg_orec.specs.EagerTaking.{CanTake, Takes, CanStoreFirst, StoresFirst};
 
-use crate::records::{held, record_of};
+use crate::records::record_of;
 use crate::sampling::sample_valid;
 use rule_base::words::version_of;
 use steps_orec::eager::{place, save};
@@ -19,6 +19,7 @@ use tx_answers::answers::Write;
 
 /// Takes the record of the word where the attempt doesn't hold it yet, at a version that its start has seen, which is
 /// below the clock's limit: so it can be given back one later. Three steps, and those of a validation.
+#[inline(always)]
 pub(crate) fn take_record<K: MemRule>(
     seat: &mut Token<K>,
     local: &mut Local,
@@ -30,17 +31,19 @@ pub(crate) fn take_record<K: MemRule>(
     requires caller { caller < stm.now.config.callers }
     requires view { CanTake stm.now.config a local.old (view_of seat.old) }
     ensures same { MovesView seat.old seat.new }
-    ensures takes { Takes (good_of K.good stm.now.config stm.now.rule) stm.now.config caller a result local.old (view_of seat.old) local.new (view_of seat.new) }
+    ensures takes { Takes (good_of K.good stm.now.config stm.now.rule) stm.now.config caller a
+        result local.old (view_of seat.old) local.new (view_of seat.new) }
     ensures steps { TakesAtMost (4 + local.old.reads.len) (view_of seat.old) (view_of seat.new) }
 {
-    if held(local, stm.config.records, a).is_some() {
+    let index = record_of(stm.config.records, a);
+    if local.locks.find(index).is_some() {
         return Ok(());
     }
     let clock = limit(stm, seat, caller);
     if clock >= CLOCK_LIMIT {
         return Err(Write::ClockFull { clock });
     }
-    let word = match sample_valid(seat, local, stm, caller, a) {
+    let word = match sample_valid(seat, local, stm, caller, a, index) {
         Ok(word) => word,
         Err(cause) => return Err(Write::Conflict(cause)),
     };
@@ -48,7 +51,6 @@ pub(crate) fn take_record<K: MemRule>(
         return Err(Write::ClockFull { clock: local.start });
     }
     let version = version_of(word);
-    let index = record_of(stm.config.records, a);
     let found = lock(stm, seat, caller, index, version);
     if found != word {
         return Err(Write::Conflict(Cause::Moved {
@@ -62,6 +64,7 @@ pub(crate) fn take_record<K: MemRule>(
 }
 
 /// Stores the word for the first time, under its record: what it was goes into the undo log before. Two steps.
+#[inline(always)]
 pub(crate) fn store_first<K: MemRule>(
     seat: &mut Token<K>,
     local: &mut Local,

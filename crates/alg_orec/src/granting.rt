@@ -28,7 +28,8 @@ pub(crate) fn grant_reads<K: MemRule>(
     requires caller { caller < stm.now.config.callers }
     requires attempt { CanPromote stm.now.config caller local.old (view_of seat.old) }
     ensures same { MovesView seat.old seat.new }
-    ensures promotes { Promotes (K.good stm.now.rule) stm.now.config caller result local.old (view_of seat.old) local.new (view_of seat.new) }
+    ensures promotes { Promotes (K.good stm.now.rule) stm.now.config caller result local.old
+        (view_of seat.old) local.new (view_of seat.new) }
     ensures steps { TakesAtMost (2 + local.old.reads.len) (view_of seat.old) (view_of seat.new) }
 {
     match last_to_validate(local, stm.config.records) {
@@ -49,7 +50,8 @@ fn grant_none<K: MemRule>(
     requires attempt { CanPromote stm.now.config caller local.old (view_of seat.old) }
     requires none { IsLast stm.now.config.records None local.old }
     ensures same { MovesView seat.old seat.new }
-    ensures promotes { Promotes (K.good stm.now.rule) stm.now.config caller result local.old (view_of seat.old) local.new (view_of seat.new) }
+    ensures promotes { Promotes (K.good stm.now.rule) stm.now.config caller result local.old
+        (view_of seat.old) local.new (view_of seat.new) }
     ensures steps { TakesAtMost 1 (view_of seat.old) (view_of seat.new) }
 {
     let time = grant_all(stm, seat, caller);
@@ -73,7 +75,8 @@ fn grant_valid<K: MemRule>(
     requires attempt { CanPromote stm.now.config caller local.old (view_of seat.old) }
     requires last { IsLast stm.now.config.records (Some i) local.old }
     ensures same { MovesView seat.old seat.new }
-    ensures promotes { Promotes (K.good stm.now.rule) stm.now.config caller result local.old (view_of seat.old) local.new (view_of seat.new) }
+    ensures promotes { Promotes (K.good stm.now.rule) stm.now.config caller result local.old
+        (view_of seat.old) local.new (view_of seat.new) }
     ensures steps { TakesAtMost (3 + i) (view_of seat.old) (view_of seat.new) }
 {
     let time = stm.settle(seat, caller);

@@ -31,12 +31,18 @@ pub(crate) fn commit_writes<K: MemRule>(
 ) -> Commit
     requires seat { IsSeatOf stm.now caller seat.old }
     requires caller { caller < stm.now.config.callers }
-    requires attempt { CanCommit (K.good stm.now.rule) stm.now.config caller local.old (view_of seat.old) }
-    requires keeps { KeepsRule (K.good stm.now.rule) stm.now.config caller (known_of (view_of seat.old) (own_of local.old)) }
+    requires attempt { CanCommit (K.good stm.now.rule) stm.now.config caller local.old
+        (view_of seat.old) }
+    requires keeps { KeepsRule (K.good stm.now.rule) stm.now.config caller
+        (known_of (view_of seat.old) (own_of local.old)) }
     ensures same { MovesView seat.old seat.new }
-    ensures commits { Commits (K.good stm.now.rule) stm.now.config caller result (known_of (view_of seat.old) (own_of local.old)) (known_of (view_of seat.new) (own_of local.new)) }
-    ensures stands { Stands (K.good stm.now.rule) stm.now.config caller local.new (view_of seat.new) }
-    ensures steps { TakesAtMost (5 + local.old.reads.len + 4 * local.old.writes.len) (view_of seat.old) (view_of seat.new) }
+    ensures commits { Commits (K.good stm.now.rule) stm.now.config caller result
+        (known_of (view_of seat.old) (own_of local.old))
+        (known_of (view_of seat.new) (own_of local.new)) }
+    ensures stands { Stands (K.good stm.now.rule) stm.now.config caller local.new
+        (view_of seat.new) }
+    ensures steps { TakesAtMost (5 + local.old.reads.len + 4 * local.old.writes.len)
+        (view_of seat.old) (view_of seat.new) }
 {
     if let Err(cause) = prepare(seat, local, stm, caller) {
         abort(seat, local, stm, caller);
@@ -71,10 +77,13 @@ fn prepare<K: MemRule>(
 ) -> Result<(), Cause>
     requires seat { IsSeatOf stm.now caller seat.old }
     requires caller { caller < stm.now.config.callers }
-    requires attempt { CanCommit (K.good stm.now.rule) stm.now.config caller local.old (view_of seat.old) }
+    requires attempt { CanCommit (K.good stm.now.rule) stm.now.config caller local.old
+        (view_of seat.old) }
     ensures same { MovesView seat.old seat.new }
-    ensures prepares { Prepares (K.good stm.now.rule) stm.now.config caller result local.old (view_of seat.old) local.new (view_of seat.new) }
-    ensures steps { TakesAtMost (1 + local.old.reads.len + 2 * local.old.writes.len) (view_of seat.old) (view_of seat.new) }
+    ensures prepares { Prepares (K.good stm.now.rule) stm.now.config caller result local.old
+        (view_of seat.old) local.new (view_of seat.new) }
+    ensures steps { TakesAtMost (1 + local.old.reads.len + 2 * local.old.writes.len)
+        (view_of seat.old) (view_of seat.new) }
 {
     if local.committing {
         return validate(seat, local, stm, caller);
@@ -102,7 +111,8 @@ fn finish<K: MemRule>(
     ensures same { MovesView seat.old seat.new }
     ensures finishes { GivesUp caller (view_of seat.old) (view_of seat.new) }
     ensures idle { local.new ≡ ended (record local.old { committing = false }) }
-    ensures steps { TakesAtMost (2 + local.old.writes.len + length local.old.locks.items) (view_of seat.old) (view_of seat.new) }
+    ensures steps { TakesAtMost (2 + local.old.writes.len + length local.old.locks.items)
+        (view_of seat.old) (view_of seat.new) }
 {
     write_back_all(seat, local, stm, caller);
     release_all(seat, local, stm, caller, time);

@@ -26,7 +26,8 @@ pub(crate) fn abort<K: MemRule>(seat: &mut Token<K>, local: &mut Local, stm: &St
     ensures same { MovesView seat.old seat.new }
     ensures gives_up { GivesUp caller (view_of seat.old) (view_of seat.new) }
     ensures idle { local.new ≡ ended (record local.old { committing = false }) }
-    ensures steps { TakesAtMost (2 + length local.old.locks.items) (view_of seat.old) (view_of seat.new) }
+    ensures steps { TakesAtMost (2 + length local.old.locks.items) (view_of seat.old)
+        (view_of seat.new) }
 {
     for i in 0..local.locks.count() {
         let (r, version) = local.locks.item(i);

@@ -26,8 +26,10 @@ pub(crate) fn grant<K: MemRule>(desc: &mut Desc<K>, stm: &Stm<K>) -> Irrev
     requires revocable { is_irrevocable (known desc.old) ≡ false }
     requires alone { IsAlone stm.now.config.callers (number desc.old) desc.old.view }
     ensures same { IsSameCaller desc.old desc.new }
-    ensures grants { Grants (K.good stm.now.rule) stm.now.config (number desc.old) result (known desc.old) (known desc.new) }
-    ensures steps { AddsAtMost (4 + (known desc.old).reads_limit + (known desc.old).writes_limit) (known desc.old) (known desc.new) }
+    ensures grants { Grants (K.good stm.now.rule) stm.now.config (number desc.old) result
+        (known desc.old) (known desc.new) }
+    ensures steps { AddsAtMost (4 + (known desc.old).reads_limit + (known desc.old).writes_limit)
+        (known desc.old) (known desc.new) }
 {
     let caller = desc.number;
     if let Err(refusal) = grant_reads(&mut desc.seat, &mut desc.local, stm, caller) {

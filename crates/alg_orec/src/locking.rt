@@ -6,7 +6,7 @@ ghost use Rattle.stm_rule.specs.Callers.{IsSeatOf};
 ghost use Rattle.stm_rule.specs.Kept.{MovesView, view_of};
 ghost use Rattle.alg_orec.specs.Locking.{CanLock, CanLockAll, LocksOne, LocksAll, Owes, OwesNothing, Pays, ReleasesAll};
 
-use crate::records::{held, record_of};
+use crate::records::record_of;
 use rule_base::words::{is_owned, version_of};
 use steps_orec::lazy::{lock, look, release, write_back};
 use stm_model::config::CLOCK_LIMIT;
@@ -27,45 +27,25 @@ pub(crate) fn lock_all<K: MemRule>(
     requires caller { caller < stm.now.config.callers }
     requires view { CanLockAll stm.now.config local.old (view_of seat.old) }
     ensures same { MovesView seat.old seat.new }
-    ensures locks { LocksAll stm.now.config caller result local.old (view_of seat.old) local.new (view_of seat.new) }
+    ensures locks { LocksAll stm.now.config caller result local.old (view_of seat.old) local.new
+        (view_of seat.new) }
     ensures steps { TakesAtMost (2 * local.old.writes.len) (view_of seat.old) (view_of seat.new) }
 {
     let mut newest = 0;
     for i in 0..local.writes.count() {
         let (a, _) = local.writes.item(i);
-        if held(local, stm.config.records, a).is_none() {
-            let version = lock_record_of(seat, local, stm, caller, a)?;
+        let r = record_of(stm.config.records, a);
+        if local.locks.find(r).is_none() {
+            let version = lock_record(seat, local, stm, caller, r)?;
             newest = newest.max(version);
         }
     }
     Ok(newest)
 }
 
-/// Takes the record of the word at `a`, as `lock_record` does.
-#[inline]
-fn lock_record_of<K: MemRule>(
-    seat: &mut Token<K>,
-    local: &mut Local,
-    stm: &Stm<K>,
-    caller: usize,
-    a: usize,
-) -> Result<u64, Cause>
-    requires seat { IsSeatOf stm.now caller seat.old }
-    requires caller { caller < stm.now.config.callers }
-    requires some { 0 < stm.now.config.records }
-    requires view { CanLock local.old (view_of seat.old) }
-    requires new { item_at (a % stm.now.config.records) local.old.locks.items ≡ None }
-    requires room { length local.old.locks.items < local.old.locks.len }
-    ensures same { MovesView seat.old seat.new }
-    ensures locks { LocksOne stm.now.config caller (a % stm.now.config.records) result local.old (view_of seat.old) local.new (view_of seat.new) }
-    ensures steps { TakesAtMost 2 (view_of seat.old) (view_of seat.new) }
-{
-    let r = record_of(stm.config.records, a);
-    lock_record(seat, local, stm, caller, r)
-}
-
 /// Takes a record that the attempt doesn't hold yet, and answers the version that it had. Two steps, one where another
 /// caller owns it.
+#[inline(always)]
 fn lock_record<K: MemRule>(
     seat: &mut Token<K>,
     local: &mut Local,
@@ -80,7 +60,8 @@ fn lock_record<K: MemRule>(
     requires new { item_at r local.old.locks.items ≡ None }
     requires room { length local.old.locks.items < local.old.locks.len }
     ensures same { MovesView seat.old seat.new }
-    ensures locks { LocksOne stm.now.config caller r result local.old (view_of seat.old) local.new (view_of seat.new) }
+    ensures locks { LocksOne stm.now.config caller r result local.old (view_of seat.old) local.new
+        (view_of seat.new) }
     ensures steps { TakesAtMost (2) (view_of seat.old) (view_of seat.new) }
 {
     let word = look(stm, seat, caller, r);
@@ -136,7 +117,8 @@ pub(crate) fn release_all<K: MemRule>(
     requires view { OwesNothing stm.now.config time local.now (view_of seat.old) }
     ensures same { MovesView seat.old seat.new }
     ensures releases { ReleasesAll (view_of seat.old) (view_of seat.new) }
-    ensures steps { TakesAtMost (length local.now.locks.items) (view_of seat.old) (view_of seat.new) }
+    ensures steps { TakesAtMost (length local.now.locks.items) (view_of seat.old)
+        (view_of seat.new) }
 {
     for i in 0..local.locks.count() {
         let (r, _) = local.locks.item(i);

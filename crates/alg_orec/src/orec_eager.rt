@@ -23,10 +23,10 @@ use crate::eager_granting::grant;
 use crate::eager_nesting::roll_in_place;
 use crate::eager_reading::{confirm, load, read_place, sample};
 use crate::eager_taking::{store_first, take_record};
+use crate::records::record_of;
 use alg_calls::algorithm::Algorithm;
 use steps_orec::eager::{own_load, place};
 use steps_orec::reading;
-use stm_gate::direct::{direct_load, direct_store};
 use stm_gate::leave::leave;
 use stm_gate::promote::{Promotion, promote};
 use stm_model::alg::Alg;
@@ -53,9 +53,6 @@ impl Algorithm for OrecEager {
     /// where that ends the attempt.
     #[inline(always)]
     fn read<K: MemRule>(desc: &mut Desc<K>, stm: &Stm<K>, a: usize) -> Read {
-        if desc.local.granted {
-            return direct_load(desc, stm, a);
-        }
         if let Some(x) = desc.local.writes.find(a) {
             return Read::Value(x);
         }
@@ -71,9 +68,6 @@ impl Algorithm for OrecEager {
     /// newer than the start; then those of a rollback where that ends the attempt.
     #[inline(always)]
     fn write<K: MemRule>(desc: &mut Desc<K>, stm: &Stm<K>, a: usize, x: u64) -> Write {
-        if desc.local.granted {
-            return direct_store(desc, stm, a, x);
-        }
         if desc.local.writes.find(a).is_some() {
             return write_again(desc, stm, a, x);
         }
@@ -147,13 +141,17 @@ fn first_read<K: MemRule>(desc: &mut Desc<K>, stm: &Stm<K>, a: usize, place: usi
     requires inside { a < stm.now.config.words }
     requires spared { fenced (known desc.old).fence a ≡ false }
     ensures same { IsSameCaller desc.old desc.new }
-    ensures read { HasRead (K.good stm.now.rule) stm.now.config (number desc.old) a result (known desc.old) (known desc.new) }
-    ensures steps { AddsAtMost (7 + (known desc.old).reads_limit + 2 * (known desc.old).writes_limit) (known desc.old) (known desc.new) }
+    ensures read { HasRead (K.good stm.now.rule) stm.now.config (number desc.old) a result
+        (known desc.old) (known desc.new) }
+    ensures steps { AddsAtMost
+        (7 + (known desc.old).reads_limit + 2 * (known desc.old).writes_limit) (known desc.old)
+        (known desc.new) }
 {
-    match sample(desc, stm, a) {
+    let r = record_of(stm.config.records, a);
+    match sample(desc, stm, a, r) {
         Ok(Some(word)) => {
             let x = load(desc, stm, a);
-            confirm(desc, stm, a, place, word, x)
+            confirm(desc, stm, a, r, place, word, x)
         }
         Ok(None) => read_held(desc, stm, a, place),
         Err(refusal) => refusal,
@@ -174,7 +172,8 @@ fn read_held<K: MemRule>(desc: &mut Desc<K>, stm: &Stm<K>, a: usize, place: usiz
     requires inside { a < stm.now.config.words }
     requires spared { fenced (known desc.old).fence a ≡ false }
     ensures same { IsSameCaller desc.old desc.new }
-    ensures read { HasRead (K.good stm.now.rule) stm.now.config (number desc.old) a result (known desc.old) (known desc.new) }
+    ensures read { HasRead (K.good stm.now.rule) stm.now.config (number desc.old) a result
+        (known desc.old) (known desc.new) }
     ensures steps { AddsAtMost 1 (known desc.old) (known desc.new) }
 {
     let x = own_load(stm, &mut desc.seat, desc.number, a);
@@ -193,7 +192,8 @@ fn write_again<K: MemRule>(desc: &mut Desc<K>, stm: &Stm<K>, a: usize, x: u64) -
     requires inside { a < stm.now.config.words }
     requires spared { fenced (known desc.old).fence a ≡ false }
     ensures same { IsSameCaller desc.old desc.new }
-    ensures write { HasWritten (K.good stm.now.rule) stm.now.config (number desc.old) a x result (known desc.old) (known desc.new) }
+    ensures write { HasWritten (K.good stm.now.rule) stm.now.config (number desc.old) a x result
+        (known desc.old) (known desc.new) }
     ensures steps { AddsAtMost 1 (known desc.old) (known desc.new) }
 {
     place(stm, &mut desc.seat, desc.number, a, x);
@@ -203,7 +203,7 @@ fn write_again<K: MemRule>(desc: &mut Desc<K>, stm: &Stm<K>, a: usize, x: u64) -
 }
 
 /// Takes the record where the attempt doesn't hold it, keeps what the word was unless that is kept already, and stores it.
-#[inline(never)]
+#[inline(always)]
 fn first_write<K: MemRule>(desc: &mut Desc<K>, stm: &Stm<K>, a: usize, x: u64) -> Write
     requires stm { IsOf desc.old stm.now }
     requires running { IsRunning (known desc.old) }
@@ -213,8 +213,11 @@ fn first_write<K: MemRule>(desc: &mut Desc<K>, stm: &Stm<K>, a: usize, x: u64) -
     requires inside { a < stm.now.config.words }
     requires spared { fenced (known desc.old).fence a ≡ false }
     ensures same { IsSameCaller desc.old desc.new }
-    ensures write { HasWritten (K.good stm.now.rule) stm.now.config (number desc.old) a x result (known desc.old) (known desc.new) }
-    ensures steps { AddsAtMost (7 + (known desc.old).reads_limit + 2 * (known desc.old).writes_limit) (known desc.old) (known desc.new) }
+    ensures write { HasWritten (K.good stm.now.rule) stm.now.config (number desc.old) a x result
+        (known desc.old) (known desc.new) }
+    ensures steps { AddsAtMost
+        (7 + (known desc.old).reads_limit + 2 * (known desc.old).writes_limit) (known desc.old)
+        (known desc.new) }
 {
     // An address whose write was taken back has its item still, and its record.
     if desc.local.undo.find(a).is_some() {

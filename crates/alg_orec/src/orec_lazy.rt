@@ -26,7 +26,7 @@ use crate::sampling::sample_valid;
 use alg_calls::algorithm::Algorithm;
 use steps_orec::reading;
 use steps_orec::reading::load;
-use stm_gate::direct::{direct_commit, direct_load, direct_store};
+use stm_gate::direct::direct_commit;
 use stm_gate::leave::leave;
 use stm_gate::promote::{Promotion, promote};
 use stm_model::alg::Alg;
@@ -55,9 +55,6 @@ impl Algorithm for OrecLazy {
     /// validation where its record is newer than the start; then those of a rollback where that ends the attempt.
     #[inline(always)]
     fn read<K: MemRule>(desc: &mut Desc<K>, stm: &Stm<K>, a: usize) -> Read {
-        if desc.local.granted {
-            return direct_load(desc, stm, a);
-        }
         if let Some(x) = desc.local.writes.find(a) {
             return Read::Value(x);
         }
@@ -72,9 +69,6 @@ impl Algorithm for OrecLazy {
     /// where the log is full.
     #[inline(always)]
     fn write<K: MemRule>(desc: &mut Desc<K>, stm: &Stm<K>, a: usize, x: u64) -> Write {
-        if desc.local.granted {
-            return direct_store(desc, stm, a, x);
-        }
         if let Push::Full { limit } = desc.local.writes.push(a, x) {
             let caller = desc.number;
             abort(&mut desc.seat, &mut desc.local, stm, caller);
@@ -150,21 +144,24 @@ fn first_read<K: MemRule>(desc: &mut Desc<K>, stm: &Stm<K>, a: usize, place: usi
     requires inside { a < stm.now.config.words }
     requires spared { fenced (known desc.old).fence a ≡ false }
     ensures same { IsSameCaller desc.old desc.new }
-    ensures read { HasRead (K.good stm.now.rule) stm.now.config (number desc.old) a result (known desc.old) (known desc.new) }
-    ensures steps { AddsAtMost (6 + (known desc.old).reads_limit) (known desc.old) (known desc.new) }
+    ensures read { HasRead (K.good stm.now.rule) stm.now.config (number desc.old) a result
+        (known desc.old) (known desc.new) }
+    ensures steps { AddsAtMost (6 + (known desc.old).reads_limit) (known desc.old)
+        (known desc.new) }
 {
-    let caller = desc.number;
     let limit = desc.local.reads.len();
     if desc.local.reads.count() == limit {
+        let caller = desc.number;
         abort(&mut desc.seat, &mut desc.local, stm, caller);
         return Read::Full { limit };
     }
-    match load_valid(&mut desc.seat, &mut desc.local, stm, caller, a) {
+    match load_valid(&mut desc.seat, &mut desc.local, stm, desc.number, a) {
         Ok(x) => {
             desc.local.reads.push_at(place, a, x);
             Read::Value(x)
         }
         Err(cause) => {
+            let caller = desc.number;
             abort(&mut desc.seat, &mut desc.local, stm, caller);
             Read::Conflict(cause)
         }
@@ -186,11 +183,12 @@ fn load_valid<K: MemRule>(
     requires view { CanLoadValid stm.now.config a local.old (view_of seat.old) }
     requires spared { fenced (view_of seat.old).gate.fence a ≡ false }
     ensures same { MovesView seat.old seat.new }
-    ensures loads { LoadsValid (good_of K.good stm.now.config stm.now.rule) stm.now.config caller a result local.old (view_of seat.old) local.new (view_of seat.new) }
+    ensures loads { LoadsValid (good_of K.good stm.now.config stm.now.rule) stm.now.config caller a
+        result local.old (view_of seat.old) local.new (view_of seat.new) }
     ensures steps { TakesAtMost (4 + local.old.reads.len) (view_of seat.old) (view_of seat.new) }
 {
     let r = record_of(stm.config.records, a);
-    let word = sample_valid(seat, local, stm, caller, a)?;
+    let word = sample_valid(seat, local, stm, caller, a, r)?;
     let x = load(stm, seat, caller, a);
     let after = reading::confirm(stm, seat, caller, r);
     if after != word {

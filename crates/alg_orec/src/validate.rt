@@ -28,7 +28,8 @@ pub(crate) fn validate<K: MemRule>(
     requires view { CanValidate stm.now.config local.old (view_of seat.old) }
     requires caller { caller < stm.now.config.callers }
     ensures same { MovesView seat.old seat.new }
-    ensures validates { Validates stm.now.config caller (good_of K.good stm.now.config stm.now.rule) result local.old (view_of seat.old) local.new (view_of seat.new) }
+    ensures validates { Validates stm.now.config caller (good_of K.good stm.now.config stm.now.rule)
+        result local.old (view_of seat.old) local.new (view_of seat.new) }
     ensures steps { TakesAtMost (1 + local.old.reads.len) (view_of seat.old) (view_of seat.new) }
 {
     match validate_reads(seat, local, stm, caller) {
@@ -38,6 +39,7 @@ pub(crate) fn validate<K: MemRule>(
 }
 
 /// The same, not in line.
+#[cold]
 #[inline(never)]
 fn validate_reads<K: MemRule>(
     seat: &mut Token<K>,
@@ -49,7 +51,8 @@ fn validate_reads<K: MemRule>(
     requires view { CanValidate stm.now.config local.old (view_of seat.old) }
     requires caller { caller < stm.now.config.callers }
     ensures same { MovesView seat.old seat.new }
-    ensures validates { Validates stm.now.config caller (good_of K.good stm.now.config stm.now.rule) result local.old (view_of seat.old) local.new (view_of seat.new) }
+    ensures validates { Validates stm.now.config caller (good_of K.good stm.now.config stm.now.rule)
+        result local.old (view_of seat.old) local.new (view_of seat.new) }
     ensures steps { TakesAtMost (1 + local.old.reads.len) (view_of seat.old) (view_of seat.new) }
 {
     let Some(i) = last_to_validate(local, stm.config.records) else {
@@ -99,7 +102,8 @@ pub(crate) fn pass_before<K: MemRule>(
     requires view { CanValidate stm.now.config local.now (view_of seat.old) }
     requires last { last ≤ length local.now.reads.items }
     ensures same { MovesView seat.old seat.new }
-    ensures passes { Passes stm.now.config caller 0 last result local.now (view_of seat.old) (view_of seat.new) }
+    ensures passes { Passes stm.now.config caller 0 last result local.now (view_of seat.old)
+        (view_of seat.new) }
     ensures steps { TakesAtMost last (view_of seat.old) (view_of seat.new) }
 {
     for i in 0..last {
@@ -121,7 +125,8 @@ fn pass_read<K: MemRule>(
     requires view { CanValidate stm.now.config local.now (view_of seat.old) }
     requires place { i < length local.now.reads.items }
     ensures same { MovesView seat.old seat.new }
-    ensures passes { Passes stm.now.config caller i (i + 1) result local.now (view_of seat.old) (view_of seat.new) }
+    ensures passes { Passes stm.now.config caller i (i + 1) result local.now (view_of seat.old)
+        (view_of seat.new) }
     ensures steps { TakesAtMost 1 (view_of seat.old) (view_of seat.new) }
 {
     let (b, _) = local.reads.item(i);

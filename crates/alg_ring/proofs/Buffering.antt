@@ -94,8 +94,11 @@ pub next-back : (ws : List (ℕ × ℕ)) (i : ℕ) (p : ℕ × ℕ) → i < leng
 next-back ws i p low once is =
     let whole : drop i ws ≡ p ∷ drop (suc i) ws = drop-cons ws i (0, 0) low ∙ ap (λ q. q ∷ drop (suc i) ws) (sym is) in
     let next : suc i ≡ i + 1 = omega arith in
-    let f = first-back p (drop (suc i) ws) (subst Once whole (once-drop ws i once)) in
-    (ap (λ (l : List (ℕ × ℕ)). touches (cells_of l) p.0) whole ∙ f.0, f.1 ∙ ap (λ (l : List (ℕ × ℕ)). over (cells_of l) p.0 0) (sym whole), ap (λ (l : List (ℕ × ℕ)). without (cells_of l) p.0) whole ∙ (f.2 ∙ ap (λ (k : ℕ). cells_of (drop k ws)) next))
+    let f = first-back p (drop (suc i) ws) (subst Once whole (once-drop ws i once)) in (
+      ap (λ (l : List (ℕ × ℕ)). touches (cells_of l) p.0) whole ∙ f.0,
+      f.1 ∙ ap (λ (l : List (ℕ × ℕ)). over (cells_of l) p.0 0) (sym whole),
+      ap (λ (l : List (ℕ × ℕ)). without (cells_of l) p.0) whole ∙ (f.2 ∙ ap (λ (k : ℕ). cells_of (drop k ws)) next),
+    )
 
 -- what is left is of the log
 pub sub-inside : (ws : List (ℕ × ℕ)) (i a : ℕ) → touches (cells_of (drop i ws)) a ≡ true → touches (cells_of ws) a ≡ true
@@ -134,7 +137,11 @@ take-all (w ∷ ws) (suc k) l = ap (λ q. w ∷ q) (take-all ws k (omega arith))
 
 -- an item of the log has its address among the cells
 pub item-inside : (ws : List (ℕ × ℕ)) (i : ℕ) (p : ℕ × ℕ) → i < length ws → p ≡ get_or ws i (0, 0) → touches (cells_of ws) p.0 ≡ true
-item-inside ws i p low is = sub-inside ws i p.0 (ap (λ (l : List (ℕ × ℕ)). touches (cells_of l) p.0) (drop-cons ws i (0, 0) low ∙ ap (λ q. q ∷ drop (suc i) ws) (sym is)) ∙ (touches-append (cells_of (drop (suc i) ws)) (record { at = p.0; value = p.1 } ∷ []) p.0 ∙ by (touches (cells_of (drop (suc i) ws)) p.0) (p.0 == p.0) (grind (arith, nat_tests))))
+item-inside ws i p low is =
+    sub-inside ws i p.0
+    (ap (λ (l : List (ℕ × ℕ)). touches (cells_of l) p.0) (drop-cons ws i (0, 0) low ∙ ap (λ q. q ∷ drop (suc i) ws) (sym is))
+    ∙ (touches-append (cells_of (drop (suc i) ws)) (record { at = p.0; value = p.1 } ∷ []) p.0
+    ∙ by (touches (cells_of (drop (suc i) ws)) p.0) (p.0 == p.0) (grind (arith, nat_tests))))
   where
     by : (b d : Bool) → d ≡ true → (if b then true else (if d then true else false)) ≡ true
     by true d e = refl

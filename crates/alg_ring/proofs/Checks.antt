@@ -38,7 +38,10 @@ module _ (c : Config) (start clock : ℕ) (filter : List ℕ) where
     scans-far far = (v.ring_read.words, v.ring_read.sure, [], refl, (refl, far, inl refl))
 
     module _ (good : List ℕ → Type 0) (w u : View) (later : ℕ) (t : Tells (ring_again c.ring) (FindsAgain (of_words good c.words) c) w later u) where
-      again_at : (words : List SlotWord) (more : List TracedStep) → w ≡ with_words v words more → u ≡ scanned c start clock v words (ltb later (v.attempt.start + c.ring)) (record { place = Clock; act = Load; found = Some later } ∷ more)
+      again_at : (words : List SlotWord) (more : List TracedStep) → w ≡ with_words v words more
+          → u
+          ≡ scanned c start clock v words (ltb later (v.attempt.start + c.ring))
+          (record { place = Clock; act = Load; found = Some later } ∷ more)
       again_at words more is = t.2 ∙ ap (λ (y : View). view_after (ring_again c.ring) t.0 y later) is
 
       met-words : (r : Option Cause) → MeetsOne c start clock r filter v w → (words : List SlotWord) × (more : List TracedStep) × (w ≡ with_words v words more)
@@ -46,9 +49,17 @@ module _ (c : Config) (start clock : ℕ) (filter : List ℕ) where
       met-words (Some cause) m = (m.0, m.1, m.2)
 
       pub scans-later : (r : Option Cause) → MeetsOne c start clock r filter v w → start + c.ring ≤ later → Scans c start clock (Err (causes.Overrun start later)) filter v u
-      scans-later r m far = let k = met-words r m in (k.0, ltb later (v.attempt.start + c.ring), record { place = Clock; act = Load; found = Some later } ∷ k.1, again_at k.0 k.1 k.2, (refl, far, inr (Load, (0, omega arith, refl))))
+      scans-later r m far =
+          let k = met-words r m in (
+            k.0,
+            ltb later (v.attempt.start + c.ring),
+            record { place = Clock; act = Load; found = Some later } ∷ k.1,
+            again_at k.0 k.1 k.2,
+            (refl, far, inr (Load, (0, omega arith, refl))),
+          )
 
-      one-refutes : (cause : Cause) (more : List TracedStep) → later < start + c.ring → OneMeets c start clock cause filter more → Refutes c start clock cause filter (record { place = Clock; act = Load; found = Some later } ∷ more)
+      one-refutes : (cause : Cause) (more : List TracedStep) → later < start + c.ring → OneMeets c start clock cause filter more
+          → Refutes c start clock cause filter (record { place = Clock; act = Load; found = Some later } ∷ more)
       one-refutes (causes.Filter time bits) more near m = (later, more, refl, near, m)
       one-refutes (causes.Clock had now) more near m = m
       one-refutes (causes.Record index word from) more near m = m
@@ -89,7 +100,8 @@ module _ (good : List ℕ → Type 0) (c : Config) (start : ℕ) (filter : List 
   rule = of_words good c.words
 
   -- the check passes at the first load
-  pub passes-at : (m : World) (clock : ℕ) (gate : GateView) (w : View) → v.attempt.start ≡ start → v.history.front ≡ start → HasRing v → clock ≡ start → FindsLook rule c m v clock → w ≡ record (looked_at v clock true) { gate = gate } → Passes good c gate start v w
+  pub passes-at : (m : World) (clock : ℕ) (gate : GateView) (w : View) → v.attempt.start ≡ start → v.history.front ≡ start → HasRing v
+      → clock ≡ start → FindsLook rule c m v clock → w ≡ record (looked_at v clock true) { gate = gate } → Passes good c gate start v w
   passes-at m clock gate w start_is front_is has same f is =
       let s : RingSees rule c m v v.attempt.start = f.looks.passes (same ∙ sym start_is) in
       let seen : v.history.seen ≡ upto m.history start = s.begins.seen ∙ ap (upto m.history) front_is in record {
@@ -114,12 +126,19 @@ module _ (good : List ℕ → Type 0) (c : Config) (start : ℕ) (filter : List 
       }
 
   -- the check fails
-  pub fails-at : (m : World) (clock : ℕ) (cause : Cause) (w u : View) → v.attempt.start ≡ start → (c.callers ≡ 1 → start ≡ c.clock + v.steps.rises) → clock ≢ start → FindsLook rule c m v clock → w ≡ looked_at v clock false → Scans c start clock (Err cause) filter w u → Fails good c cause filter v u
+  pub fails-at : (m : World) (clock : ℕ) (cause : Cause) (w u : View) → v.attempt.start ≡ start
+      → (c.callers ≡ 1 → start ≡ c.clock + v.steps.rises) → clock ≢ start → FindsLook rule c m v clock → w ≡ looked_at v clock false
+      → Scans c start clock (Err cause) filter w u → Fails good c cause filter v u
   fails-at m clock cause w u start_is sole apart f is s = record {
     read = record v.ring_read { checking = true; clock = clock; words = s.0; sure = s.1 };
     more = s.2 ++ record { place = Clock; act = Load; found = Some clock } ∷ [];
     is = s.3 ∙ (ap (λ (y : View). scanned c start clock y s.0 s.1 s.2) is
-        ∙ (λ i. record v { ring_read = record v.ring_read { checking = true; clock = clock; words = s.0; sure = s.1 }; steps = record v.steps { step_trace = sym (append_assoc s.2 (record { place = Clock; act = Load; found = Some clock } ∷ []) v.steps.step_trace) i } }));
+        ∙ (λ i.
+        record v {
+          ring_read = record v.ring_read { checking = true; clock = clock; words = s.0; sure = s.1 };
+          steps = record v.steps
+              { step_trace = sym (append_assoc s.2 (record { place = Clock; act = Load; found = Some clock } ∷ []) v.steps.step_trace) i };
+        }));
     others = λ one. apart (f.sole one ∙ sym (sole one));
     clock = clock;
     loads = s.2;
@@ -128,7 +147,8 @@ module _ (good : List ℕ → Type 0) (c : Config) (start : ℕ) (filter : List 
   }
 
   -- the view before the load of DONE
-  scanned-path : (clock : ℕ) (words : List SlotWord) (more : List TracedStep) (w u : View) → w ≡ looked_at v clock false → u ≡ scanned c start clock w words true more → u ≡ scanned c start clock (looked_at v clock false) words true more
+  scanned-path : (clock : ℕ) (words : List SlotWord) (more : List TracedStep) (w u : View) → w ≡ looked_at v clock false
+      → u ≡ scanned c start clock w words true more → u ≡ scanned c start clock (looked_at v clock false) words true more
   scanned-path clock words more w u is e = e ∙ ap (λ (y : View). scanned c start clock y words true more) is
 
   -- the steps of a check that loads DONE, the latest first
@@ -136,7 +156,8 @@ module _ (good : List ℕ → Type 0) (c : Config) (start : ℕ) (filter : List 
   move_steps clock done more = record { place = Done; act = Load; found = Some done } ∷ (more ++ record { place = Clock; act = Load; found = Some clock } ∷ [])
 
   -- the check passes with the load of DONE
-  pub moves-at : (m n : World) (clock done : ℕ) (gate : GateView) (words : List SlotWord) (more : List TracedStep) (w : View) → v.attempt.start ≡ start → HasRing v → clock ≢ start → (c.callers ≡ 1 → start ≡ c.clock + v.steps.rises) → FindsLook rule c m v clock
+  pub moves-at : (m n : World) (clock done : ℕ) (gate : GateView) (words : List SlotWord) (more : List TracedStep) (w : View)
+      → v.attempt.start ≡ start → HasRing v → clock ≢ start → (c.callers ≡ 1 → start ≡ c.clock + v.steps.rises) → FindsLook rule c m v clock
       → RingMoves rule c n (scanned c start clock (looked_at v clock false) words true more) done
       → Explains (word_now (upto n.history (moved (scanned c start clock (looked_at v clock false) words true more) done))) v.attempt.reads
       → w ≡ record (view_after ring_move n (scanned c start clock (looked_at v clock false) words true more) done) { gate = gate } → Passes good c gate (max start (min done clock)) v w
@@ -149,9 +170,25 @@ module _ (good : List ℕ → Type 0) (c : Config) (start : ℕ) (filter : List 
       gate = gate;
       attempt = record { start = to i; reads = read_in v; stores = v.attempt.stores; entered = v.attempt.entered };
       ring_read = passed (record v.ring_read { checking = true; clock = clock; words = words; sure = true });
-      steps = record v.steps { step_trace = ap (λ (t : List TracedStep). record { place = Done; act = Load; found = Some done } ∷ t) (sym (append_assoc more (record { place = Clock; act = Load; found = Some clock } ∷ []) v.steps.step_trace)) i };
+      steps =
+          record v.steps {
+            step_trace = ap (λ (t : List TracedStep). record { place = Done; act = Load; found = Some done } ∷ t)
+                (sym (append_assoc more (record { place = Clock; act = Load; found = Some clock } ∷ []) v.steps.step_trace)) i;
+          };
     });
-    sees = subst (RingSees rule c n v) to (record { value = r.sees.value; sees = r.sees.sees; begins = record { legal = r.sees.begins.legal; below = r.sees.begins.below; seen = r.sees.begins.seen; front = r.sees.begins.front; limit = r.sees.begins.limit } });
+    sees =
+        subst (RingSees rule c n v) to
+        (record {
+          value = r.sees.value;
+          sees = r.sees.sees;
+          begins = record {
+            legal = r.sees.begins.legal;
+            below = r.sees.begins.below;
+            seen = r.sees.begins.seen;
+            front = r.sees.begins.front;
+            limit = r.sees.begins.limit;
+          };
+        });
     kept = subst (λ (k : ℕ). Explains (word_now (upto n.history k)) v.attempt.reads) to kept;
     later = (let e = start_is in omega arith);
     inside = has.inside;
@@ -160,7 +197,9 @@ module _ (good : List ℕ → Type 0) (c : Config) (start : ℕ) (filter : List 
     moves = inr (
       clock,
       done,
-      step_trace-right (record { place = Done; act = Load; found = Some done } ∷ []) (more ++ record { place = Clock; act = Load; found = Some clock } ∷ []) Clock clock (step_trace-right more (record { place = Clock; act = Load; found = Some clock } ∷ []) Clock clock (Load, (0, omega arith, refl))),
+      step_trace-right (record { place = Done; act = Load; found = Some done } ∷ [])
+          (more ++ record { place = Clock; act = Load; found = Some clock } ∷ []) Clock clock
+          (step_trace-right more (record { place = Clock; act = Load; found = Some clock } ∷ []) Clock clock (Load, (0, omega arith, refl))),
       (Load, (0, omega arith, refl)),
       ap (λ (k : ℕ). max k (min done clock)) (sym start_is),
     );
@@ -201,7 +240,8 @@ module _ (good : List ℕ → Type 0) (c : Config) (start : ℕ) (filter : List 
     pub check-fails : (cause : Cause) (u : View) → clock ≢ start → Scans c start clock (Err cause) filter w u → Checks good c (Err cause) filter v u
     check-fails cause u d s = fails-at t.0 clock cause w u can.start_is can.sole d t.1 (look-path clock w false (other-start d) t) s
 
-    pub check-moves : (r : Unit {0}) (u x : View) (done : ℕ) → clock ≢ start → Scans c start clock (Ok r) filter w u → Tells ring_move (FindsMove rule c) u done x → Checks good c (Ok (max start (min done clock))) filter v x
+    pub check-moves : (r : Unit {0}) (u x : View) (done : ℕ) → clock ≢ start → Scans c start clock (Ok r) filter w u
+        → Tells ring_move (FindsMove rule c) u done x → Checks good c (Ok (max start (min done clock))) filter v x
     check-moves r u x done d s k =
         let path = scanned-path clock s.0 s.1 w u (look-path clock w false (other-start d) t) s.2 in
         let f = subst (λ (y : View). FindsMove rule c k.0 y done) path k.1 in (
@@ -231,13 +271,19 @@ module _ (good : List ℕ → Type 0) (c : Config) (start : ℕ) (filter : List 
         let path = grant-path clock w true (same-grant e) t in (
           passes-at t.0 clock (granted_at v.gate.time v.gate) w can.start_is can.front_is can.grant.has e t.1 (path ∙ (λ i. record (looked_at v clock true) { gate = granted_at (settled i) v.gate })),
           sym e ∙ settled,
-          (record { place = Clock; act = Load; found = Some clock } ∷ [], ap (λ (y : View). y.steps.step_trace) path, subst (λ (k : ℕ). InStepTrace (record { place = Clock; act = Load; found = Some clock } ∷ []) Clock k) e (Load, (0, omega arith, refl))),
+          (
+            record { place = Clock; act = Load; found = Some clock } ∷ [],
+            ap (λ (y : View). y.steps.step_trace) path,
+            subst (λ (k : ℕ). InStepTrace (record { place = Clock; act = Load; found = Some clock } ∷ []) Clock k) e
+                (Load, (0, omega arith, refl)),
+          ),
         )
 
     pub grant-fails : (cause : Cause) (u : View) → clock ≢ start → Scans c start clock (Err cause) filter w u → ChecksToGrant good c (Err cause) filter v u
     grant-fails cause u d s = fails-at t.0 clock cause w u can.start_is can.sole d t.1 (grant-path clock w false (other-grant d) t) s
 
-    pub grant-moves : (r : Unit {0}) (u x : View) (done : ℕ) → clock ≢ start → Scans c start clock (Ok r) filter w u → Tells ring_move_grant (FindsLevel rule c) u done x → ChecksToGrant good c (Ok (max start (min done clock))) filter v x
+    pub grant-moves : (r : Unit {0}) (u x : View) (done : ℕ) → clock ≢ start → Scans c start clock (Ok r) filter w u
+        → Tells ring_move_grant (FindsLevel rule c) u done x → ChecksToGrant good c (Ok (max start (min done clock))) filter v x
     grant-moves r u x done d s k =
         let y : View = scanned c start clock (looked_at v clock false) s.0 true s.1 in
         let path = scanned-path clock s.0 s.1 w u (grant-path clock w false (other-grant d) t) s.2 in
@@ -249,13 +295,22 @@ module _ (good : List ℕ → Type 0) (c : Config) (start : ℕ) (filter : List 
         let end : max start (min done clock) ≡ v.gate.time = omega arith in
         let to : moved y done ≡ v.gate.time = moved-is y start clock done is_start refl ∙ end in
         let here : (moved y done == v.gate.time) ≡ true = grind (arith, nat_tests) in
-        let last : x ≡ record (view_after ring_move k.0 y done) { gate = granted_at v.gate.time v.gate } = k.2 ∙ (ap (λ (q : View). view_after ring_move_grant k.0 q done) path ∙ ap (λ (b : Bool). record (view_after ring_move k.0 y done) { gate = if b then granted_at v.gate.time v.gate else v.gate }) here) in
+        let last : x ≡ record (view_after ring_move k.0 y done) { gate = granted_at v.gate.time v.gate } = k.2 ∙
+        (ap (λ (q : View). view_after ring_move_grant k.0 q done) path
+        ∙ ap (λ (b : Bool). record (view_after ring_move k.0 y done) { gate = if b then granted_at v.gate.time v.gate else v.gate }) here)
+        in
         let more : List TracedStep = record { place = Done; act = Load; found = Some done } ∷ (s.1 ++ record { place = Clock; act = Load; found = Some clock } ∷ []) in (
           moves-at t.0 k.0 clock done (granted_at v.gate.time v.gate) s.0 s.1 x is_start can.grant.has d can.sole t.1 f.moves f.kept last,
           end,
           (
             more,
-            ap (λ (q : View). q.steps.step_trace) last ∙ ap (λ (z : List TracedStep). record { place = Done; act = Load; found = Some done } ∷ z) (sym (append_assoc s.1 (record { place = Clock; act = Load; found = Some clock } ∷ []) v.steps.step_trace)),
-            subst (λ (q : ℕ). InStepTrace more Clock q) (is_time ∙ sym end) (step_trace-right (record { place = Done; act = Load; found = Some done } ∷ []) (s.1 ++ record { place = Clock; act = Load; found = Some clock } ∷ []) Clock clock (step_trace-right s.1 (record { place = Clock; act = Load; found = Some clock } ∷ []) Clock clock (Load, (0, omega arith, refl)))),
+            ap (λ (q : View). q.steps.step_trace) last
+                ∙ ap (λ (z : List TracedStep). record { place = Done; act = Load; found = Some done } ∷ z)
+                (sym (append_assoc s.1 (record { place = Clock; act = Load; found = Some clock } ∷ []) v.steps.step_trace)),
+            subst (λ (q : ℕ). InStepTrace more Clock q) (is_time ∙ sym end)
+                (step_trace-right (record { place = Done; act = Load; found = Some done } ∷ [])
+                (s.1 ++ record { place = Clock; act = Load; found = Some clock } ∷ []) Clock clock
+                (step_trace-right s.1 (record { place = Clock; act = Load; found = Some clock } ∷ []) Clock clock
+                (Load, (0, omega arith, refl)))),
           ),
         )

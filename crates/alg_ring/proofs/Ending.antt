@@ -1,7 +1,7 @@
 -- What stands of an attempt of RingSW that isn't promoted, and how it ends without its entry.
 use Rattle.std.proofs.Common.{ℕ, ◌≡◌, List, Bool, true, false, sym, ap, ◌∙◌, arith, subst}
-use Rattle.std.specs.Prelude.{not}
-use Rattle.stm_model.specs.Algorithms.{has_records, irrevocable_under}
+use Rattle.std.specs.Prelude.{not, ◌&&◌}
+use Rattle.stm_model.specs.Algorithms.{closes_gate, has_records, irrevocable_under}
 use Rattle.stm_model.specs.Memories.{is_empty}
 use Rattle.stm_model.specs.declared.alg.Alg.{Alg}
 use Rattle.stm_model.specs.declared.alg.Alg.TheVariants.{Cgl, Tml, OrecLazy, OrecEager, RingSw, Serial}
@@ -30,6 +30,10 @@ module _ (good : List ℕ → Type 0) (c : Config) (n : ℕ) (l : Local) (v : Vi
 
   pub ring-of : l.granted ≡ false → IsRing c l v
   ring-of plain = ring-by l.algorithm l.granted (sym i.named ∙ named) plain i.keeps
+
+  -- by what contracts see of it
+  pub plain-of : (o : Own) → (known_of v o).granted ≡ false → l.granted ≡ false
+  plain-of o e = (λ j. closes_gate ((sym named ∙ i.named) j) && l.granted) ∙ (sym i.granted ∙ ((λ j. granted_under (sym named j) v.gate v.lock) ∙ e))
 
   module _ (k : IsRing c l v) where
     pub revocable : (o : Own) → is_irrevocable (known_of v o) ≡ false

@@ -31,7 +31,16 @@ module _ (good : List ℕ → Type 0) (c : Config) (time : ℕ) (l : Local) (v :
 
   pub may-slot : (i : ℕ) (writes : List Cell) (more : List TracedStep) → i < SLOT_WORDS → (0 < i → ws ≡ writes) → CanRingSlot time i ws (slotted_at v i writes more)
   may-slot i writes more low same = record {
-    turn = record { has = record { runs = record { phase = can.turn.has.runs.phase; algorithm = can.turn.has.runs.algorithm; plain = can.turn.has.runs.plain }; inside = can.turn.has.inside }; taken = can.turn.taken; unentered = can.turn.unentered };
+    turn =
+        record {
+          has = record {
+            runs =
+                record { phase = can.turn.has.runs.phase; algorithm = can.turn.has.runs.algorithm; plain = can.turn.has.runs.plain };
+            inside = can.turn.has.inside;
+          };
+          taken = can.turn.taken;
+          unentered = can.turn.unentered;
+        };
     ticked = can.ticked;
     checked = can.checked;
     next = can.next;
@@ -42,7 +51,16 @@ module _ (good : List ℕ → Type 0) (c : Config) (time : ℕ) (l : Local) (v :
 
   pub may-enter : (writes : List Cell) (more : List TracedStep) → ws ≡ writes → CanRingEnter (of_words good c.words) c.words time (slotted_at v SLOT_WORDS writes more)
   may-enter writes more same = subst (λ (cs : List Cell). CanRingEnter (of_words good c.words) c.words time (slotted_at v SLOT_WORDS cs more)) same (record {
-    turn = record { has = record { runs = record { phase = can.turn.has.runs.phase; algorithm = can.turn.has.runs.algorithm; plain = can.turn.has.runs.plain }; inside = can.turn.has.inside }; taken = can.turn.taken; unentered = can.turn.unentered };
+    turn =
+        record {
+          has = record {
+            runs =
+                record { phase = can.turn.has.runs.phase; algorithm = can.turn.has.runs.algorithm; plain = can.turn.has.runs.plain };
+            inside = can.turn.has.inside;
+          };
+          taken = can.turn.taken;
+          unentered = can.turn.unentered;
+        };
     ticked = can.ticked;
     checked = can.checked;
     full = refl;
@@ -56,7 +74,9 @@ module _ (good : List ℕ → Type 0) (c : Config) (time : ℕ) (l : Local) (v :
     keeps = can.keeps;
   })
 
-  pub tells-entered : (n : ℕ) (writes : List Cell) (more : List TracedStep) (w : View) → ws ≡ writes → Tells (ring_enter n time) (RingEnters (of_words good c.words) c n time) (slotted_at v SLOT_WORDS writes more) time w → Enters good c n time l v w
+  pub tells-entered : (n : ℕ) (writes : List Cell) (more : List TracedStep) (w : View) → ws ≡ writes
+      → Tells (ring_enter n time) (RingEnters (of_words good c.words) c n time) (slotted_at v SLOT_WORDS writes more) time w
+      → Enters good c n time l v w
   tells-entered n writes more w same t = by (subst (λ (cs : List Cell). Tells (ring_enter n time) (RingEnters (of_words good c.words) c n time) (slotted_at v SLOT_WORDS cs more) time w) (sym same) t)
     where
       by : Tells (ring_enter n time) (RingEnters (of_words good c.words) c n time) (slotted_at v SLOT_WORDS ws more) time w → Enters good c n time l v w

@@ -36,8 +36,13 @@ pub filter-put : (a x i : ℕ) (ws : List (ℕ × ℕ)) → filter_word (address
 filter-put a x i [] = refl
 filter-put a x i (w ∷ ws) = by (w.0 == a) refl (filter-put a x i ws)
   where
-    by : (b : Bool) → (w.0 == a) ≡ b → filter_word (addresses (put a x ws)) i ≡ bit_or (address_word a i) (filter_word (addresses ws) i) → filter_word (addresses (if b then (a, x) ∷ ws else w ∷ put a x ws)) i ≡ bit_or (address_word a i) (bit_or (address_word w.0 i) (filter_word (addresses ws) i))
-    by true q rec = let same : w.0 ≡ a = grind (arith, nat_tests) in sym (ap (λ (b : ℕ). bit_or (address_word a i) (bit_or (address_word b i) (filter_word (addresses ws) i))) same ∙ or-again (address_word a i) (filter_word (addresses ws) i))
+    by : (b : Bool) → (w.0 == a) ≡ b → filter_word (addresses (put a x ws)) i ≡ bit_or (address_word a i) (filter_word (addresses ws) i)
+        → filter_word (addresses (if b then (a, x) ∷ ws else w ∷ put a x ws)) i
+        ≡ bit_or (address_word a i) (bit_or (address_word w.0 i) (filter_word (addresses ws) i))
+    by true q rec =
+        let same : w.0 ≡ a = grind (arith, nat_tests) in
+        sym (ap (λ (b : ℕ). bit_or (address_word a i) (bit_or (address_word b i) (filter_word (addresses ws) i))) same
+        ∙ or-again (address_word a i) (filter_word (addresses ws) i))
     by false q rec = ap (bit_or (address_word w.0 i)) rec ∙ or-swap (address_word w.0 i) (address_word a i) (filter_word (addresses ws) i)
 
 -- THE RING'S FILTER

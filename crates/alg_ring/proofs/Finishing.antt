@@ -61,7 +61,9 @@ pub freed-is : {K : Type 0} (s t : SeatView K) → SeatTells ring_free Nothing s
 freed-is {K} s t h = ap (λ (y : SeatView K). y.view) h.3
 
 -- the lock is free and the attempt has left: what was decided is told
-pub finishes : (good : List ℕ → Type 0) (c : Config) (n : ℕ) (answer : Commit) (l m : Local) (v u w : View) → IsDecided good c n answer v l u → HasRoom l → w ≡ left n (freed u) → m ≡ ended l → IsOutside w → StandsTold good c n (Commits good c n answer) l v m w
+pub finishes : (good : List ℕ → Type 0) (c : Config) (n : ℕ) (answer : Commit) (l m : Local) (v u w : View)
+    → IsDecided good c n answer v l u → HasRoom l → w ≡ left n (freed u) → m ≡ ended l → IsOutside w
+    → StandsTold good c n (Commits good c n answer) l v m w
 finishes good c n answer l m v u w d lengths end idle out = subst (λ (k : Local). StandsTold good c n (Commits good c n answer) l v k w) (sym idle) (record {
   stands = record { holds = sym out.reopened; lengths = lengths; by = out };
   told = subst (λ (y : View). Commits good c n answer (known_of v (own_of l)) (known_of y (own_of l))) (sym end) d.commits;
@@ -104,7 +106,8 @@ module _ (good : List ℕ → Type 0) (c : Config) (n : ℕ) (l : Local) (v w : 
   }
 
   -- with neither a store in the heap nor an entry that isn't written back, it can free the lock and leave
-  decided : (answer : Commit) (history : SeenHistory) (mine : Attempt) (read : RingRead) (commit : RingCommit) (rises : ℕ) (more : List TracedStep) → mine.entered ≡ false → mine.stores ≡ [] → (commit.committed ≡ true → commit.finished ≡ true)
+  decided : (answer : Commit) (history : SeenHistory) (mine : Attempt) (read : RingRead) (commit : RingCommit) (rises : ℕ)
+      (more : List TracedStep) → mine.entered ≡ false → mine.stores ≡ [] → (commit.committed ≡ true → commit.finished ≡ true)
       → Commits good c n answer (known_of v o) (known_of (left n (freed (locked_at history mine read commit rises more))) o) → IsDecided good c n answer v l (locked_at history mine read commit rises more)
   decided answer history mine read commit rises more unentered unstored finished told = record {
     free = record { runs = record { phase = i.phase; algorithm = named; plain = k.optimistic.ungranted }; taken = refl; finished = finished };
@@ -133,9 +136,23 @@ module _ (good : List ℕ → Type 0) (c : Config) (n : ℕ) (l : Local) (v w : 
 
   -- nothing was appended
   unmade : (answer : Commit) (read : RingRead) (clock : ℕ) (more : List TracedStep) (u : View) → u ≡ ticked_at read clock more
-      → (Quits (known_of v o) (known_of (left n (freed (ticked_at read clock more))) o) → Commits good c n answer (known_of v o) (known_of (left n (freed (ticked_at read clock more))) o)) → IsDecided good c n answer v l u
-  unmade answer read clock more u is told = subst (IsDecided good c n answer v l) (sym is) (decided answer v.history v.attempt read (ticking clock) v.steps.rises more i.unentered k.optimistic.unstored (λ e. absurd cc) (told (
-      quits-left n v (freed (ticked_at read clock more)) o (record { carried = record { named = refl; base = refl; installs = refl; fence = refl; step_trace = (lock_freed ∷ more, refl); unlocked = refl; unwritten = k.optimistic.unwritten }; history = refl })
+      → (Quits (known_of v o) (known_of (left n (freed (ticked_at read clock more))) o)
+      → Commits good c n answer (known_of v o) (known_of (left n (freed (ticked_at read clock more))) o)) → IsDecided good c n answer v l u
+  unmade answer read clock more u is told = subst (IsDecided good c n answer v l) (sym is) (decided answer v.history v.attempt read
+      (ticking clock) v.steps.rises more i.unentered k.optimistic.unstored (λ e. absurd cc) (told (
+      quits-left n v (freed (ticked_at read clock more)) o
+      (record {
+        carried = record {
+          named = refl;
+          base = refl;
+          installs = refl;
+          fence = refl;
+          step_trace = (lock_freed ∷ more, refl);
+          unlocked = refl;
+          unwritten = k.optimistic.unwritten;
+        };
+        history = refl;
+      })
       (let r = k.optimistic.rises in (omega arith, omega arith)) turn.has.revocable)))
 
   pub may-tick : HasTurn w
@@ -153,7 +170,8 @@ module _ (good : List ℕ → Type 0) (c : Config) (n : ℕ) (l : Local) (v w : 
       quits,
       ap asks_at_commit named,
       turn.has.wrote,
-      finds-full clock v (left n (freed (ticked_at v.ring_read clock early))) o o high (found-left n Clock clock v (freed (ticked_at v.ring_read clock early)) o o (lock_freed ∷ early, refl, Load, (1, omega arith, refl))),
+      finds-full clock v (left n (freed (ticked_at v.ring_read clock early))) o o high
+          (found-left n Clock clock v (freed (ticked_at v.ring_read clock early)) o o (lock_freed ∷ early, refl, Load, (1, omega arith, refl))),
     ))
 
     -- THE CHECK
@@ -170,8 +188,11 @@ module _ (good : List ℕ → Type 0) (c : Config) (n : ℕ) (l : Local) (v w : 
     pub decides-conflict : n < c.callers → (cause : Cause) (x : View) → Fails good c cause l.loaded u x → IsDecided good c n (commits.Conflict cause) v l x
     decides-conflict low cause x f = unmade (commits.Conflict cause) f.read clock (f.more ++ early) x failed (λ quits. (
       quits,
-      refuted c n ToCommit (known_of v o) (known_of (left n (freed (ticked_at f.read clock (f.more ++ early)))) o) l.loaded u.attempt.start f.clock (last ++ lock_freed ∷ []) f.loads early cause named (sym (ap (λ (z : View). z.attempt.start) ticked)) k.read
-          (ap (λ (s : List TracedStep). last ++ lock_freed ∷ s) (append_assoc f.more early v.steps.step_trace) ∙ (sym (append_assoc last (lock_freed ∷ []) (f.more ++ (early ++ v.steps.step_trace))) ∙ ap (λ (m : List TracedStep). (last ++ lock_freed ∷ []) ++ (m ++ (early ++ v.steps.step_trace))) f.parts)) f.refutes,
+      refuted c n ToCommit (known_of v o) (known_of (left n (freed (ticked_at f.read clock (f.more ++ early)))) o) l.loaded u.attempt.start
+          f.clock (last ++ lock_freed ∷ []) f.loads early cause named (sym (ap (λ (z : View). z.attempt.start) ticked)) k.read
+          (ap (λ (s : List TracedStep). last ++ lock_freed ∷ s) (append_assoc f.more early v.steps.step_trace)
+          ∙ (sym (append_assoc last (lock_freed ∷ []) (f.more ++ (early ++ v.steps.step_trace)))
+          ∙ ap (λ (m : List TracedStep). (last ++ lock_freed ∷ []) ++ (m ++ (early ++ v.steps.step_trace))) f.parts)) f.refutes,
       (let d = f.others in omega arith),
       turn.has.wrote,
     ))
@@ -199,7 +220,10 @@ module _ (good : List ℕ → Type 0) (c : Config) (n : ℕ) (l : Local) (v w : 
       start-is = p.1 (ap (λ (y : View). y.lock.taken) ticked) (ap (λ (y : View). y.ring_commit.committed) ticked) (ap (λ (y : View). y.ring_commit.ticked) ticked) ∙ ap (λ (y : View). y.ring_commit.clock) ticked
 
       keeps : Keeps rule v.attempt.reads ws
-      keeps = keeps-cells good c.words v.attempt.reads ws i.reads_inside (subst (λ (xs : List (ℕ × ℕ)). logs.Keeps good c.words (record { reads = items v.attempt.reads; writes = xs })) (attempt.written-is good c n l v has plain) (turn.has.keeps turn.has.wrote))
+      keeps =
+          keeps-cells good c.words v.attempt.reads ws i.reads_inside
+          (subst (λ (xs : List (ℕ × ℕ)). logs.Keeps good c.words (record { reads = items v.attempt.reads; writes = xs }))
+          (attempt.written-is good c n l v has plain) (turn.has.keeps turn.has.wrote))
 
       pub may-enter : clock < CLOCK_LIMIT → CanEnter good c (clock + 1) l x
       may-enter under = subst (CanEnter good c (clock + 1) l) (sym passed) (record {
@@ -229,7 +253,9 @@ module _ (good : List ℕ → Type 0) (c : Config) (n : ℕ) (l : Local) (v w : 
         mine = record { time = clock + 1; caller = n; number = length v.history.made; reads = v.attempt.reads; writes = ws }
 
         abbrev behind : Bool → List Cell → List TracedStep → View
-        behind finished back more = locked_at (record v.history { made = mine ∷ v.history.made; seen = mine ∷ e.world.history; front = clock + 1 }) (record { start = 0; reads = []; stores = []; entered = v.attempt.entered }) no_read
+        behind finished back more =
+            locked_at (record v.history { made = mine ∷ v.history.made; seen = mine ∷ e.world.history; front = clock + 1 })
+            (record { start = 0; reads = []; stores = []; entered = v.attempt.entered }) no_read
             (record { slotted = 0; writes = ws; ticked = true; clock = clock + 1; committed = true; finished = finished; back = back }) (v.steps.rises + 1) more
 
         entered : y ≡ behind false ws (e.more ++ (p.0.more ++ early))
@@ -251,7 +277,10 @@ module _ (good : List ℕ → Type 0) (c : Config) (n : ℕ) (l : Local) (v w : 
             idle = (refl, refl, refl, refl, unlocked-of v.gate.algorithm false v.tml.writer refl k.optimistic.unwritten);
             grows = record {
               later = grows.later ++ made ∷ [];
-              is = ap (λ (h : List Entry). public_history h ++ made ∷ []) (sym e.shown.seen) ∙ (ap (λ (h : List public.Entry). h ++ made ∷ []) grows.is ∙ append_assoc (public_history v.history.seen) grows.later (made ∷ []));
+              is =
+                  ap (λ (h : List Entry). public_history h ++ made ∷ []) (sym e.shown.seen)
+                  ∙ (ap (λ (h : List public.Entry). h ++ made ∷ []) grows.is
+                  ∙ append_assoc (public_history v.history.seen) grows.later (made ∷ []));
               ascending = ascending-append v.history.front x.history.front grows.later (made ∷ []) grows.ascending grows.up_to rose (omega (arith, front-is), tt);
               up_to = within-append x.history.front (clock + 1) grows.later (made ∷ []) grows.up_to (omega (arith, front-is)) (omega arith, tt);
               front_rose = omega (arith, front-is);
@@ -294,7 +323,10 @@ module _ (good : List ℕ → Type 0) (c : Config) (n : ℕ) (l : Local) (v w : 
         module _ (z : View) (b : WritesBack y z) where
           written : z ≡ behind false [] (b.more ++ (e.more ++ (p.0.more ++ early)))
           written = b.is ∙ (ap (λ (q : View). record q { ring_commit = record q.ring_commit { back = [] }; steps = record q.steps { step_trace = b.more ++ q.steps.step_trace } }) entered
-              ∙ ap (λ (s : List TracedStep). record (behind false [] []) { steps = record v.steps { rises = v.steps.rises + 1; step_trace = s } }) (sym (append_assoc b.more (e.more ++ (p.0.more ++ early)) v.steps.step_trace)))
+              ∙ ap
+              (λ (s : List TracedStep).
+              record (behind false [] []) { steps = record v.steps { rises = v.steps.rises + 1; step_trace = s } })
+              (sym (append_assoc b.more (e.more ++ (p.0.more ++ early)) v.steps.step_trace)))
 
           pub may-done : CanRingDone (clock + 1) z
           may-done = subst (CanRingDone (clock + 1)) (sym written) (record {
@@ -307,4 +339,5 @@ module _ (good : List ℕ → Type 0) (c : Config) (n : ℕ) (l : Local) (v w : 
           pub decides-committed : (q : View) → Tells (ring_done (clock + 1)) Nothing z (clock + 1) q → IsDecided good c n (commits.Committed (clock + 1)) v l q
           decides-committed q d = let more : List TracedStep = done_stored (clock + 1) ∷ (b.more ++ (e.more ++ (p.0.more ++ early))) in
               subst (IsDecided good c n (commits.Committed (clock + 1)) v l) (sym (d.2 ∙ ap (λ (y : View). view_after (ring_done (clock + 1)) d.0 y (clock + 1)) written))
-              (decided (commits.Committed (clock + 1)) (behind true [] more).history (behind true [] more).attempt no_read (behind true [] more).ring_commit (v.steps.rises + 1) more i.unentered refl (λ f. refl) (commits-at more))
+              (decided (commits.Committed (clock + 1)) (behind true [] more).history (behind true [] more).attempt no_read
+              (behind true [] more).ring_commit (v.steps.rises + 1) more i.unentered refl (λ f. refl) (commits-at more))

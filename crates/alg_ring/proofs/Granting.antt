@@ -64,7 +64,9 @@ pub record CanGrant (good : List ℕ → Type 0) (c : Config) (n : ℕ) (l : Loc
   pub free : l.committing ≡ false
   pub alone : IsAlone c.callers n v
 
-pub can-grant : {K : Type 0} (good : K → List ℕ → Type 0) (stm : Stm K) {e : Handle K} {who : Who K} {v : View} {n : ℕ} {l : Local} → Opened good stm e who v n l → IsRunning (known e) → (known e).alg ≡ RingSw → is_irrevocable (known e) ≡ false → IsAlone stm.config.callers (number e) e.view
+pub can-grant : {K : Type 0} (good : K → List ℕ → Type 0) (stm : Stm K) {e : Handle K} {who : Who K} {v : View} {n : ℕ} {l : Local}
+    → Opened good stm e who v n l → IsRunning (known e) → (known e).alg ≡ RingSw → is_irrevocable (known e) ≡ false
+    → IsAlone stm.config.callers (number e) e.view
     → CanGrant (good stm.rule) stm.config n l v
 can-grant {K} good stm {e} {who} {v} {n} {l} a running alg revocable alone = let at = has-attempt good stm a running.0 alg in record {
   attempt = at;
@@ -124,7 +126,20 @@ module _ (good : List ℕ → Type 0) (c : Config) (n : ℕ) (l : Local) (v : Vi
   }
 
   quits-settled : (clock : ℕ) (read : RingRead) (more : List TracedStep) → Quits (known_of v o) (known_of (left n (settled_at clock read more)) o)
-  quits-settled clock read more = quits-left n v (settled_at clock read more) o (record { carried = record { named = refl; base = refl; installs = refl; fence = refl; step_trace = (more, refl); unlocked = k.optimistic.unlocked; unwritten = k.optimistic.unwritten }; history = refl }) (let r = k.optimistic.rises in (omega arith, omega arith)) revocable
+  quits-settled clock read more =
+      quits-left n v (settled_at clock read more) o
+      (record {
+        carried = record {
+          named = refl;
+          base = refl;
+          installs = refl;
+          fence = refl;
+          step_trace = (more, refl);
+          unlocked = k.optimistic.unlocked;
+          unwritten = k.optimistic.unwritten;
+        };
+        history = refl;
+      }) (let r = k.optimistic.rises in (omega arith, omega arith)) revocable
 
   module _ (clock : ℕ) (w : View) (t : Tells settle FindsWithin v clock w) where
     settled-path : w ≡ settled_at clock v.ring_read (clock_found clock ∷ [])
@@ -138,7 +153,9 @@ module _ (good : List ℕ → Type 0) (c : Config) (n : ℕ) (l : Local) (v : Vi
     tells-full high y end = subst (λ (z : View). Grants good c n (irrevs.ClockFull clock) (known_of v o) (known_of z o)) (sym (end ∙ ap (left n) settled-path)) (
       quits-settled clock v.ring_read (clock_found clock ∷ []),
       ap asks_at_grant named,
-      finds-full clock v (left n (settled_at clock v.ring_read (clock_found clock ∷ []))) o o high (found-left n Clock clock v (settled_at clock v.ring_read (clock_found clock ∷ [])) o o (clock_found clock ∷ [], refl, Load, (0, omega arith, refl))),
+      finds-full clock v (left n (settled_at clock v.ring_read (clock_found clock ∷ []))) o o high
+          (found-left n Clock clock v (settled_at clock v.ring_read (clock_found clock ∷ [])) o o
+          (clock_found clock ∷ [], refl, Load, (0, omega arith, refl))),
     )
 
     -- THE CHECK
@@ -177,8 +194,11 @@ module _ (good : List ℕ → Type 0) (c : Config) (n : ℕ) (l : Local) (v : Vi
       pub tells-conflict : n < c.callers → (y : View) → y ≡ left n u → Grants good c n (irrevs.Conflict cause) (known_of v o) (known_of y o)
       tells-conflict low y end = subst (λ (z : View). Grants good c n (irrevs.Conflict cause) (known_of v o) (known_of z o)) (sym (end ∙ ap (left n) failed-path)) (
         quits-settled clock f.read (f.more ++ clock_found clock ∷ []),
-        refuted c n ToPromote (known_of v o) (known_of (left n (settled_at clock f.read (f.more ++ clock_found clock ∷ []))) o) l.loaded w.attempt.start f.clock last f.loads (clock_found clock ∷ []) cause named (sym (ap (λ (z : View). z.attempt.start) settled-path)) k.read
-            (ap (λ (s : List TracedStep). last ++ s) (append_assoc f.more (clock_found clock ∷ []) v.steps.step_trace) ∙ ap (λ (m : List TracedStep). last ++ (m ++ clock_found clock ∷ v.steps.step_trace)) f.parts) f.refutes,
+        refuted c n ToPromote (known_of v o) (known_of (left n (settled_at clock f.read (f.more ++ clock_found clock ∷ []))) o) l.loaded
+            w.attempt.start f.clock last f.loads (clock_found clock ∷ []) cause named (sym (ap (λ (z : View). z.attempt.start) settled-path))
+            k.read
+            (ap (λ (s : List TracedStep). last ++ s) (append_assoc f.more (clock_found clock ∷ []) v.steps.step_trace)
+            ∙ ap (λ (m : List TracedStep). last ++ (m ++ clock_found clock ∷ v.steps.step_trace)) f.parts) f.refutes,
         (let d = f.others in omega arith),
       )
         where
@@ -202,7 +222,14 @@ module _ (good : List ℕ → Type 0) (c : Config) (n : ℕ) (l : Local) (v : Vi
       passed-path : u ≡ promoted_at [] (p.0.more ++ clock_found clock ∷ [])
       passed-path = p.0.is ∙ (ap (λ (y : View). passed_at p.0.world start (granted_at y.gate.time y.gate) p.0.read p.0.more y) settled-path
           ∙ (λ j. record (promoted_at [] []) {
-            attempt = record { start = start; reads = if k.settled j then record { at = v.ring_read.from; value = v.ring_read.value } ∷ v.attempt.reads else v.attempt.reads; stores = k.optimistic.unstored j; entered = v.attempt.entered };
+            attempt =
+                record {
+                  start = start;
+                  reads =
+                      if k.settled j then record { at = v.ring_read.from; value = v.ring_read.value } ∷ v.attempt.reads else v.attempt.reads;
+                  stores = k.optimistic.unstored j;
+                  entered = v.attempt.entered;
+                };
             steps = record v.steps { step_trace = sym (append_assoc p.0.more (clock_found clock ∷ []) v.steps.step_trace) j };
           }))
 
@@ -251,7 +278,15 @@ module _ (good : List ℕ → Type 0) (c : Config) (n : ℕ) (l : Local) (v : Vi
             granted = refl;
             quiescent = refl;
             holds = can.attempt.stands.holds ∙ can.alone.holds;
-            clear = record { unlocked = k.optimistic.unlocked; unfixed = k.optimistic.unfixed; disowned = i.disowned (ap has_records ring); unwritten = k.optimistic.unwritten; uncommitted = k.optimistic.uncommitted; unentered = i.unentered };
+            clear =
+                record {
+                  unlocked = k.optimistic.unlocked;
+                  unfixed = k.optimistic.unfixed;
+                  disowned = i.disowned (ap has_records ring);
+                  unwritten = k.optimistic.unwritten;
+                  uncommitted = k.optimistic.uncommitted;
+                  unentered = i.unentered;
+                };
             clean = λ e. none-written l.writes.items (sym k.buffers.wrote ∙ e);
             dirty = λ e. some-cells l.writes.items (sym k.buffers.wrote ∙ e);
             rises = k.optimistic.rises;
@@ -266,9 +301,13 @@ module _ (good : List ℕ → Type 0) (c : Config) (n : ℕ) (l : Local) (v : Vi
         grows-promoted : Grows (known_of v o) (known_of x o)
         grows-promoted = grows-trans (known_of v o) (known_of u o) (known_of x o)
             (grows-trans (known_of v o) (known_of w o) (known_of u o)
-            (subst (λ (y : View). Grows (known_of v o) (known_of y o)) (sym settled-path) (grows-same (known_of v o) (known_of (settled_at clock v.ring_read (clock_found clock ∷ [])) o) refl refl (clock_found clock ∷ []) refl refl refl refl))
+            (subst (λ (y : View). Grows (known_of v o) (known_of y o)) (sym settled-path)
+            (grows-same (known_of v o) (known_of (settled_at clock v.ring_read (clock_found clock ∷ [])) o) refl refl
+            (clock_found clock ∷ []) refl refl refl refl))
             (passes-grows good c (granted_at w.gate.time w.gate) start w u p.0 o o refl refl))
-            (grows-same (known_of u o) (known_of x o) (ap (λ (y : View). public_history y.history.seen) st.is) (ap (λ (y : View). y.history.front) st.is) st.more (ap (λ (y : View). y.steps.step_trace) st.is) refl refl (ap (λ (y : View). fenced_of y.fence) st.is))
+            (grows-same (known_of u o) (known_of x o) (ap (λ (y : View). public_history y.history.seen) st.is)
+            (ap (λ (y : View). y.history.front) st.is) st.more (ap (λ (y : View). y.steps.step_trace) st.is) refl refl
+            (ap (λ (y : View). fenced_of y.fence) st.is))
 
         found-promoted : Found Clock start (known_of v o) (known_of x o)
         found-promoted = found-later Clock start (known_of v o) (known_of u o) (known_of x o)
@@ -286,17 +325,29 @@ module _ (good : List ℕ → Type 0) (c : Config) (n : ℕ) (l : Local) (v : Vi
             fence = ap (λ (y : View). y.gate.fence) stored-path;
             base = ap (λ (y : View). y.steps.rises_at_begin) stored-path;
             rises = (let a : x.steps.rises ≡ v.steps.rises = ap (λ (y : View). y.steps.rises) stored-path in (omega arith, omega arith));
-            later = (let a : x.attempt.start ≡ start = ap (λ (y : View). y.attempt.start) stored-path in let b : w.attempt.start ≡ v.attempt.start = ap (λ (y : View). y.attempt.start) settled-path in let d = p.0.later in omega arith);
+            later =
+                (let a : x.attempt.start ≡ start = ap (λ (y : View). y.attempt.start) stored-path in
+                let b : w.attempt.start ≡ v.attempt.start = ap (λ (y : View). y.attempt.start) settled-path in
+                let d = p.0.later in omega arith);
             installs = ap (λ (y : View). reverse y.steps.installs) stored-path;
             depth = refl;
             locked = inl (ap (λ (y : View). locked_under y.gate.algorithm y.lock.taken y.tml.writer) stored-path);
           };
           still = ap (λ (y : View). y.steps.rises) stored-path;
           uncommitted = can.free;
-          log = ap (λ (y : View). (known_of y o).log) stored-path ∙ ((λ j. record { reads = items v.attempt.reads; writes = written_under (named j) true (promoted_at ws more) o }) ∙ (λ j. record { reads = items v.attempt.reads; writes = sym (attempt.written-is good c n l v can.attempt can.plain) j }));
+          log =
+              ap (λ (y : View). (known_of y o).log) stored-path
+              ∙ ((λ j. record { reads = items v.attempt.reads; writes = written_under (named j) true (promoted_at ws more) o })
+              ∙ (λ j. record { reads = items v.attempt.reads; writes = sym (attempt.written-is good c n l v can.attempt can.plain) j }));
           kept = λ e. ap (λ (y : View). (known_of y o).kept) stored-path ∙ (kept-same v.gate.algorithm v (promoted_at ws more) o o refl refl refl ∙ e);
-          irrevocable = ap (λ (y : View). is_irrevocable (known_of y o)) stored-path ∙ ap (λ (a : Alg). irrevocable_under a (granted_under a (granted_at clock v.gate) v.lock) (wrote (known_of (promoted_at ws more) o))) named;
-          opaque = subst (λ (y : View). IsOpaque good c n (known_of y o)) (sym stored-path) (opaque-at good c n (promoted_at ws more) o start refl refl p.0.sees.begins.legal p.0.sees.begins.below sees-promoted i.reads_inside);
+          irrevocable =
+              ap (λ (y : View). is_irrevocable (known_of y o)) stored-path
+              ∙ ap (λ (a : Alg).
+              irrevocable_under a (granted_under a (granted_at clock v.gate) v.lock) (wrote (known_of (promoted_at ws more) o))) named;
+          opaque =
+              subst (λ (y : View). IsOpaque good c n (known_of y o)) (sym stored-path)
+              (opaque-at good c n (promoted_at ws more) o start refl refl p.0.sees.begins.legal p.0.sees.begins.below sees-promoted
+              i.reads_inside);
           before = λ e. absurd (let f : true ≡ false = sym e ∙ revocable in cc);
           now = λ e. (
             ap (λ (y : View). granted_under y.gate.algorithm y.gate y.lock) stored-path ∙ ap (λ (a : Alg). granted_under a (granted_at clock v.gate) v.lock) named,

@@ -54,11 +54,22 @@ module _ (f g : ℕ → ℕ) where
           by false q false r false s = inr (inr (inr (grind (arith, nat_tests))))
 
       go : (j ≡ 4 * p) ⊎ ((j ≡ 4 * p + 1) ⊎ ((j ≡ 4 * p + 2) ⊎ (j ≡ 4 * p + 3))) → part_meets f g p ≡ true
-      go w = ⊎_elim (λ e. or-1 (a (4 * p)) (a (4 * p + 1)) (a (4 * p + 2)) (a (4 * p + 3)) (at (4 * p) e)) (λ w. ⊎_elim (λ e. or-2 (a (4 * p)) (a (4 * p + 1)) (a (4 * p + 2)) (a (4 * p + 3)) (at (4 * p + 1) e)) (λ w. ⊎_elim (λ e. or-3 (a (4 * p)) (a (4 * p + 1)) (a (4 * p + 2)) (a (4 * p + 3)) (at (4 * p + 2) e)) (λ e. or-4 (a (4 * p)) (a (4 * p + 1)) (a (4 * p + 2)) (a (4 * p + 3)) (at (4 * p + 3) e)) w) w) w
+      go w =
+          ⊎_elim (λ e. or-1 (a (4 * p)) (a (4 * p + 1)) (a (4 * p + 2)) (a (4 * p + 3)) (at (4 * p) e))
+          (λ w.
+          ⊎_elim (λ e. or-2 (a (4 * p)) (a (4 * p + 1)) (a (4 * p + 2)) (a (4 * p + 3)) (at (4 * p + 1) e))
+          (λ w.
+          ⊎_elim (λ e. or-3 (a (4 * p)) (a (4 * p + 1)) (a (4 * p + 2)) (a (4 * p + 3)) (at (4 * p + 2) e))
+          (λ e. or-4 (a (4 * p)) (a (4 * p + 1)) (a (4 * p + 2)) (a (4 * p + 3)) (at (4 * p + 3) e)) w) w) w
 
   -- and not, where none of them has a common bit
   pub part-no : (p : ℕ) → ((i : ℕ) → 4 * p ≤ i → i < 4 * p + 4 → bit_and (f i) (g i) ≡ 0) → part_meets f g p ≡ false
-  part-no p none = λ i. word-no (4 * p) (none (4 * p) (omega arith) (omega arith)) i || (word-no (4 * p + 1) (none (4 * p + 1) (omega arith) (omega arith)) i || (word-no (4 * p + 2) (none (4 * p + 2) (omega arith) (omega arith)) i || word-no (4 * p + 3) (none (4 * p + 3) (omega arith) (omega arith)) i))
+  part-no p none =
+      λ i.
+      word-no (4 * p) (none (4 * p) (omega arith) (omega arith)) i
+      || (word-no (4 * p + 1) (none (4 * p + 1) (omega arith) (omega arith)) i
+      || (word-no (4 * p + 2) (none (4 * p + 2) (omega arith) (omega arith)) i
+      || word-no (4 * p + 3) (none (4 * p + 3) (omega arith) (omega arith)) i))
 
   -- a part is of its four words
   pub part-same : (h : ℕ → ℕ) (p : ℕ) → ((i : ℕ) → 4 * p ≤ i → i < 4 * p + 4 → g i ≡ h i) → part_meets f g p ≡ part_meets f h p
@@ -101,7 +112,9 @@ module _ (f g : ℕ → ℕ) where
   lowest-at zero i j low high none some = absurd (omega arith)
   lowest-at (suc n) i j low high none some = by (bit_and (f i) (g i) == 0) refl (i == j) refl (lowest-at n (i + 1) j)
     where
-      by : (z : Bool) → (bit_and (f i) (g i) == 0) ≡ z → (e : Bool) → (i == j) ≡ e → (i + 1 ≤ j → j < i + 1 + n → ((k : ℕ) → i + 1 ≤ k → k < j → bit_and (f k) (g k) ≡ 0) → bit_and (f j) (g j) ≢ 0 → lowest_from f g (i + 1) n ≡ bit_and (f j) (g j))
+      by : (z : Bool) → (bit_and (f i) (g i) == 0) ≡ z → (e : Bool) → (i == j) ≡ e
+          → (i + 1 ≤ j → j < i + 1 + n → ((k : ℕ) → i + 1 ≤ k → k < j → bit_and (f k) (g k) ≡ 0) → bit_and (f j) (g j) ≢ 0
+          → lowest_from f g (i + 1) n ≡ bit_and (f j) (g j))
           → (if z then lowest_from f g (i + 1) n else bit_and (f i) (g i)) ≡ bit_and (f j) (g j)
       by true z true e rec = absurd (let s : i ≡ j = grind (arith, nat_tests) in some (ap (λ k. bit_and (f k) (g k)) (sym s) ∙ grind (arith, nat_tests)))
       by true z false e rec = let d : i ≢ j = grind (arith, nat_tests) in rec (omega arith) (omega arith) (λ k a b. none k (omega arith) b) some

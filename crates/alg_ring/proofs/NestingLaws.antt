@@ -40,7 +40,10 @@ filter-none i low = no-word i low
 pub filter-next : (ws : List (ℕ × ℕ)) (k : ℕ) (w : ℕ × ℕ) (i x y : ℕ) → k < length ws → w ≡ get_or ws k (0, 0) → x ≡ slot_filter.word (cells_of (take k ws)) i → y ≡ bit_or (address_word w.0 i) x
     → y ≡ slot_filter.word (cells_of (take (k + 1) ws)) i
 filter-next ws k w i x y low is before now =
-    now ∙ (ap (bit_or (address_word w.0 i)) (before ∙ slot-cells (take k ws) i) ∙ (sym (filter-last (take k ws) w i) ∙ (ap (λ (us : List (ℕ × ℕ)). filter_word (addresses us) i) (sym more) ∙ sym (slot-cells (take (k + 1) ws) i))))
+    now
+    ∙ (ap (bit_or (address_word w.0 i)) (before ∙ slot-cells (take k ws) i)
+    ∙ (sym (filter-last (take k ws) w i)
+    ∙ (ap (λ (us : List (ℕ × ℕ)). filter_word (addresses us) i) (sym more) ∙ sym (slot-cells (take (k + 1) ws) i))))
   where
     next : k + 1 ≡ suc k
     next = omega arith
@@ -86,7 +89,9 @@ module _ (good : List ℕ → Type 0) (c : Config) (n : ℕ) (l : Local) (v : Vi
     abbrev with_log : LogState → List ℕ → Bool → ℕ → Local
     with_log log stored wrote d = record l { writes = log; stored = stored; wrote = wrote; depth = d }
 
-    pub written-now : (log : LogState) (stored : List ℕ) (wrote : Bool) (d : ℕ) → Once log.items → written_under v.gate.algorithm v.gate.granted v (own_of (record l { writes = log; stored = stored; wrote = wrote; depth = d })) ≡ log.items
+    pub written-now : (log : LogState) (stored : List ℕ) (wrote : Bool) (d : ℕ) → Once log.items
+        → written_under v.gate.algorithm v.gate.granted v (own_of (record l { writes = log; stored = stored; wrote = wrote; depth = d }))
+        ≡ log.items
     written-now log stored wrote d once = (λ j. written_under (ring j) (k.optimistic.ungranted j) v (own_of (with_log log stored wrote d))) ∙ items-cells log.items once
 
     pub revocable : is_irrevocable (known_of v (own_of l)) ≡ false
@@ -107,10 +112,13 @@ module _ (good : List ℕ → Type 0) (c : Config) (n : ℕ) (l : Local) (v : Vi
     }))
       where
         keeps-ring : IsRing c (with_log log stored wrote d) v → attempts.Keeps c l.algorithm l.granted (with_log log stored wrote d) v
-        keeps-ring p = subst (λ (a : Alg). attempts.Keeps c a l.granted (with_log log stored wrote d) v) (sym (sym i.named ∙ ring)) (subst (λ (b : Bool). attempts.Keeps c RingSw b (with_log log stored wrote d) v) (sym plain) p)
+        keeps-ring p =
+            subst (λ (a : Alg). attempts.Keeps c a l.granted (with_log log stored wrote d) v) (sym (sym i.named ∙ ring))
+            (subst (λ (b : Bool). attempts.Keeps c RingSw b (with_log log stored wrote d) v) (sym plain) p)
 
     -- A ROLL BACK
-    module _ (log : LogState) (stored : List ℕ) (wrote : Bool) (d : ℕ) (low : 1 ≤ d) (high : d ≤ l.depth) (is : log ≡ rolled d l.writes) (words : IsFilterOf stored log.items) (some : wrote ≡ not (is_empty log.items)) where
+    module _ (log : LogState) (stored : List ℕ) (wrote : Bool) (d : ℕ) (low : 1 ≤ d) (high : d ≤ l.depth) (is : log ≡ rolled d l.writes)
+        (words : IsFilterOf stored log.items) (some : wrote ≡ not (is_empty log.items)) where
       abbrev m : Local
       m = with_log log stored wrote d
 
@@ -118,7 +126,10 @@ module _ (good : List ℕ → Type 0) (c : Config) (n : ℕ) (l : Local) (v : Vi
       set = subst (IsWriteSet c l.fence) (sym (ap (λ (q : LogState). q.items) is)) (k.marked.sound (d - 1) (let h = k.marked.count in omega arith))
 
       pub stays-rolled : IsInside good c n (record l { writes = log; stored = stored; wrote = wrote; depth = d }) v
-      stays-rolled = stays-with log stored wrote d set some (subst (λ (ms : List (List (ℕ × ℕ))). HasMarks c l.fence ms d) (sym (ap (λ (q : LogState). q.marks) is)) (marks-take c l.fence l.writes.marks l.depth d k.marked high)) words
+      stays-rolled =
+          stays-with log stored wrote d set some
+          (subst (λ (ms : List (List (ℕ × ℕ))). HasMarks c l.fence ms d) (sym (ap (λ (q : LogState). q.marks) is))
+          (marks-take c l.fence l.writes.marks l.depth d k.marked high)) words
 
       pub rolls-back : IsRolled good c n d (known_of v (own_of l)) (known_of v (own_of (record l { writes = log; stored = stored; wrote = wrote; depth = d })))
       rolls-back = record {
@@ -143,7 +154,11 @@ module _ (good : List ℕ → Type 0) (c : Config) (n : ℕ) (l : Local) (v : Vi
         reads = refl;
         writes = written-now log stored wrote d set.once ∙ ap (λ (q : LogState). q.items) is;
         depth = refl;
-        kept = ap (λ (a : Alg). kept_under a v (own_of m)) ring ∙ (ap bridge.addresses (items-cells log.items set.once) ∙ (ap bridge.addresses (sym (written-now log stored wrote d set.once)) ∙ ap (λ (a : Alg). kept_rolled a (known_of v (own_of l)).kept (known_of v (own_of m)).log.writes) (sym ring)));
+        kept =
+            ap (λ (a : Alg). kept_under a v (own_of m)) ring
+            ∙ (ap bridge.addresses (items-cells log.items set.once)
+            ∙ (ap bridge.addresses (sym (written-now log stored wrote d set.once))
+            ∙ ap (λ (a : Alg). kept_rolled a (known_of v (own_of l)).kept (known_of v (own_of m)).log.writes) (sym ring)));
         marks = ap (λ (q : LogState). q.marks) is;
         opaque = opaque-inside good c n m v (own_of m) stays-rolled;
       }

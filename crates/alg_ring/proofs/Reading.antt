@@ -53,7 +53,12 @@ module _ (good : List ℕ → Type 0) (c : Config) (n a : ℕ) (l : Local) (v : 
 
   -- there is no read log
   never-full : (o : Own) → reads_full a (known_of v o) ≡ false
-  never-full o = ap (λ (b : Alg). has_read_log b && (not (is_irrevocable (known_of v o)) && (not (has_item a (known_of v o).log.writes) && (not (has_item a (known_of v o).log.reads) && (length (known_of v o).log.reads == o.reads_limit))))) named
+  never-full o =
+      ap (λ (b : Alg).
+      has_read_log b
+      && (not (is_irrevocable (known_of v o))
+      && (not (has_item a (known_of v o).log.writes)
+      && (not (has_item a (known_of v o).log.reads) && (length (known_of v o).log.reads == o.reads_limit))))) named
 
   module _ (x : ℕ) (u : View) (t : Tells (ring_load a) Nothing v x u) (filter : List ℕ) (words : (j : ℕ) → j < 16 → slice_index filter j ≡ bit_or (address_word a j) (slice_index l.loaded j)) where
     abbrev loaded : View
@@ -107,7 +112,17 @@ module _ (good : List ℕ → Type 0) (c : Config) (n a : ℕ) (l : Local) (v : 
         steady = i.steady;
         spared = record { is = i.spared.is; fits = i.spared.fits };
         keeps = keeps-ring (record {
-          optimistic = record { unlocked = k.optimistic.unlocked; unfixed = k.optimistic.unfixed; unwritten = k.optimistic.unwritten; uncommitted = k.optimistic.uncommitted; ungranted = k.optimistic.ungranted; not_quiescent = k.optimistic.not_quiescent; unstored = k.optimistic.unstored; rises = k.optimistic.rises };
+          optimistic =
+              record {
+                unlocked = k.optimistic.unlocked;
+                unfixed = k.optimistic.unfixed;
+                unwritten = k.optimistic.unwritten;
+                uncommitted = k.optimistic.uncommitted;
+                ungranted = k.optimistic.ungranted;
+                not_quiescent = k.optimistic.not_quiescent;
+                unstored = k.optimistic.unstored;
+                rises = k.optimistic.rises;
+              };
           buffers = record { wrote = k.buffers.wrote; once = k.buffers.once; inside = k.buffers.inside; small = k.buffers.small; apart = k.buffers.apart };
           inside = p.inside;
           settled = p.settled;
@@ -142,7 +157,21 @@ module _ (good : List ℕ → Type 0) (c : Config) (n a : ℕ) (l : Local) (v : 
 
         goes : GoesOn c (ForWord a) (known_of v o) (known_of after o)
         goes = record {
-          continues = record { running = ap is_in i.phase; closing = ap is_closing i.phase; made = refl; grows = grown; alg = refl; fence = refl; base = refl; rises = (omega arith, omega arith); later = p.later; installs = refl; depth = refl; locked = inl refl };
+          continues =
+              record {
+                running = ap is_in i.phase;
+                closing = ap is_closing i.phase;
+                made = refl;
+                grows = grown;
+                alg = refl;
+                fence = refl;
+                base = refl;
+                rises = (omega arith, omega arith);
+                later = p.later;
+                installs = refl;
+                depth = refl;
+                locked = inl refl;
+              };
           start = subst (λ (b : Alg). StartMoves c (ForWord a) b (known_of v o) (known_of after o)) (sym named) start-moves;
           granted = refl;
           holds = refl;
@@ -200,7 +229,19 @@ module _ (good : List ℕ → Type 0) (c : Config) (n a : ℕ) (l : Local) (v : 
 
       pub may-end : l.holds ≡ v.gate.holds → MayEnd w
       may-end holds = subst MayEnd (sym q.is) (
-        let m = may-leave good c n l v i named k in record { phase = m.phase; unlocked = m.unlocked; unfixed = m.unfixed; disowned = m.disowned; unwritten = m.unwritten; uncommitted = m.uncommitted; ungranted = m.ungranted; plain = m.plain; unstored = m.unstored; marked = m.marked },
+        let m = may-leave good c n l v i named k in
+            record {
+              phase = m.phase;
+              unlocked = m.unlocked;
+              unfixed = m.unfixed;
+              disowned = m.disowned;
+              unwritten = m.unwritten;
+              uncommitted = m.uncommitted;
+              ungranted = m.ungranted;
+              plain = m.plain;
+              unstored = m.unstored;
+              marked = m.marked;
+            },
         holds,
         record { is = i.spared.is; fits = i.spared.fits },
         sym i.named,
@@ -208,7 +249,20 @@ module _ (good : List ℕ → Type 0) (c : Config) (n a : ℕ) (l : Local) (v : 
 
       module _ (o : Own) where
         quits : Quits (known_of v o) (known_of (left n failed) o)
-        quits = quits-left n v failed o (record { carried = record { named = refl; base = refl; installs = refl; fence = refl; step_trace = (q.more ++ item ∷ [], sym (append_assoc q.more (item ∷ []) v.steps.step_trace)); unlocked = k.optimistic.unlocked; unwritten = k.optimistic.unwritten }; history = refl })
+        quits =
+            quits-left n v failed o
+            (record {
+              carried = record {
+                named = refl;
+                base = refl;
+                installs = refl;
+                fence = refl;
+                step_trace = (q.more ++ item ∷ [], sym (append_assoc q.more (item ∷ []) v.steps.step_trace));
+                unlocked = k.optimistic.unlocked;
+                unwritten = k.optimistic.unwritten;
+              };
+              history = refl;
+            })
             (let r = k.optimistic.rises in (omega arith, omega arith)) (revocable good c n l v i named k o)
 
         why : Conflicts c n (ForWord a) cause (known_of v o) (known_of (left n failed) o)

@@ -58,7 +58,9 @@ module _ (c : Config) (n : ℕ) (asked : Asked) (v w : CallerState) (filter : Li
   path : FailedBy → w.step_trace ≡ late ++ (loads ++ clock_load clock ∷ (early ++ v.step_trace))
   path is = is ∙ ap (λ (q : List TracedStep). late ++ q) (append_assoc loads (clock_load clock ∷ []) (early ++ v.step_trace))
 
-  pub refuted : (cause : Cause) → v.alg ≡ RingSw → v.start ≡ start → ((i : ℕ) → i < SLOT_WORDS → slice_index filter i ≡ read_filter c n asked v.log.reads i) → FailedBy → Refutes c start clock cause filter loads → Conflicts c n asked cause v w
+  pub refuted : (cause : Cause) → v.alg ≡ RingSw → v.start ≡ start
+      → ((i : ℕ) → i < SLOT_WORDS → slice_index filter i ≡ read_filter c n asked v.log.reads i) → FailedBy
+      → Refutes c start clock cause filter loads → Conflicts c n asked cause v w
   refuted (causes.Clock had now) alg is same by r = absurd r
   refuted (causes.Record index word from) alg is same by r = absurd r
   refuted (causes.Moved index before after) alg is same by r = absurd r

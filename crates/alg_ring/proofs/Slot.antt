@@ -25,7 +25,8 @@ pub with-more : (v : View) (words : List SlotWord) (a b : List TracedStep) → w
 with-more v words a b = ap (λ (t : List TracedStep). record v { ring_read = record v.ring_read { words = words }; steps = record v.steps { step_trace = t } }) (sym (append_assoc a b v.steps.step_trace))
 
 -- two runs of loads, one after the other
-pub with-both : (v w u : View) (xs ys : List SlotWord) (a b : List TracedStep) → w ≡ with_words v (xs ++ v.ring_read.words) a → u ≡ with_words w (ys ++ w.ring_read.words) b → u ≡ with_words v ((ys ++ xs) ++ v.ring_read.words) (b ++ a)
+pub with-both : (v w u : View) (xs ys : List SlotWord) (a b : List TracedStep) → w ≡ with_words v (xs ++ v.ring_read.words) a
+    → u ≡ with_words w (ys ++ w.ring_read.words) b → u ≡ with_words v ((ys ++ xs) ++ v.ring_read.words) (b ++ a)
 with-both v w u xs ys a b e f = f ∙ (ap (λ (y : View). with_words y (ys ++ y.ring_read.words) b) e
     ∙ (λ i. record v { ring_read = record v.ring_read { words = sym (append_assoc ys xs v.ring_read.words) i }; steps = record v.steps { step_trace = sym (append_assoc b a v.steps.step_trace) i } }))
 
@@ -83,9 +84,13 @@ module _ (ring time : ℕ) (filter : List ℕ) where
       where
         by : (b : Bool) → (i == j) ≡ b → InStepTrace steps (Slot (slot_place ring time j)) (loaded_word next time j)
         by true q = let same : i ≡ j = grind (arith, nat_tests) in
-            subst (λ (k : ℕ). InStepTrace steps (Slot (slot_place ring time k)) (loaded_word next time k)) same (subst (λ (n : ℕ). InStepTrace steps (Slot (slot_place ring time i)) n) (sym (last-here s.words time i x).1) (Load, (0, omega arith, refl)))
+            subst (λ (k : ℕ). InStepTrace steps (Slot (slot_place ring time k)) (loaded_word next time k)) same
+            (subst (λ (n : ℕ). InStepTrace steps (Slot (slot_place ring time i)) n) (sym (last-here s.words time i x).1)
+            (Load, (0, omega arith, refl)))
         by false q = let e = last-else s.words time i x j (let d : i ≢ j = grind (arith, nat_tests) in d) in
-            subst (λ (n : ℕ). InStepTrace steps (Slot (slot_place ring time j)) n) (sym e.1) (step_trace-right (record { place = Slot (slot_place ring time i); act = Load; found = Some x } ∷ []) s.more (Slot (slot_place ring time j)) (loaded_word s.words time j) (s.found j (sym e.0 ∙ h)))
+            subst (λ (n : ℕ). InStepTrace steps (Slot (slot_place ring time j)) n) (sym e.1)
+            (step_trace-right (record { place = Slot (slot_place ring time i); act = Load; found = Some x } ∷ []) s.more
+            (Slot (slot_place ring time j)) (loaded_word s.words time j) (s.found j (sym e.0 ∙ h)))
 
     next_none : (j : ℕ) → 4 * part ≤ j → j < i → NoCommon ring time filter next j
     next_none j a b = let e = last-else s.words time i x j (omega arith) in let n = s.none j a b in (e.0 ∙ n.0, ap (bit_and (slice_index filter j)) e.1 ∙ n.1)
@@ -162,9 +167,12 @@ module _ (ring time : ℕ) (filter : List ℕ) where
     both_found j h = by (has_word l.words time j) refl
       where
         by : (b : Bool) → has_word l.words time j ≡ b → InStepTrace (l.more ++ s.more) (Slot (slot_place ring time j)) (loaded_word both time j)
-        by true e = subst (λ (n : ℕ). InStepTrace (l.more ++ s.more) (Slot (slot_place ring time j)) n) (sym (here j e).1) (step_trace-left l.more s.more (Slot (slot_place ring time j)) (loaded_word l.words time j) (l.found j e))
+        by true e =
+            subst (λ (n : ℕ). InStepTrace (l.more ++ s.more) (Slot (slot_place ring time j)) n) (sym (here j e).1)
+            (step_trace-left l.more s.more (Slot (slot_place ring time j)) (loaded_word l.words time j) (l.found j e))
         by false e = let b = back-has l.words s.words time j (λ k. let f : true ≡ false = sym k ∙ e in cc) in
-            subst (λ (n : ℕ). InStepTrace (l.more ++ s.more) (Slot (slot_place ring time j)) n) (sym b.1) (step_trace-right l.more s.more (Slot (slot_place ring time j)) (loaded_word s.words time j) (s.found j (sym b.0 ∙ h)))
+            subst (λ (n : ℕ). InStepTrace (l.more ++ s.more) (Slot (slot_place ring time j)) n) (sym b.1)
+            (step_trace-right l.more s.more (Slot (slot_place ring time j)) (loaded_word s.words time j) (s.found j (sym b.0 ∙ h)))
 
     pub both_is : u ≡ with_words v (both ++ v.ring_read.words) (l.more ++ s.more)
     both_is = with-both v w u s.words l.words s.more l.more s.is l.is
@@ -204,7 +212,14 @@ module _ (ring time : ℕ) (filter : List ℕ) where
     }
 
     pub slot-one : part ≡ 0 → bits ≢ 0 → SlotMet (part + 1) bits both
-    slot-one e some = record { met = λ p low. let same : part ≡ p = omega arith in subst (λ (k : ℕ). part_meets (slice_index filter) (loaded_word both time) k ≡ true) same (met-here some); some = some; first = first-here e some }
+    slot-one e some =
+        record {
+          met = λ p low.
+              let same : part ≡ p = omega arith in
+              subst (λ (k : ℕ). part_meets (slice_index filter) (loaded_word both time) k ≡ true) same (met-here some);
+          some = some;
+          first = first-here e some;
+        }
 
     pub slot-next : (lowest : ℕ) → 0 < part → bits ≢ 0 → SlotMet part lowest s.words → SlotMet (part + 1) lowest both
     slot-next lowest later some k = record {

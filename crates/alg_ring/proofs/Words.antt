@@ -14,7 +14,9 @@ pub has-append : (xs ys : List SlotWord) (e i : ℕ) → has_word (xs ++ ys) e i
 has-append [] ys e i = refl
 has-append (x ∷ xs) ys e i = by (has-append xs ys e i) (x.time == e) (x.index == i)
   where
-    by : has_word (xs ++ ys) e i ≡ (if has_word xs e i then true else has_word ys e i) → (p q : Bool) → (if p then (if q then true else has_word (xs ++ ys) e i) else has_word (xs ++ ys) e i) ≡ (if (if p then (if q then true else has_word xs e i) else has_word xs e i) then true else has_word ys e i)
+    by : has_word (xs ++ ys) e i ≡ (if has_word xs e i then true else has_word ys e i) → (p q : Bool)
+        → (if p then (if q then true else has_word (xs ++ ys) e i) else has_word (xs ++ ys) e i)
+        ≡ (if (if p then (if q then true else has_word xs e i) else has_word xs e i) then true else has_word ys e i)
     by rec true true = refl
     by rec true false = rec
     by rec false q = rec
@@ -52,7 +54,9 @@ pub loaded-some : (xs : List SlotWord) (e i : ℕ) → loaded_word xs e i ≢ 0 
 loaded-some [] e i h = absurd (h refl)
 loaded-some (x ∷ xs) e i h = by (loaded-some xs e i) (x.time == e) (x.index == i) h
   where
-    by : (loaded_word xs e i ≢ 0 → has_word xs e i ≡ true) → (p q : Bool) → (if p then (if q then x.value else loaded_word xs e i) else loaded_word xs e i) ≢ 0 → (if p then (if q then true else has_word xs e i) else has_word xs e i) ≡ true
+    by : (loaded_word xs e i ≢ 0 → has_word xs e i ≡ true) → (p q : Bool)
+        → (if p then (if q then x.value else loaded_word xs e i) else loaded_word xs e i) ≢ 0
+        → (if p then (if q then true else has_word xs e i) else has_word xs e i) ≡ true
     by rec true true k = refl
     by rec true false k = rec k
     by rec false q k = rec k
@@ -66,10 +70,14 @@ last-here xs e i x = by (e == e) (i == i) (grind (arith, nat_tests)) (grind (ari
     by true false a b = absurd cc
     by false q a b = absurd cc
 
-pub last-else : (xs : List SlotWord) (e i x j : ℕ) → i ≢ j → (has_word (record { time = e; index = i; value = x } ∷ xs) e j ≡ has_word xs e j) × (loaded_word (record { time = e; index = i; value = x } ∷ xs) e j ≡ loaded_word xs e j)
+pub last-else : (xs : List SlotWord) (e i x j : ℕ) → i ≢ j
+    → (has_word (record { time = e; index = i; value = x } ∷ xs) e j ≡ has_word xs e j)
+    × (loaded_word (record { time = e; index = i; value = x } ∷ xs) e j ≡ loaded_word xs e j)
 last-else xs e i x j apart = by (e == e) (i == j) (grind (arith, nat_tests))
   where
-    by : (p q : Bool) → q ≡ false → ((if p then (if q then true else has_word xs e j) else has_word xs e j) ≡ has_word xs e j) × ((if p then (if q then x else loaded_word xs e j) else loaded_word xs e j) ≡ loaded_word xs e j)
+    by : (p q : Bool) → q ≡ false
+        → ((if p then (if q then true else has_word xs e j) else has_word xs e j) ≡ has_word xs e j)
+        × ((if p then (if q then x else loaded_word xs e j) else loaded_word xs e j) ≡ loaded_word xs e j)
     by true true b = absurd cc
     by true false b = (refl, refl)
     by false q b = (refl, refl)

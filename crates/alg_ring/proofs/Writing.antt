@@ -37,7 +37,8 @@ use Rattle.stm_gate.specs.CellLogs.{once-put, inside-put, small-put, apart-put, 
 use Rattle.alg_ring.proofs.Ending.{revocable}
 use Rattle.alg_ring.proofs.FilterWords.{slot-put}
 
-module _ (good : List ℕ → Type 0) (c : Config) (n a : ℕ) (l : Local) (v : View) (i : IsInside good c n l v) (named : v.gate.algorithm ≡ RingSw) (plain : l.granted ≡ false) (quiet : l.committing ≡ false) (k : IsRing c l v) where
+module _ (good : List ℕ → Type 0) (c : Config) (n a : ℕ) (l : Local) (v : View) (i : IsInside good c n l v)
+    (named : v.gate.algorithm ≡ RingSw) (plain : l.granted ≡ false) (quiet : l.committing ≡ false) (k : IsRing c l v) where
   abbrev o : Own
   o = own_of l
 
@@ -52,7 +53,12 @@ module _ (good : List ℕ → Type 0) (c : Config) (n a : ℕ) (l : Local) (v : 
   kept-here = ap (λ (b : Alg). kept_under b v o) named ∙ ap addresses (items-cells l.writes.items k.buffers.once)
 
   never-full : reads_full a (known_of v o) ≡ false
-  never-full = ap (λ (b : Alg). has_read_log b && (not (is_irrevocable (known_of v o)) && (not (has_item a (known_of v o).log.writes) && (not (has_item a (known_of v o).log.reads) && (length (known_of v o).log.reads == o.reads_limit))))) named
+  never-full =
+      ap (λ (b : Alg).
+      has_read_log b
+      && (not (is_irrevocable (known_of v o))
+      && (not (has_item a (known_of v o).log.writes)
+      && (not (has_item a (known_of v o).log.reads) && (length (known_of v o).log.reads == o.reads_limit))))) named
 
   pub reads-own : (x : ℕ) → item_at a l.writes.items ≡ Some x → x < 2 ^ 64 → HasRead good c n a (reads.Value x) (known_of v o) (known_of v o)
   reads-own x own small = (
@@ -60,7 +66,10 @@ module _ (good : List ℕ → Type 0) (c : Config) (n a : ℕ) (l : Local) (v : 
     quiet,
     (
       refl,
-      subst (λ (m : Option ℕ). MatchOption m (MatchOption (item_at a (items v.attempt.reads)) (items v.attempt.reads ≡ items v.attempt.reads ++ (a, x) ∷ []) (λ y. (x ≡ y) × (items v.attempt.reads ≡ items v.attempt.reads))) (λ y. (x ≡ y) × (items v.attempt.reads ≡ items v.attempt.reads)))
+      subst (λ (m : Option ℕ).
+          MatchOption m
+          (MatchOption (item_at a (items v.attempt.reads)) (items v.attempt.reads ≡ items v.attempt.reads ++ (a, x) ∷ []) (λ y.
+          (x ≡ y) × (items v.attempt.reads ≡ items v.attempt.reads))) (λ y. (x ≡ y) × (items v.attempt.reads ≡ items v.attempt.reads)))
           (sym (ap (item_at a) written-here ∙ own)) (refl, refl),
     ),
     small,
@@ -81,7 +90,21 @@ module _ (good : List ℕ → Type 0) (c : Config) (n a : ℕ) (l : Local) (v : 
     pub writes-done : writes_full a (known_of v o) ≡ false → HasWritten good c n a x writes.Done (known_of v o) (known_of v (own_of m))
     writes-done room = (
       record {
-        continues = record { running = ap is_in i.phase; closing = ap is_closing i.phase; made = refl; grows = grows-same (known_of v o) (known_of v (own_of m)) refl refl [] refl refl refl refl; alg = refl; fence = refl; base = refl; rises = (omega arith, omega arith); later = omega arith; installs = refl; depth = refl; locked = inl refl };
+        continues =
+            record {
+              running = ap is_in i.phase;
+              closing = ap is_closing i.phase;
+              made = refl;
+              grows = grows-same (known_of v o) (known_of v (own_of m)) refl refl [] refl refl refl refl;
+              alg = refl;
+              fence = refl;
+              base = refl;
+              rises = (omega arith, omega arith);
+              later = omega arith;
+              installs = refl;
+              depth = refl;
+              locked = inl refl;
+            };
         start = subst (λ (b : Alg). StartMoves c (ForWord a) b (known_of v o) (known_of v (own_of m))) (sym named) (inl refl);
         granted = refl;
         holds = refl;
@@ -93,7 +116,8 @@ module _ (good : List ℕ → Type 0) (c : Config) (n a : ℕ) (l : Local) (v : 
       opaque-inside good c n l v (own_of m) i,
       room,
       ap (λ (b : Alg). kept_under b v (own_of m)) named ∙ (ap (λ (ws : List (ℕ × ℕ)). addresses (items (cells_of ws))) put_is
-          ∙ (ap addresses (items-cells (put a x l.writes.items) (once-put a x l.writes.items k.buffers.once)) ∙ kept-put a x l.writes.items (known_of v o) (ap logs_writes named) (revocable good c n l v i named k o) kept-here)),
+          ∙ (ap addresses (items-cells (put a x l.writes.items) (once-put a x l.writes.items k.buffers.once))
+          ∙ kept-put a x l.writes.items (known_of v o) (ap logs_writes named) (revocable good c n l v i named k o) kept-here)),
       λ tml free. absurd (let no : RingSw ≡ Tml = sym named ∙ tml in cc),
     )
       where
@@ -140,19 +164,27 @@ module _ (good : List ℕ → Type 0) (c : Config) (n a : ℕ) (l : Local) (v : 
 
   -- by whether the write log has its length
   filled : (m : Option ℕ) (b : Bool) → l.writes.len ≡ l.undo.len → item_at a l.writes.items ≡ m → (length l.writes.items == l.writes.len) ≡ b → writes_full a (known_of v o) ≡ (not (is_some m) && b)
-  filled m b len at count = (λ j. logs_writes (named j) && (not (revocable good c n l v i named k o j) && (not (member (kept-here j) a) && (length (kept-here j) == sym len j)))) ∙ (λ j. not (member-item a l.writes.items j) && (length-addresses l.writes.items j == l.writes.len)) ∙ ap (λ (q : Option ℕ). not (is_some q) && (length l.writes.items == l.writes.len)) at ∙ ap (λ (q : Bool). not (is_some m) && q) count
+  filled m b len at count =
+      (λ j.
+      logs_writes (named j)
+      && (not (revocable good c n l v i named k o j) && (not (member (kept-here j) a) && (length (kept-here j) == sym len j))))
+      ∙ (λ j. not (member-item a l.writes.items j) && (length-addresses l.writes.items j == l.writes.len))
+      ∙ ap (λ (q : Option ℕ). not (is_some q) && (length l.writes.items == l.writes.len)) at ∙ ap (λ (q : Bool). not (is_some m) && q) count
 
   pub room-of : (ws : List (ℕ × ℕ)) (log : LogState) → l.writes.len ≡ l.undo.len → Pushes l.writes a ws pushes.Done log → writes_full a (known_of v o) ≡ false
   room-of ws log len p = by (item_at a l.writes.items) refl (length l.writes.items == l.writes.len) refl p.0
     where
-      by : (m : Option ℕ) → item_at a l.writes.items ≡ m → (b : Bool) → (length l.writes.items == l.writes.len) ≡ b → IsSome (item_at a l.writes.items) ⊎ (length l.writes.items < l.writes.len) → writes_full a (known_of v o) ≡ false
+      by : (m : Option ℕ) → item_at a l.writes.items ≡ m → (b : Bool) → (length l.writes.items == l.writes.len) ≡ b
+          → IsSome (item_at a l.writes.items) ⊎ (length l.writes.items < l.writes.len) → writes_full a (known_of v o) ≡ false
       by (Some y) e b q r = filled (Some y) b len e q
       by None e false q r = filled None false len e q
       by None e true q (inl r) = absurd (let f : false ≡ true = subst IsSome e r in cc)
       by None e true q (inr r) = absurd (let f : length l.writes.items ≡ l.writes.len = grind (arith, nat_tests) in omega arith)
 
   -- THE LOG IS FULL
-  pub writes-refused : (x limit : ℕ) (ws : List (ℕ × ℕ)) (log : LogState) (w : View) → l.writes.len ≡ l.undo.len → Pushes l.writes a ws (pushes.Full limit) log → w ≡ left n v → HasWritten good c n a x (writes.Full limit) (known_of v o) (known_of w o)
+  pub writes-refused : (x limit : ℕ) (ws : List (ℕ × ℕ)) (log : LogState) (w : View) → l.writes.len ≡ l.undo.len
+      → Pushes l.writes a ws (pushes.Full limit) log → w ≡ left n v
+      → HasWritten good c n a x (writes.Full limit) (known_of v o) (known_of w o)
   writes-refused x limit ws log w len p is = (subst (λ (y : View). Quits (known_of v o) (known_of y o)) (sym is) quits, filled None true len p.0 (let e = p.1 in grind (arith, nat_tests)), p.2 ∙ len)
     where
       quits : Quits (known_of v o) (known_of (left n v) o)

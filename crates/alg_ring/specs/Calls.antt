@@ -93,8 +93,14 @@ module _ (good : List ℕ → Type 0) (c : Config) where
   module _ (n : ℕ) where
     -- a word that was loaded is read, or the attempt ended
     abbrev pub LoadsNew : ℕ → Read → Local → View → Local → View → Type 0
-    LoadsNew a (Value x) l v m w = IsInside good c n m w × (m ≡ record l { start = m.start; loaded = m.loaded }) × (w.gate.holds ≡ v.gate.holds) × ((o : Own) → o.committing ≡ false → o.buffered ≡ cells_of l.writes.items → HasRead good c n a (Value x) (known_of v o) (known_of w o))
-    LoadsNew a (Conflict cause) l v m w = IsOutside w × (m ≡ ended (record l { loaded = m.loaded })) × ((o : Own) → o.committing ≡ false → o.buffered ≡ cells_of l.writes.items → HasRead good c n a (Conflict cause) (known_of v o) (known_of w o))
+    LoadsNew a (Value x) l v m w =
+        IsInside good c n m w × (m ≡ record l { start = m.start; loaded = m.loaded }) × (w.gate.holds ≡ v.gate.holds)
+        × ((o : Own) → o.committing ≡ false → o.buffered ≡ cells_of l.writes.items
+        → HasRead good c n a (Value x) (known_of v o) (known_of w o))
+    LoadsNew a (Conflict cause) l v m w =
+        IsOutside w × (m ≡ ended (record l { loaded = m.loaded }))
+        × ((o : Own) → o.committing ≡ false → o.buffered ≡ cells_of l.writes.items
+        → HasRead good c n a (Conflict cause) (known_of v o) (known_of w o))
     LoadsNew a (Full limit) l v m w = ⊥
 
     -- an attempt, between two calls

@@ -193,5 +193,7 @@ module _ (good : List ℕ → Type 0) (c : Config) where
 
   -- what `check_to_grant` tells
   abbrev pub ChecksToGrant : Result ℕ Cause → List ℕ → View → View → Type 0
-  ChecksToGrant (Ok start) filter v w = Passes (granted_at v.gate.time v.gate) start v w × (start ≡ v.gate.time) × ((more : List TracedStep) × (w.steps.step_trace ≡ more ++ v.steps.step_trace) × InStepTrace more Clock start)
+  ChecksToGrant (Ok start) filter v w =
+      Passes (granted_at v.gate.time v.gate) start v w × (start ≡ v.gate.time)
+      × ((more : List TracedStep) × (w.steps.step_trace ≡ more ++ v.steps.step_trace) × InStepTrace more Clock start)
   ChecksToGrant (Err cause) filter v w = Fails cause filter v w

@@ -25,8 +25,10 @@ pub(crate) fn check<K: MemRule>(
     requires seat { IsSeatOf stm.now caller seat.old }
     requires view { CanCheck stm.now.config start filter.now (view_of seat.old) }
     ensures same { MovesView seat.old seat.new }
-    ensures checks { Checks (K.good stm.now.rule) stm.now.config result filter.now (view_of seat.old) (view_of seat.new) }
-    ensures steps { TakesAtMost (3 + 16 * (stm.now.config.ring - 1)) (view_of seat.old) (view_of seat.new) }
+    ensures checks { Checks (K.good stm.now.rule) stm.now.config result filter.now
+        (view_of seat.old) (view_of seat.new) }
+    ensures steps { TakesAtMost (3 + 16 * (stm.now.config.ring - 1)) (view_of seat.old)
+        (view_of seat.new) }
 {
     let clock = look(stm, seat, caller);
     if clock == start {
@@ -50,8 +52,10 @@ pub(crate) fn catch_up<K: MemRule>(
     requires apart { clock ≢ start }
     requires view { CanScan start clock filter.now (view_of seat.old) }
     ensures same { MovesView seat.old seat.new }
-    ensures checks { ChecksOn (K.good stm.now.rule) stm.now.config start clock result filter.now (view_of seat.old) (view_of seat.new) }
-    ensures steps { TakesAtMost (2 + 16 * (stm.now.config.ring - 1)) (view_of seat.old) (view_of seat.new) }
+    ensures checks { ChecksOn (K.good stm.now.rule) stm.now.config start clock result filter.now
+        (view_of seat.old) (view_of seat.new) }
+    ensures steps { TakesAtMost (2 + 16 * (stm.now.config.ring - 1)) (view_of seat.old)
+        (view_of seat.new) }
 {
     match scan(seat, stm, caller, start, clock, filter) {
         Err(cause) => Err(cause),
@@ -73,8 +77,10 @@ pub(crate) fn check_to_grant<K: MemRule>(
     requires seat { IsSeatOf stm.now caller seat.old }
     requires view { CanCheckToGrant stm.now.config start filter.now (view_of seat.old) }
     ensures same { MovesView seat.old seat.new }
-    ensures checks { ChecksToGrant (K.good stm.now.rule) stm.now.config result filter.now (view_of seat.old) (view_of seat.new) }
-    ensures steps { TakesAtMost (3 + 16 * (stm.now.config.ring - 1)) (view_of seat.old) (view_of seat.new) }
+    ensures checks { ChecksToGrant (K.good stm.now.rule) stm.now.config result filter.now
+        (view_of seat.old) (view_of seat.new) }
+    ensures steps { TakesAtMost (3 + 16 * (stm.now.config.ring - 1)) (view_of seat.old)
+        (view_of seat.new) }
 {
     let clock = look_grant(stm, seat, caller);
     if clock == start {
@@ -111,8 +117,10 @@ fn scan<K: MemRule>(
     requires seat { IsSeatOf stm.now caller seat.old }
     requires view { CanScan start clock filter.now (view_of seat.old) }
     ensures same { MovesView seat.old seat.new }
-    ensures scans { Scans stm.now.config start clock result filter.now (view_of seat.old) (view_of seat.new) }
-    ensures steps { TakesAtMost (1 + 16 * (stm.now.config.ring - 1)) (view_of seat.old) (view_of seat.new) }
+    ensures scans { Scans stm.now.config start clock result filter.now (view_of seat.old)
+        (view_of seat.new) }
+    ensures steps { TakesAtMost (1 + 16 * (stm.now.config.ring - 1)) (view_of seat.old)
+        (view_of seat.new) }
 {
     let ring = stm.config.ring as u64;
     if clock - start >= ring {
@@ -145,7 +153,8 @@ fn first_met<K: MemRule>(
     requires view { CanScan start clock filter.now (view_of seat.old) }
     requires near { clock < start + stm.now.config.ring }
     ensures same { MovesView seat.old seat.new }
-    ensures meets { MeetsOne stm.now.config start clock result filter.now (view_of seat.old) (view_of seat.new) }
+    ensures meets { MeetsOne stm.now.config start clock result filter.now (view_of seat.old)
+        (view_of seat.new) }
     ensures steps { TakesAtMost (16 * (clock - start)) (view_of seat.old) (view_of seat.new) }
 {
     for passed in 0..clock - start {
@@ -170,7 +179,8 @@ fn slot_bits<K: MemRule>(
     requires seat { IsSeatOf stm.now caller seat.old }
     requires view { CanLoadSlot stm.now.config.ring time (view_of seat.old) }
     ensures same { MovesView seat.old seat.new }
-    ensures meets { MeetsSlot stm.now.config.ring time filter.now result (view_of seat.old) (view_of seat.new) }
+    ensures meets { MeetsSlot stm.now.config.ring time filter.now result (view_of seat.old)
+        (view_of seat.new) }
     ensures steps { TakesAtMost 16 (view_of seat.old) (view_of seat.new) }
 {
     let lowest = part_bits(seat, stm, caller, time, 0, filter);
@@ -199,10 +209,11 @@ fn part_bits<K: MemRule>(
     requires view { CanLoadSlot stm.now.config.ring time (view_of seat.old) }
     requires part { part < 4 }
     ensures same { MovesView seat.old seat.new }
-    ensures loads { LoadsPart stm.now.config.ring time filter.now part result (view_of seat.old) (view_of seat.new) }
+    ensures loads { LoadsPart stm.now.config.ring time filter.now part result (view_of seat.old)
+        (view_of seat.new) }
     ensures steps { TakesAtMost 4 (view_of seat.old) (view_of seat.new) }
 {
-    let first = first_word(stm.config.ring, time);
+    let first = first_word(stm, time);
     for i in 4 * part..4 * part + 4 {
         let bits = filter.word(i) & word(stm, seat, caller, time, first, i);
         if bits != 0 {

@@ -26,7 +26,7 @@ use crate::nesting::filter_of;
 use alg_calls::algorithm::Algorithm;
 use rule_base::layout::SLOT_WORDS;
 use steps_ring::{committing as steps, reading as loads};
-use stm_gate::direct::{direct_commit, direct_load, direct_store};
+use stm_gate::direct::direct_commit;
 use stm_gate::leave::leave;
 use stm_gate::promote::{Promotion, promote};
 use stm_model::alg::Alg;
@@ -56,9 +56,6 @@ impl Algorithm for RingSw {
     /// the start, and at most four and one for each slot word that is needed.
     #[inline(always)]
     fn read<K: MemRule>(desc: &mut Desc<K>, stm: &Stm<K>, a: usize) -> Read {
-        if desc.local.granted {
-            return direct_load(desc, stm, a);
-        }
         if let Some(x) = desc.local.writes.find(a) {
             return Read::Value(x);
         }
@@ -69,9 +66,6 @@ impl Algorithm for RingSw {
     /// gate.
     #[inline(always)]
     fn write<K: MemRule>(desc: &mut Desc<K>, stm: &Stm<K>, a: usize, x: u64) -> Write {
-        if desc.local.granted {
-            return direct_store(desc, stm, a, x);
-        }
         if let Push::Full { limit } = desc.local.writes.push(a, x) {
             leave(&mut desc.seat, &mut desc.local, stm, desc.number);
             return Write::Full { limit };
@@ -149,14 +143,18 @@ fn load_new<K: MemRule>(
 ) -> Read
     requires seat { IsSeatOf stm.now caller.now seat.old }
     requires caller { caller.now < stm.now.config.callers }
-    requires attempt { IsInside (K.good stm.now.rule) stm.now.config caller.now local.old (view_of seat.old) }
-    requires ring { (local.old.algorithm ≡ Alg.RingSw) × (local.old.granted ≡ false) × (local.old.holds ≡ (view_of seat.old).gate.holds) }
+    requires attempt { IsInside (K.good stm.now.rule) stm.now.config caller.now local.old
+        (view_of seat.old) }
+    requires ring { (local.old.algorithm ≡ Alg.RingSw) × (local.old.granted ≡ false)
+        × (local.old.holds ≡ (view_of seat.old).gate.holds) }
     requires inside { a < stm.now.config.words }
     requires spared { fenced (view_of seat.old).gate.fence a ≡ false }
     requires fresh { item_at a local.old.writes.items ≡ None }
     ensures same { MovesView seat.old seat.new }
-    ensures loads { LoadsNew (K.good stm.now.rule) stm.now.config caller.now a result local.old (view_of seat.old) local.new (view_of seat.new) }
-    ensures steps { TakesAtMost (6 + 16 * (stm.now.config.ring - 1)) (view_of seat.old) (view_of seat.new) }
+    ensures loads { LoadsNew (K.good stm.now.rule) stm.now.config caller.now a result local.old
+        (view_of seat.old) local.new (view_of seat.new) }
+    ensures steps { TakesAtMost (6 + 16 * (stm.now.config.ring - 1)) (view_of seat.old)
+        (view_of seat.new) }
 {
     let x = loads::load(stm, seat, *caller, a);
     local.loaded.add(a);
@@ -186,10 +184,14 @@ fn commit_writes<K: MemRule>(
 ) -> Commit
     requires seat { IsSeatOf stm.now caller seat.old }
     requires caller { caller < stm.now.config.callers }
-    requires wrote { HasWrites (K.good stm.now.rule) stm.now.config caller local.old (view_of seat.old) }
+    requires wrote { HasWrites (K.good stm.now.rule) stm.now.config caller local.old
+        (view_of seat.old) }
     ensures same { MovesView seat.old seat.new }
-    ensures commits { StandsTold (K.good stm.now.rule) stm.now.config caller (Commits (K.good stm.now.rule) stm.now.config caller result) local.old (view_of seat.old) local.new (view_of seat.new) }
-    ensures steps { TakesAtMost (26 + local.old.writes.len + 16 * (stm.now.config.ring - 1)) (view_of seat.old) (view_of seat.new) }
+    ensures commits { StandsTold (K.good stm.now.rule) stm.now.config caller
+        (Commits (K.good stm.now.rule) stm.now.config caller result) local.old (view_of seat.old)
+        local.new (view_of seat.new) }
+    ensures steps { TakesAtMost (26 + local.old.writes.len + 16 * (stm.now.config.ring - 1))
+        (view_of seat.old) (view_of seat.new) }
 {
     match turn(seat, local, stm, caller) {
         Some(again) => again,
@@ -207,9 +209,11 @@ pub fn turn<K: MemRule>(
 ) -> Option<Commit>
     requires seat { IsSeatOf stm.now caller seat.old }
     requires caller { caller < stm.now.config.callers }
-    requires wrote { HasWrites (K.good stm.now.rule) stm.now.config caller local.old (view_of seat.old) }
+    requires wrote { HasWrites (K.good stm.now.rule) stm.now.config caller local.old
+        (view_of seat.old) }
     ensures same { MovesView seat.old seat.new }
-    ensures turns { Turns (K.good stm.now.rule) stm.now.config caller result local.old (view_of seat.old) local.new (view_of seat.new) }
+    ensures turns { Turns (K.good stm.now.rule) stm.now.config caller result local.old
+        (view_of seat.old) local.new (view_of seat.new) }
     ensures steps { TakesAtMost 1 (view_of seat.old) (view_of seat.new) }
 {
     let found = steps::lock(stm, seat, caller);
@@ -235,10 +239,13 @@ pub fn finish<K: MemRule>(
 ) -> Commit
     requires seat { IsSeatOf stm.now caller seat.old }
     requires caller { caller < stm.now.config.callers }
-    requires turn { CanFinish (K.good stm.now.rule) stm.now.config caller local.old (view_of seat.old) }
+    requires turn { CanFinish (K.good stm.now.rule) stm.now.config caller local.old
+        (view_of seat.old) }
     ensures same { MovesView seat.old seat.new }
-    ensures finishes { Finishes (K.good stm.now.rule) stm.now.config caller result local.old (view_of seat.old) local.new (view_of seat.new) }
-    ensures steps { TakesAtMost (25 + local.old.writes.len + 16 * (stm.now.config.ring - 1)) (view_of seat.old) (view_of seat.new) }
+    ensures finishes { Finishes (K.good stm.now.rule) stm.now.config caller result local.old
+        (view_of seat.old) local.new (view_of seat.new) }
+    ensures steps { TakesAtMost (25 + local.old.writes.len + 16 * (stm.now.config.ring - 1))
+        (view_of seat.old) (view_of seat.new) }
 {
     let answer = commit_locked(seat, local, stm, caller);
     steps::free(stm, seat, caller);
@@ -256,10 +263,13 @@ fn commit_locked<K: MemRule>(
 ) -> Commit
     requires seat { IsSeatOf stm.now caller seat.old }
     requires caller { caller < stm.now.config.callers }
-    requires turn { CanFinish (K.good stm.now.rule) stm.now.config caller local.now (view_of seat.old) }
+    requires turn { CanFinish (K.good stm.now.rule) stm.now.config caller local.now
+        (view_of seat.old) }
     ensures same { MovesView seat.old seat.new }
-    ensures decides { Decides (K.good stm.now.rule) stm.now.config caller result local.now (view_of seat.old) (view_of seat.new) }
-    ensures steps { TakesAtMost (22 + local.now.writes.len + 16 * (stm.now.config.ring - 1)) (view_of seat.old) (view_of seat.new) }
+    ensures decides { Decides (K.good stm.now.rule) stm.now.config caller result local.now
+        (view_of seat.old) (view_of seat.new) }
+    ensures steps { TakesAtMost (22 + local.now.writes.len + 16 * (stm.now.config.ring - 1))
+        (view_of seat.old) (view_of seat.new) }
 {
     let clock = steps::tick(stm, seat, caller);
     if clock >= CLOCK_LIMIT {
@@ -279,12 +289,14 @@ fn commit_locked<K: MemRule>(
 fn enter<K: MemRule>(seat: &mut Token<K>, local: &Local, stm: &Stm<K>, caller: usize, time: u64)
     requires seat { IsSeatOf stm.now caller seat.old }
     requires caller { caller < stm.now.config.callers }
-    requires enter { CanEnter (K.good stm.now.rule) stm.now.config time local.now (view_of seat.old) }
+    requires enter { CanEnter (K.good stm.now.rule) stm.now.config time local.now
+        (view_of seat.old) }
     ensures same { MovesView seat.old seat.new }
-    ensures enters { Enters (K.good stm.now.rule) stm.now.config caller time local.now (view_of seat.old) (view_of seat.new) }
+    ensures enters { Enters (K.good stm.now.rule) stm.now.config caller time local.now
+        (view_of seat.old) (view_of seat.new) }
     ensures steps { TakesAtMost 17 (view_of seat.old) (view_of seat.new) }
 {
-    let first = loads::first_word(stm.config.ring, time);
+    let first = loads::first_word(stm, time);
     for i in 0..SLOT_WORDS {
         steps::slot(
             stm,
@@ -322,8 +334,10 @@ fn grant<K: MemRule>(desc: &mut Desc<K>, stm: &Stm<K>) -> Irrev
     requires revocable { is_irrevocable (known desc.old) ≡ false }
     requires alone { IsAlone stm.now.config.callers (number desc.old) desc.old.view }
     ensures same { IsSameCaller desc.old desc.new }
-    ensures grants { Grants (K.good stm.now.rule) stm.now.config (number desc.old) result (known desc.old) (known desc.new) }
-    ensures steps { AddsAtMost (6 + (known desc.old).writes_limit + 16 * (stm.now.config.ring - 1)) (known desc.old) (known desc.new) }
+    ensures grants { Grants (K.good stm.now.rule) stm.now.config (number desc.old) result
+        (known desc.old) (known desc.new) }
+    ensures steps { AddsAtMost (6 + (known desc.old).writes_limit + 16 * (stm.now.config.ring - 1))
+        (known desc.old) (known desc.new) }
 {
     let caller = desc.number;
     let clock = stm.settle(&mut desc.seat, caller);

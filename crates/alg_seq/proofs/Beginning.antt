@@ -101,7 +101,15 @@ module _ (good : List ℕ → Type 0) (c : Config) (n : ℕ) (a : Alg) (locks : 
         named = can.named;
         reopened = can.reopened;
         ungranted = can.ungranted;
-        clear = record { unlocked = ap (λ b. (if b then fresh_lock v.gate.algorithm else v.lock).taken) apart ∙ can.clear.unlocked; disowned = can.clear.disowned; unwritten = can.clear.unwritten; uncommitted = can.clear.uncommitted; unentered = ap (λ b. (if b then no_attempt else v.attempt).entered) apart ∙ can.clear.unentered; unfixed = ap (λ b. (if b then fresh_lock v.gate.algorithm else v.lock).irrevocable) apart ∙ can.clear.unfixed };
+        clear =
+            record {
+              unlocked = ap (λ b. (if b then fresh_lock v.gate.algorithm else v.lock).taken) apart ∙ can.clear.unlocked;
+              disowned = can.clear.disowned;
+              unwritten = can.clear.unwritten;
+              uncommitted = can.clear.uncommitted;
+              unentered = ap (λ b. (if b then no_attempt else v.attempt).entered) apart ∙ can.clear.unentered;
+              unfixed = ap (λ b. (if b then fresh_lock v.gate.algorithm else v.lock).irrevocable) apart ∙ can.clear.unfixed;
+            };
         unentered = can.unentered;
         rises = can.rises;
       };
@@ -143,7 +151,8 @@ module _ (good : List ℕ → Type 0) (c : Config) (n : ℕ) (a : Alg) (locks : 
         fenced = refl;
       }
 
-  pub tells-started : (found clock : ℕ) (v t w : View) → CanBegin a v → found ≡ 0 → (asks_at_begin a ≡ true → clock < CLOCK_LIMIT) → Tells (take_lock n) (FindsLock c n) v found t → Tells load_start (Begins rule c) t clock w → StartsAt good c n a clock v w
+  pub tells-started : (found clock : ℕ) (v t w : View) → CanBegin a v → found ≡ 0 → (asks_at_begin a ≡ true → clock < CLOCK_LIMIT)
+      → Tells (take_lock n) (FindsLock c n) v found t → Tells load_start (Begins rule c) t clock w → StartsAt good c n a clock v w
   tells-started found clock v t w can zero low f l = subst (λ (y : View). StartsAt good c n a clock v y) (sym path) (record {
     inside = λ k fenced free. record {
       steady = λ e. refl;
@@ -186,7 +195,14 @@ module _ (good : List ℕ → Type 0) (c : Config) (n : ℕ) (a : Alg) (locks : 
     rises = can.rises;
     starts = λ o fresh. record {
       keeps = record { made = refl; grows = grows-started v f.0 l.0 clock o b; rises = refl; installs = refl };
-      found = subst (λ (p : At). Found p clock (known_of v o) (known_of u o)) (sym (begins-clock a locks)) (record { place = Clock; act = Load; found = Some clock } ∷ record { place = Lock; act = Exchange 0 (taken_lock n); found = Some 0 } ∷ [], refl, Load, (0, omega arith, refl));
+      found =
+          subst (λ (p : At). Found p clock (known_of v o) (known_of u o)) (sym (begins-clock a locks)) (
+            record { place = Clock; act = Load; found = Some clock }
+                ∷ record { place = Lock; act = Exchange 0 (taken_lock n); found = Some 0 } ∷ [],
+            refl,
+            Load,
+            (0, omega arith, refl),
+          );
       is = refl;
       fresh = b.front;
       log = ap (λ ws. record { reads = []; writes = ws }) (written-plain v.gate.algorithm v.gate.granted u o (ap takes_lock can.named ∙ locks));
@@ -210,20 +226,56 @@ module _ (good : List ℕ → Type 0) (c : Config) (n : ℕ) (a : Alg) (locks : 
       path : w ≡ started f.0 l.0 v clock
       path = l.2 ∙ ap (λ y. view_after load_start l.0 y clock) first
 
-  pub tells-full : (found clock : ℕ) (v t u w : View) → CanBegin a v → found ≡ 0 → asks_at_begin a ≡ true → CLOCK_LIMIT ≤ clock → Tells (take_lock n) (FindsLock c n) v found t → Tells load_start (Begins rule c) t clock u → Tells free_lock Nothing u 0 w
+  pub tells-full : (found clock : ℕ) (v t u w : View) → CanBegin a v → found ≡ 0 → asks_at_begin a ≡ true → CLOCK_LIMIT ≤ clock
+      → Tells (take_lock n) (FindsLock c n) v found t → Tells load_start (Begins rule c) t clock u → Tells free_lock Nothing u 0 w
       → Refuses good c n a (ClockFull clock) v w
   tells-full found clock v t u w can zero asks high f l r = subst (λ (y : View). Refuses good c n a (ClockFull clock) v y) (sym path) (
     record {
-      can = record { phase = can.phase; named = can.named; reopened = can.reopened; ungranted = can.ungranted; clear = record { unlocked = refl; disowned = can.clear.disowned; unwritten = can.clear.unwritten; uncommitted = can.clear.uncommitted; unentered = refl; unfixed = refl }; unentered = can.unentered; rises = can.rises };
+      can =
+          record {
+            phase = can.phase;
+            named = can.named;
+            reopened = can.reopened;
+            ungranted = can.ungranted;
+            clear = record {
+              unlocked = refl;
+              disowned = can.clear.disowned;
+              unwritten = can.clear.unwritten;
+              uncommitted = can.clear.uncommitted;
+              unentered = refl;
+              unfixed = refl;
+            };
+            unentered = can.unentered;
+            rises = can.rises;
+          };
       keeps = λ o. let h = grows-started v f.0 l.0 clock o b in record {
         made = refl;
-        grows = record { later = h.later; is = h.is; ascending = h.ascending; up_to = h.up_to; front_rose = h.front_rose; more = freed ∷ h.more; step_trace = ap (λ s. freed ∷ s) h.step_trace; reads_limit = refl; writes_limit = refl; fenced = refl };
+        grows =
+            record {
+              later = h.later;
+              is = h.is;
+              ascending = h.ascending;
+              up_to = h.up_to;
+              front_rose = h.front_rose;
+              more = freed ∷ h.more;
+              step_trace = ap (λ s. freed ∷ s) h.step_trace;
+              reads_limit = refl;
+              writes_limit = refl;
+              fenced = refl;
+            };
         rises = refl;
         installs = refl;
       };
     },
     asks,
-    λ o. finds-full clock v last o o high (freed ∷ record { place = Clock; act = Load; found = Some clock } ∷ record { place = Lock; act = Exchange 0 (taken_lock n); found = Some 0 } ∷ [], refl, Load, (1, omega arith, refl)),
+    λ o.
+        finds-full clock v last o o high (
+          freed ∷ record { place = Clock; act = Load; found = Some clock }
+              ∷ record { place = Lock; act = Exchange 0 (taken_lock n); found = Some 0 } ∷ [],
+          refl,
+          Load,
+          (1, omega arith, refl),
+        ),
   )
     where
       freed : TracedStep

@@ -25,7 +25,11 @@ use Rattle.alg_seq.proofs.Keeping.{named, locks, irrevocable-by, revocable-by}
 
 -- the view after the load, by whether the clock is below its limit
 abbrev pub asked : View → ℕ → Bool → View
-asked v clock below = record v { lock = if below then fixed_lock v.lock else record v.lock { clocked = true }; steps = record v.steps { step_trace = record { place = Clock; act = Load; found = Some clock } ∷ v.steps.step_trace } }
+asked v clock below =
+    record v {
+      lock = if below then fixed_lock v.lock else record v.lock { clocked = true };
+      steps = record v.steps { step_trace = record { place = Clock; act = Load; found = Some clock } ∷ v.steps.step_trace };
+    }
 
 pub clocked-full : (v u : View) (clock : ℕ) → CLOCK_LIMIT ≤ clock → Tells (load_limit true) LoadsLimit v clock u → IsClocked v u × ((o : Own) → Found Clock clock (known_of v o) (known_of u o))
 clocked-full v u clock high t = let path : u ≡ asked v clock false = t.2 ∙ ap (asked v clock) no in (
@@ -36,7 +40,8 @@ clocked-full v u clock high t = let path : u ≡ asked v clock false = t.2 ∙ a
     no : ltb clock CLOCK_LIMIT ≡ false
     no = grind (arith, nat_tests)
 
-pub tells-granted : (good : List ℕ → Type 0) (c : Config) (n : ℕ) (l : Local) (v : View) (i : IsInside good c n l v) (serial : l.algorithm ≡ Serial) (clock : ℕ) (u : View) (o : Own) → o.committing ≡ false → l.granted ≡ false → clock < CLOCK_LIMIT
+pub tells-granted : (good : List ℕ → Type 0) (c : Config) (n : ℕ) (l : Local) (v : View) (i : IsInside good c n l v)
+    (serial : l.algorithm ≡ Serial) (clock : ℕ) (u : View) (o : Own) → o.committing ≡ false → l.granted ≡ false → clock < CLOCK_LIMIT
     → Tells (load_limit true) LoadsLimit v clock u → TriesIrrevocable good c n (known_of v o) (known_of u o)
 tells-granted good c n l v i serial clock u o settled revocable low t = subst (λ (y : View). TriesIrrevocable good c n (known_of v o) (known_of y o)) (sym path) (record {
   continues = record {
@@ -60,7 +65,12 @@ tells-granted good c n l v i serial clock u o settled revocable low t = subst (�
   irrevocable = ap (λ a. irrevocable_under a (granted_under a v.gate w.lock) (wrote (known_of w o))) serial-by;
   opaque = still-opaque good c n l v o i w refl refl refl;
   before = λ e. absurd (let no : true ≡ false = sym e ∙ not_yet in cc);
-  now = λ e. (ap (λ a. granted_under a v.gate w.lock) serial-by, subst (λ k. Found Clock k (known_of v o) (known_of w o)) t.1 (record { place = Clock; act = Load; found = Some clock } ∷ [], refl, Load, (0, omega arith, refl)));
+  now =
+      λ e. (
+        ap (λ a. granted_under a v.gate w.lock) serial-by,
+        subst (λ k. Found Clock k (known_of v o) (known_of w o)) t.1
+            (record { place = Clock; act = Load; found = Some clock } ∷ [], refl, Load, (0, omega arith, refl)),
+      );
   alone = λ e closes. absurd (let no : false ≡ true = sym (ap closes_gate serial-by) ∙ closes in cc);
 })
   where

@@ -51,7 +51,8 @@ same_number : (k m : ℕ) → k ≡ m → (k == m) ≡ true
 same_number k m e = grind (arith, nat_tests)
 
 -- longer logs of an attempt of Serial leave alone what is known of it, but for what the view has of them
-pub known-kept : (l m : Local) (w : View) → w.gate.algorithm ≡ Serial → m ≡ record l { undo = m.undo; writes = m.writes } → m.undo.len ≡ l.undo.len → m.writes.marks ≡ l.writes.marks → known_of w (own_of m) ≡ known_of w (own_of l)
+pub known-kept : (l m : Local) (w : View) → w.gate.algorithm ≡ Serial → m ≡ record l { undo = m.undo; writes = m.writes }
+    → m.undo.len ≡ l.undo.len → m.writes.marks ≡ l.writes.marks → known_of w (own_of m) ≡ known_of w (own_of l)
 known-kept l m w serial is len marks =
     ap (λ (q : Local). known_of w (own_of q)) is
     ∙ (λ d. record (known_of w (own_of l)) { log = record { reads = items w.attempt.reads; writes = written d }; kept = kept d; marks = marks d; writes_limit = len d })
@@ -98,7 +99,9 @@ module _ (good : List ℕ → Type 0) (c : Config) (n : ℕ) (l : Local) (v : Vi
       by false e f = h b f
 
   stored : (log buffer : LogState) (k : LockView) (more : List TracedStep) (a x : ℕ) (m : World) → k.taken ≡ true → k.started ≡ true → k.irrevocable ≡ l.granted → l.start < CLOCK_LIMIT
-      → (k.irrevocable ≡ false → (log.items ≡ items k.undo) × (length log.items ≤ log.len)) → (k.irrevocable ≡ false → (b : ℕ) → touches (record { at = a; value = x } ∷ v.attempt.stores) b ≡ true → touches k.undo b ≡ true) → Inside c.words k.undo
+      → (k.irrevocable ≡ false → (log.items ≡ items k.undo) × (length log.items ≤ log.len))
+      → (k.irrevocable ≡ false → (b : ℕ) → touches (record { at = a; value = x } ∷ v.attempt.stores) b ≡ true → touches k.undo b ≡ true)
+      → Inside c.words k.undo
       → (k.irrevocable ≡ false → (buffer.items ≡ put a x (items v.attempt.stores)) × (length buffer.marks ≡ l.depth)) → fenced l.fence a ≡ false
       → IsInside good c n (record l { undo = log; writes = buffer; wrote = true }) (view_after (store_heap a x) m (aside v k more) x)
   stored log buffer k more a x m taken started irrevocable low undone undoable within buffered out = let j = locked good c n l v locks i in record {
@@ -156,13 +159,30 @@ module _ (good : List ℕ → Type 0) (c : Config) (n : ℕ) (l : Local) (v : Vi
   pub may-store-irrevocable : (a x : ℕ) → a < c.words → fenced l.fence a ≡ false → l.granted ≡ true → l.start < CLOCK_LIMIT → MayStore good c n a x l v v
   may-store-irrevocable a x within out granted low = let irrevocable = irrevocable-by ∙ granted in let j = locked good c n l v locks i in record {
     gate = refl;
-    can = λ small. record { has = record { phase = i.phase; algorithm = locks; taken = j.taken }; started = j.started; inside = within; small = small; undoable = λ e. absurd (let no : true ≡ false = sym irrevocable ∙ e in cc) };
-    inside = λ m. stored l.undo l.writes v.lock [] a x m j.taken j.started irrevocable-by low (λ e. absurd (let no : true ≡ false = sym irrevocable ∙ e in cc)) (λ e. absurd (let no : true ≡ false = sym irrevocable ∙ e in cc)) j.within (λ e. absurd (let no : true ≡ false = sym irrevocable ∙ e in cc)) out;
-    written = λ o own m. tells-store good c n a x v v o m i.phase locks own.0 (never-full a (known_of v o) (revocable-by o ∙ irrevocable)).1 (kept-same v.gate.algorithm v (view_after (store_heap a x) m v x) o o refl refl refl ∙ sym (kept-irrevocable a (known_of v o) (revocable-by o ∙ irrevocable))) (logged-refl v) refl (still-opaque good c n l v o i);
+    can =
+        λ small.
+        record {
+          has = record { phase = i.phase; algorithm = locks; taken = j.taken };
+          started = j.started;
+          inside = within;
+          small = small;
+          undoable = λ e. absurd (let no : true ≡ false = sym irrevocable ∙ e in cc);
+        };
+    inside =
+        λ m.
+        stored l.undo l.writes v.lock [] a x m j.taken j.started irrevocable-by low
+        (λ e. absurd (let no : true ≡ false = sym irrevocable ∙ e in cc)) (λ e. absurd (let no : true ≡ false = sym irrevocable ∙ e in cc))
+        j.within (λ e. absurd (let no : true ≡ false = sym irrevocable ∙ e in cc)) out;
+    written =
+        λ o own m.
+        tells-store good c n a x v v o m i.phase locks own.0 (never-full a (known_of v o) (revocable-by o ∙ irrevocable)).1
+        (kept-same v.gate.algorithm v (view_after (store_heap a x) m v x) o o refl refl refl
+        ∙ sym (kept-irrevocable a (known_of v o) (revocable-by o ∙ irrevocable))) (logged-refl v) refl (still-opaque good c n l v o i);
   }
 
   -- a store whose old value was kept
-  pub may-store-logged : (a x : ℕ) (u w : View) (m : Local) → a < c.words → fenced l.fence a ≡ false → HasPlace true a l.undo → l.granted ≡ false → l.start < CLOCK_LIMIT → IsClocked v u → HasLogged c.words a x l u m w → MayStore good c n a x m v w
+  pub may-store-logged : (a x : ℕ) (u w : View) (m : Local) → a < c.words → fenced l.fence a ≡ false → HasPlace true a l.undo
+      → l.granted ≡ false → l.start < CLOCK_LIMIT → IsClocked v u → HasLogged c.words a x l u m w → MayStore good c n a x m v w
   may-store-logged a x u w m within out place revocable low k h = let j = locked good c n l v locks i in let rev : v.lock.irrevocable ≡ false = irrevocable-by ∙ revocable in record {
     gate = ap (λ (y : View). y.gate) path;
     can = λ small. record {
@@ -174,12 +194,35 @@ module _ (good : List ℕ → Type 0) (c : Config) (n : ℕ) (l : Local) (v : Vi
     };
     inside = λ p. subst (λ (y : View). IsInside good c n (record m { wrote = true }) (view_after (store_heap a x) p y x)) (sym path)
         (subst (λ (q : Local). IsInside good c n (record q { wrote = true }) (view_after (store_heap a x) p (aside v w.lock more) x)) (sym h.local)
-        (stored m.undo m.writes w.lock more a x p (ap (λ (y : View). y.lock.taken) flat ∙ (ap (λ (y : View). y.lock.taken) k.is ∙ j.taken)) (ap (λ (y : View). y.lock.started) flat ∙ (ap (λ (y : View). y.lock.started) k.is ∙ j.started)) (ap (λ (y : View). y.lock.irrevocable) flat ∙ (ap (λ (y : View). y.lock.irrevocable) k.is ∙ irrevocable-by)) low
-        (λ e. (h.undone, h.most)) (λ e. covers-more a x v.attempt.stores w.lock.undo (λ b t. h.covers b (ap (λ (y : View). touches y.lock.undo b) k.is ∙ j.undoable rev b t)) h.logged) h.within (λ e. (h.writes ∙ ap (λ (y : View). put a x (items y.attempt.stores)) k.is, ap length h.marks ∙ j.marked rev)) out));
+        (stored m.undo m.writes w.lock more a x p (ap (λ (y : View). y.lock.taken) flat ∙ (ap (λ (y : View). y.lock.taken) k.is ∙ j.taken))
+        (ap (λ (y : View). y.lock.started) flat ∙ (ap (λ (y : View). y.lock.started) k.is ∙ j.started))
+        (ap (λ (y : View). y.lock.irrevocable) flat ∙ (ap (λ (y : View). y.lock.irrevocable) k.is ∙ irrevocable-by)) low
+        (λ e. (h.undone, h.most)) (λ e.
+        covers-more a x v.attempt.stores w.lock.undo
+        (λ b t. h.covers b (ap (λ (y : View). touches y.lock.undo b) k.is ∙ j.undoable rev b t)) h.logged) h.within
+        (λ e. (h.writes ∙ ap (λ (y : View). put a x (items y.attempt.stores)) k.is, ap length h.marks ∙ j.marked rev)) out));
     written = λ o own p. tells-store good c n a x v w o p i.phase locks own.0
         (room-by a o revocable (own.1 ∙ h.undo_len) place)
-        (ap (λ (alg : Alg). kept_under alg (view_after (store_heap a x) p w x) o) (ap (λ (y : View). y.gate.algorithm) path ∙ named) ∙ (h.kept ∙ (ap (λ (y : View). if member (addresses (items y.lock.undo)) a then addresses (items y.lock.undo) else addresses (items y.lock.undo) ++ a ∷ []) k.is ∙ sym (kept-plain a (known_of v o) (ap logs_writes named) (revocable-by o ∙ rev) ∙ ap (λ (alg : Alg). if member (kept_under alg v o) a then kept_under alg v o else kept_under alg v o ++ a ∷ []) named))))
-        (subst (λ (y : View). IsLogged v y) (sym path) (record { history = refl; gate = refl; irrevocable = ap (λ (y : View). y.lock.irrevocable) flat ∙ ap (λ (y : View). y.lock.irrevocable) k.is; taken = ap (λ (y : View). y.lock.taken) flat ∙ ap (λ (y : View). y.lock.taken) k.is; writer = refl; fence = refl; start = refl; rises = refl; base = refl; installs = refl; step_trace = (more, refl) }))
+        (ap (λ (alg : Alg). kept_under alg (view_after (store_heap a x) p w x) o) (ap (λ (y : View). y.gate.algorithm) path ∙ named)
+        ∙ (h.kept
+        ∙ (ap (λ (y : View).
+        if member (addresses (items y.lock.undo)) a then addresses (items y.lock.undo) else addresses (items y.lock.undo) ++ a ∷ []) k.is
+        ∙ sym (kept-plain a (known_of v o) (ap logs_writes named) (revocable-by o ∙ rev)
+        ∙ ap (λ (alg : Alg). if member (kept_under alg v o) a then kept_under alg v o else kept_under alg v o ++ a ∷ []) named))))
+        (subst (λ (y : View). IsLogged v y) (sym path)
+        (record {
+          history = refl;
+          gate = refl;
+          irrevocable = ap (λ (y : View). y.lock.irrevocable) flat ∙ ap (λ (y : View). y.lock.irrevocable) k.is;
+          taken = ap (λ (y : View). y.lock.taken) flat ∙ ap (λ (y : View). y.lock.taken) k.is;
+          writer = refl;
+          fence = refl;
+          start = refl;
+          rises = refl;
+          base = refl;
+          installs = refl;
+          step_trace = (more, refl);
+        }))
         (ap (λ (y : View). y.attempt) path) (still-opaque good c n l v o i);
   }
     where
@@ -193,7 +236,10 @@ module _ (good : List ℕ → Type 0) (c : Config) (n : ℕ) (l : Local) (v : Vi
       same = ap (λ (y : View). y.lock) (sym h.is)
 
       path : w ≡ aside v w.lock more
-      path = h.is ∙ (λ d. record (k.is d) { lock = same d; steps = record (k.is d).steps { step_trace = h.more ++ (k.is d).steps.step_trace } }) ∙ (λ d. record v { lock = w.lock; steps = record v.steps { step_trace = sym (append_assoc h.more k.more v.steps.step_trace) d } })
+      path =
+          h.is
+          ∙ (λ d. record (k.is d) { lock = same d; steps = record (k.is d).steps { step_trace = h.more ++ (k.is d).steps.step_trace } })
+          ∙ (λ d. record v { lock = w.lock; steps = record v.steps { step_trace = sym (append_assoc h.more k.more v.steps.step_trace) d } })
 
   pub unmade-clocked : (u t : View) → IsClocked v u → IsUnmade u t → IsUnmade v t
   unmade-clocked u t k m = record {
@@ -202,7 +248,12 @@ module _ (good : List ℕ → Type 0) (c : Config) (n : ℕ) (l : Local) (v : Vi
       base = m.carried.base ∙ ap (λ (y : View). y.steps.rises_at_begin) k.is;
       installs = m.carried.installs ∙ ap (λ (y : View). y.steps.installs) k.is;
       fence = m.carried.fence ∙ ap (λ (y : View). y.fence) k.is;
-      step_trace = (m.carried.step_trace.0 ++ k.more, m.carried.step_trace.1 ∙ (ap (λ (y : View). m.carried.step_trace.0 ++ y.steps.step_trace) k.is ∙ sym (append_assoc m.carried.step_trace.0 k.more v.steps.step_trace)));
+      step_trace = (
+        m.carried.step_trace.0 ++ k.more,
+        m.carried.step_trace.1
+            ∙ (ap (λ (y : View). m.carried.step_trace.0 ++ y.steps.step_trace) k.is
+            ∙ sym (append_assoc m.carried.step_trace.0 k.more v.steps.step_trace)),
+      );
       unlocked = m.carried.unlocked;
       unwritten = m.carried.unwritten;
     };
@@ -213,7 +264,10 @@ module _ (good : List ℕ → Type 0) (c : Config) (n : ℕ) (l : Local) (v : Vi
   pub quits-back : (u w : View) (o : Own) → l.granted ≡ false → IsClocked v u → GivesUp n u w → Quits (known_of v o) (known_of w o)
   quits-back u w o revocable k g = let j = locked good c n l v locks i in
       subst (λ (y : View). Quits (known_of v o) (known_of y o)) (sym g.is)
-      (quits-left n v g.before o (unmade-clocked u g.before k g.unmade) (let e = g.rises in let f : u.steps.rises ≡ v.steps.rises = ap (λ (y : View). y.steps.rises) k.is in let b = j.rises in (omega arith, omega arith)) (revocable-by o ∙ (irrevocable-by ∙ revocable)))
+      (quits-left n v g.before o (unmade-clocked u g.before k g.unmade)
+      (let e = g.rises in
+      let f : u.steps.rises ≡ v.steps.rises = ap (λ (y : View). y.steps.rises) k.is in let b = j.rises in (omega arith, omega arith))
+      (revocable-by o ∙ (irrevocable-by ∙ revocable)))
 
   -- THE END AT THE START
   pub ended-back : (w : View) (o : Own) → GivesUp n v w → EndsAt good c n l.start (known_of v o) (known_of w o)

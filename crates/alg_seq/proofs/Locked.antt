@@ -123,7 +123,9 @@ goes-on {c} {asked} v w o inside i = record {
     running = ap (λ (g : GateView). is_in g.phase) i.gate ∙ ap is_in inside;
     closing = ap (λ (g : GateView). is_closing g.phase) i.gate ∙ ap is_closing inside;
     made = ap (λ (h : SeenHistory). public_history h.made) i.history;
-    grows = grows-same (known_of v o) (known_of w o) (ap (λ (h : SeenHistory). public_history h.seen) i.history) (ap (λ (h : SeenHistory). h.front) i.history) i.step_trace.0 i.step_trace.1 refl refl (ap fenced_of i.fence);
+    grows =
+        grows-same (known_of v o) (known_of w o) (ap (λ (h : SeenHistory). public_history h.seen) i.history)
+        (ap (λ (h : SeenHistory). h.front) i.history) i.step_trace.0 i.step_trace.1 refl refl (ap fenced_of i.fence);
     alg = ap (λ (g : GateView). g.algorithm) i.gate;
     fence = ap (λ (g : GateView). g.fence) i.gate;
     base = i.base;
@@ -153,10 +155,26 @@ module _ (good : List ℕ → Type 0) (c : Config) (n : ℕ) where
   pub tells-read : (a x : ℕ) (l : Local) (v w : View) (o : Own) → a < c.words → IsInside good c n l v → takes_lock v.gate.algorithm ≡ true → o.committing ≡ false → Tells (load_heap a) (Loads rule c a) v x w
       → HasRead good c n a (Value x) (known_of v o) (known_of w o)
   tells-read a x l v w o low i locks settled t = subst (λ (u : View). HasRead good c n a (Value x) (known_of v o) (known_of u o)) (sym t.2) (
-    goes-on v u o i.phase (record { history = refl; gate = refl; irrevocable = refl; taken = refl; writer = refl; fence = refl; start = refl; rises = refl; base = refl; installs = refl; step_trace = (record { place = Heap a; act = Load; found = Some x } ∷ [], refl) }),
+    goes-on v u o i.phase
+        (record {
+          history = refl;
+          gate = refl;
+          irrevocable = refl;
+          taken = refl;
+          writer = refl;
+          fence = refl;
+          start = refl;
+          rises = refl;
+          base = refl;
+          installs = refl;
+          step_trace = (record { place = Heap a; act = Load; found = Some x } ∷ [], refl);
+        }),
     settled,
     subst (λ (ws : List (ℕ × ℕ)). Reads (known_of v o).log a x (record { reads = items u.attempt.reads; writes = ws })) (sym (written-plain v.gate.algorithm v.gate.granted u o locks))
-        (subst (λ (ws : List (ℕ × ℕ)). Reads (record { reads = items v.attempt.reads; writes = ws }) a x (record { reads = items u.attempt.reads; writes = items v.attempt.stores })) (sym (written-plain v.gate.algorithm v.gate.granted v o locks))
+        (subst (λ (ws : List (ℕ × ℕ)).
+        Reads (record { reads = items v.attempt.reads; writes = ws }) a x
+        (record { reads = items u.attempt.reads; writes = items v.attempt.stores }))
+        (sym (written-plain v.gate.algorithm v.gate.granted v o locks))
         (reads-logged (word_now v.history.seen) v.attempt a x i.sees t.1.value)),
     t.1.small,
     opaque-at good c n u o l.start i.start i.front i.legal i.below t.1.sees (inside-logged c.words v.attempt a x low i.reads_inside),
@@ -169,15 +187,39 @@ module _ (good : List ℕ → Type 0) (c : Config) (n : ℕ) where
       u = view_after (load_heap a) t.0 v x
 
   -- a store puts its word into the log
-  pub tells-store : (a x : ℕ) (v w : View) (o : Own) (m : World) → v.gate.phase ≡ In → takes_lock v.gate.algorithm ≡ true → o.committing ≡ false → writes_full a (known_of v o) ≡ false → kept_under w.gate.algorithm (view_after (store_heap a x) m w x) o ≡ kept_with a (known_of v o)
+  pub tells-store : (a x : ℕ) (v w : View) (o : Own) (m : World) → v.gate.phase ≡ In → takes_lock v.gate.algorithm ≡ true
+      → o.committing ≡ false → writes_full a (known_of v o) ≡ false
+      → kept_under w.gate.algorithm (view_after (store_heap a x) m w x) o ≡ kept_with a (known_of v o)
       → IsLogged v w → w.attempt ≡ v.attempt → ((u : View) → u.history ≡ v.history → u.attempt.start ≡ v.attempt.start → u.attempt.reads ≡ v.attempt.reads → answers.IsOpaque good c n (known_of u o))
       → HasWritten good c n a x Done (known_of v o) (known_of (view_after (store_heap a x) m w x) o)
   tells-store a x v w o m inside locks settled room kept i same opaque = (
-    goes-on v u o inside (record { history = i.history; gate = i.gate; irrevocable = i.irrevocable; taken = i.taken; writer = i.writer; fence = i.fence; start = i.start; rises = i.rises; base = i.base; installs = i.installs; step_trace = (record { place = Heap a; act = Store x; found = None } ∷ i.step_trace.0, ap (λ t. record { place = Heap a; act = Store x; found = None } ∷ t) i.step_trace.1) }),
+    goes-on v u o inside
+        (record {
+          history = i.history;
+          gate = i.gate;
+          irrevocable = i.irrevocable;
+          taken = i.taken;
+          writer = i.writer;
+          fence = i.fence;
+          start = i.start;
+          rises = i.rises;
+          base = i.base;
+          installs = i.installs;
+          step_trace = (
+            record { place = Heap a; act = Store x; found = None } ∷ i.step_trace.0,
+            ap (λ t. record { place = Heap a; act = Store x; found = None } ∷ t) i.step_trace.1,
+          );
+        }),
     settled,
-    subst (λ (ws : List (ℕ × ℕ)). logs.Writes (known_of v o).log a x (record { reads = items u.attempt.reads; writes = ws })) (sym (written-plain w.gate.algorithm w.gate.granted u o (ap (λ (g : GateView). takes_lock g.algorithm) i.gate ∙ locks)))
-        (subst (λ (ws : List (ℕ × ℕ)). logs.Writes (record { reads = items v.attempt.reads; writes = ws }) a x (record { reads = items w.attempt.reads; writes = put a x (items w.attempt.stores) })) (sym (written-plain v.gate.algorithm v.gate.granted v o locks))
-        (subst (λ (t : Attempt). logs.Writes (record { reads = items v.attempt.reads; writes = items v.attempt.stores }) a x (record { reads = items t.reads; writes = put a x (items t.stores) })) (sym same) (refl, λ b. refl))),
+    subst (λ (ws : List (ℕ × ℕ)). logs.Writes (known_of v o).log a x (record { reads = items u.attempt.reads; writes = ws }))
+        (sym (written-plain w.gate.algorithm w.gate.granted u o (ap (λ (g : GateView). takes_lock g.algorithm) i.gate ∙ locks)))
+        (subst (λ (ws : List (ℕ × ℕ)).
+        logs.Writes (record { reads = items v.attempt.reads; writes = ws }) a x
+        (record { reads = items w.attempt.reads; writes = put a x (items w.attempt.stores) }))
+        (sym (written-plain v.gate.algorithm v.gate.granted v o locks))
+        (subst (λ (t : Attempt).
+        logs.Writes (record { reads = items v.attempt.reads; writes = items v.attempt.stores }) a x
+        (record { reads = items t.reads; writes = put a x (items t.stores) })) (sym same) (refl, λ b. refl))),
     opaque u i.history i.start (ap (λ (t : Attempt). t.reads) same),
     room,
     kept,
@@ -190,7 +232,8 @@ module _ (good : List ℕ → Type 0) (c : Config) (n : ℕ) where
       apart : (b : Alg) → takes_lock b ≡ true → b ≡ Tml → ⊥
       apart b e is = let no : takes_lock Tml ≡ true = ap takes_lock (sym is) ∙ e in cc
 
-  pub still-opaque : (l : Local) (v : View) (o : Own) → IsInside good c n l v → (u : View) → u.history ≡ v.history → u.attempt.start ≡ v.attempt.start → u.attempt.reads ≡ v.attempt.reads → answers.IsOpaque good c n (known_of u o)
+  pub still-opaque : (l : Local) (v : View) (o : Own) → IsInside good c n l v → (u : View) → u.history ≡ v.history
+      → u.attempt.start ≡ v.attempt.start → u.attempt.reads ≡ v.attempt.reads → answers.IsOpaque good c n (known_of u o)
   still-opaque l v o i u history start reads = opaque-at good c n u o l.start (start ∙ i.start) (ap (λ (h : SeenHistory). h.front) history ∙ i.front)
       (subst (λ (h : SeenHistory). Legal rule c h.seen) (sym history) i.legal) (subst (λ (h : SeenHistory). Below h.seen (l.start + 1)) (sym history) i.below)
       (subst (λ (h : SeenHistory). Explains (word_now h.seen) u.attempt.reads) (sym history) (subst (λ (r : List Cell). Explains (word_now v.history.seen) r) (sym reads) i.sees))
@@ -225,7 +268,8 @@ module _ (good : List ℕ → Type 0) (c : Config) (n : ℕ) where
   }
 
   -- an attempt that wrote may store the next clock
-  pub may-commit : (l : Local) (v : View) (o : Own) → IsInside good c n l v → takes_lock v.gate.algorithm ≡ true → v.gate.holds ≡ l.holds → l.wrote ≡ true → KeepsRule good c n (known_of v o) → CanStoreClock rule (l.start + 1) v
+  pub may-commit : (l : Local) (v : View) (o : Own) → IsInside good c n l v → takes_lock v.gate.algorithm ≡ true → v.gate.holds ≡ l.holds
+      → l.wrote ≡ true → KeepsRule good c n (known_of v o) → CanStoreClock rule (l.start + 1) v
   may-commit l v o i locks free dirty keeps = let k = locked l v locks i in record {
     has = record { phase = i.phase; algorithm = locks; taken = k.taken };
     started = k.started;
@@ -249,9 +293,22 @@ module _ (good : List ℕ → Type 0) (c : Config) (n : ℕ) where
   )
     where
       unmade : IsUnmade v (view_after free_lock t.0 v 0)
-      unmade = record { carried = record { named = refl; base = refl; installs = refl; fence = refl; step_trace = (record { place = Lock; act = Store 0; found = None } ∷ [], refl); unlocked = refl; unwritten = (locked l v locks i).unwritten }; history = refl }
+      unmade =
+          record {
+            carried = record {
+              named = refl;
+              base = refl;
+              installs = refl;
+              fence = refl;
+              step_trace = (record { place = Lock; act = Store 0; found = None } ∷ [], refl);
+              unlocked = refl;
+              unwritten = (locked l v locks i).unwritten;
+            };
+            history = refl;
+          }
 
-  pub tells-committed : (l : Local) (v s u : View) (o : Own) → IsInside good c n l v → takes_lock v.gate.algorithm ≡ true → l.wrote ≡ true → Tells (store_clock n (l.start + 1)) (Commits rule c n (l.start + 1)) v (l.start + 1) s → Tells free_lock Nothing s 0 u
+  pub tells-committed : (l : Local) (v s u : View) (o : Own) → IsInside good c n l v → takes_lock v.gate.algorithm ≡ true → l.wrote ≡ true
+      → Tells (store_clock n (l.start + 1)) (Commits rule c n (l.start + 1)) v (l.start + 1) s → Tells free_lock Nothing s 0 u
       → CommitsAt good c n (l.start + 1) (known_of v o) (known_of (left n u) o)
   tells-committed l v s u o i locks dirty r t = let k = locked l v locks i in
       commits-left n good c (l.start + 1) r.0 v u o r.1 (subst (λ (y : View). IsMade n (l.start + 1) r.0.history v y) (sym path) (made k.rises))
@@ -265,7 +322,20 @@ module _ (good : List ℕ → Type 0) (c : Config) (n : ℕ) where
 
       made : v.steps.rises ≡ v.steps.rises_at_begin → IsMade n (l.start + 1) r.0.history v last
       made rises = record {
-        carried = record { named = refl; base = refl; installs = refl; fence = refl; step_trace = (record { place = Lock; act = Store 0; found = None } ∷ record { place = Clock; act = Store (l.start + 1); found = None } ∷ [], refl); unlocked = refl; unwritten = (locked l v locks i).unwritten };
+        carried =
+            record {
+              named = refl;
+              base = refl;
+              installs = refl;
+              fence = refl;
+              step_trace = (
+                record { place = Lock; act = Store 0; found = None }
+                    ∷ record { place = Clock; act = Store (l.start + 1); found = None } ∷ [],
+                refl,
+              );
+              unlocked = refl;
+              unwritten = (locked l v locks i).unwritten;
+            };
         history = refl;
         rises = (let one = entry-one v.gate.algorithm locks in omega arith);
       }

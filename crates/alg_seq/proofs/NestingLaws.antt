@@ -83,7 +83,9 @@ module _ (good : List ℕ → Type 0) (c : Config) (n : ℕ) (l : Local) (v : Vi
   }
 
   -- it was rolled back to mark d
-  pub rolls-at : l.committing ≡ false → log ≡ rolled d l.writes → d ≤ length l.writes.marks → is_sequential v.gate.algorithm ≡ true → written_under v.gate.algorithm v.gate.granted (taken v stores more) (own_of other) ≡ log.items → IsInside good c n other (taken v stores more)
+  pub rolls-at : l.committing ≡ false → log ≡ rolled d l.writes → d ≤ length l.writes.marks → is_sequential v.gate.algorithm ≡ true
+      → written_under v.gate.algorithm v.gate.granted (taken v stores more) (own_of other) ≡ log.items
+      → IsInside good c n other (taken v stores more)
       → IsRolled good c n d (known_of v (own_of l)) (known_of (taken v stores more) (own_of other))
   rolls-at quiet is within sequential written inside = record {
     stays = record {
@@ -107,7 +109,10 @@ module _ (good : List ℕ → Type 0) (c : Config) (n : ℕ) (l : Local) (v : Vi
     reads = refl;
     writes = written ∙ ap (λ (q : LogState). q.items) is;
     depth = refl;
-    kept = kept-own v.gate.algorithm sequential v (taken v stores more) (own_of l) (own_of other) refl ∙ sym (kept-stays v.gate.algorithm sequential (known_of v (own_of l)).kept (known_of (taken v stores more) (own_of other)).log.writes);
+    kept =
+        kept-own v.gate.algorithm sequential v (taken v stores more) (own_of l) (own_of other) refl
+        ∙ sym
+        (kept-stays v.gate.algorithm sequential (known_of v (own_of l)).kept (known_of (taken v stores more) (own_of other)).log.writes);
     marks = ap (λ (q : LogState). q.marks) is;
     opaque = opaque-inside good c n other (taken v stores more) (own_of other) inside;
   }
@@ -240,7 +245,10 @@ module _ (good : List ℕ → Type 0) (c : Config) (n : ℕ) (l : Local) (v : Vi
       empty = ap (λ (ms : List (List (ℕ × ℕ))). get_or ms (d - 1) []) nothing.2 ∙ get_or-replicate l.depth (d - 1) [] [] (omega arith)
 
       pub stays-rolled : IsInside good c n (record l { writes = log; depth = d }) v
-      stays-rolled = stays-with log d (ap (λ (q : LogState). q.items) is ∙ (empty ∙ sym nothing.0)) (λ p. subst (λ (ms : List (List (ℕ × ℕ))). HasDepth l.algorithm ms d) (sym (ap (λ (q : LogState). q.marks) is)) (depth-take l.algorithm d stands.0 high))
+      stays-rolled =
+          stays-with log d (ap (λ (q : LogState). q.items) is ∙ (empty ∙ sym nothing.0)) (λ p.
+          subst (λ (ms : List (List (ℕ × ℕ))). HasDepth l.algorithm ms d) (sym (ap (λ (q : LogState). q.marks) is))
+          (depth-take l.algorithm d stands.0 high))
 
       pub rolls-back : IsRolled good c n d (known_of v (own_of l)) (known_of v (own_of (record l { writes = log; depth = d })))
       rolls-back = rolls-at good c n l v i log l.wrote d v.attempt.stores [] quiet is (let h = count in omega arith) sequential

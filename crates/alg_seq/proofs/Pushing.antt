@@ -28,7 +28,8 @@ keep-new : (a x : ℕ) (ws : List (ℕ × ℕ)) → item_at a ws ≡ None → ke
 keep-new a x [] e = refl
 keep-new a x (w ∷ ws) e = by (w.0 == a) refl e (keep-new a x ws)
   where
-    by : (b : Bool) → (w.0 == a) ≡ b → (if w.0 == a then Some w.1 else item_at a ws) ≡ None → (item_at a ws ≡ None → keep a x ws ≡ ws ++ (a, x) ∷ []) → (if w.0 == a then w ∷ ws else w ∷ keep a x ws) ≡ w ∷ (ws ++ (a, x) ∷ [])
+    by : (b : Bool) → (w.0 == a) ≡ b → (if w.0 == a then Some w.1 else item_at a ws) ≡ None
+        → (item_at a ws ≡ None → keep a x ws ≡ ws ++ (a, x) ∷ []) → (if w.0 == a then w ∷ ws else w ∷ keep a x ws) ≡ w ∷ (ws ++ (a, x) ∷ [])
     by true q f rec = absurd (let g = rw q at f in cc)
     by false q f rec = rw q (ap (λ (l : List (ℕ × ℕ)). w ∷ l) (rec (rw q at f)))
 
@@ -103,7 +104,9 @@ module _ (c : Config) (a x : ℕ) (l : Local) (v : View) (j : IsLocked c l v) (r
   }
 
   -- and of one whose value is loaded first
-  pub logs-then : (s : Push) (m q : LogState) (old : ℕ) (w : View) → a < c.words → m ≡ record l.writes { items = put a x l.writes.items } → HasPlace true a l.undo → item_at a l.undo.items ≡ None → Pushes l.undo a (keep a old l.undo.items) s q → Tells (load_undo a) Nothing v old w
+  pub logs-then : (s : Push) (m q : LogState) (old : ℕ) (w : View) → a < c.words → m ≡ record l.writes { items = put a x l.writes.items }
+      → HasPlace true a l.undo → item_at a l.undo.items ≡ None → Pushes l.undo a (keep a old l.undo.items) s q
+      → Tells (load_undo a) Nothing v old w
       → HasLogged c.words a x l v (record l { undo = q; writes = m }) w
   logs-then s m q old w low is place none given t = subst (λ (y : View). HasLogged c.words a x l v (record l { undo = q; writes = m }) y) (sym t.2) (record {
     local = refl;

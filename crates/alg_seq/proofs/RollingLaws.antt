@@ -114,7 +114,11 @@ module _ (good : List ℕ → Type 0) (c : Config) (n : ℕ) (l : Local) (v : Vi
           where
             by : (b : Bool) → l.wrote ≡ b → b ≡ true
             by true f = refl
-            by false f = absurd (let none : length l.writes.items ≡ 0 = ap length (k.writes rev) ∙ ap (λ (cs : List Cell). length (items cs)) (k.clean f) in let g = fewer in let zero_left : left ≡ 0 = omega arith in let no : true ≡ false = sym e ∙ (some ∙ empty log.items zero_left) in cc)
+            by false f =
+                absurd (let none : length l.writes.items ≡ 0 =
+                ap length (k.writes rev) ∙ ap (λ (cs : List Cell). length (items cs)) (k.clean f) in
+                let g = fewer in
+                let zero_left : left ≡ 0 = omega arith in let no : true ≡ false = sym e ∙ (some ∙ empty log.items zero_left) in cc)
 
         stays-at : (stores : List Cell) → items stores ≡ log.items → IsInside good c n m (after stores)
         stays-at stores stored = inside-at good c n l v i log wrote d stores more (keeps-by c l.algorithm l.granted m (after stores) (ap takes_lock (sym i.named) ∙ locks) (record {

@@ -85,7 +85,10 @@ module _ (good : List ℕ → Type 0) (c : Config) (n : ℕ) where
     never-full a = no-log-full a (known_of v o) (ap has_read_log tml) (ap logs_writes tml)
 
     kept-now : (a : ℕ) (y : View) → y.gate ≡ v.gate → y.owned ≡ v.owned → y.lock ≡ v.lock → (known_of y o).kept ≡ kept_with a (known_of v o)
-    kept-now a y gate owned lock = (λ j. kept_under (gate j).algorithm y o) ∙ (kept-same v.gate.algorithm v y o o refl (ap (λ (q : Ownership). q.undo) owned) (ap (λ (q : LockView). q.undo) lock) ∙ sym (kept-unlogged a (known_of v o) (ap logs_writes tml)))
+    kept-now a y gate owned lock =
+        (λ j. kept_under (gate j).algorithm y o)
+        ∙ (kept-same v.gate.algorithm v y o o refl (ap (λ (q : Ownership). q.undo) owned) (ap (λ (q : LockView). q.undo) lock)
+        ∙ sym (kept-unlogged a (known_of v o) (ap logs_writes tml)))
 
     -- the writer has the clock
     locked-now : (y : View) → y.tml.writer ≡ true → locked_under v.gate.algorithm y.lock.taken y.tml.writer ≡ true
@@ -95,7 +98,9 @@ module _ (good : List ℕ → Type 0) (c : Config) (n : ℕ) where
     reads-here : (a x : ℕ) (rs : List Cell) (w : View) → w.attempt.reads ≡ rs → w.attempt.stores ≡ v.attempt.stores → logged v.attempt a x ≡ rs → x ≡ over v.attempt.stores a (word_now v.history.seen a)
         → Reads (known_of v o).log a x (record { reads = items w.attempt.reads; writes = written_under v.gate.algorithm v.gate.granted w o })
     reads-here a x rs w is same log value =
-        subst (λ (ws : List (ℕ × ℕ)). Reads (record { reads = items v.attempt.reads; writes = ws }) a x (record { reads = items w.attempt.reads; writes = written_under v.gate.algorithm v.gate.granted w o })) (sym (written-here v))
+        subst (λ (ws : List (ℕ × ℕ)).
+        Reads (record { reads = items v.attempt.reads; writes = ws }) a x
+        (record { reads = items w.attempt.reads; writes = written_under v.gate.algorithm v.gate.granted w o })) (sym (written-here v))
         (subst (λ (ws : List (ℕ × ℕ)). Reads (record { reads = items v.attempt.reads; writes = items v.attempt.stores }) a x (record { reads = items w.attempt.reads; writes = ws })) (sym (written-here w ∙ ap items same))
         (subst (λ (qs : List Cell). Reads (record { reads = items v.attempt.reads; writes = items v.attempt.stores }) a x (record { reads = items qs; writes = items v.attempt.stores })) (log ∙ sym is)
         (reads-logged (word_now v.history.seen) v.attempt a x i.sees value)))
@@ -138,18 +143,30 @@ module _ (good : List ℕ → Type 0) (c : Config) (n : ℕ) where
       steps = record v.steps { step_trace = record { place = Clock; act = Load; found = Some clock } ∷ record { place = Heap a; act = Load; found = Some x } ∷ v.steps.step_trace };
     }
 
-    again_path : (a x clock : ℕ) (s w : View) (b : Bool) → (clock == v.attempt.start) ≡ b → l.wrote ≡ false → Tells (tml_load a) (TmlLoads rule c a) v x s → Tells tml_again (FindsAgain rule c) s clock w → w ≡ again_at a x clock b
+    again_path : (a x clock : ℕ) (s w : View) (b : Bool) → (clock == v.attempt.start) ≡ b → l.wrote ≡ false
+        → Tells (tml_load a) (TmlLoads rule c a) v x s → Tells tml_again (FindsAgain rule c) s clock w → w ≡ again_at a x clock b
     again_path a x clock s w b e clean t r = r.2 ∙ (ap (λ (y : View). view_after tml_again r.0 y clock) (load_path a x s false clean t) ∙ ap (again_at a x clock) e)
 
     -- with one caller alone the clock stands
     others : (clock : ℕ) → n < c.callers → l.wrote ≡ false → clock ≢ l.start → (c.callers ≡ 1 → clock ≡ c.clock + v.steps.rises) → 1 < c.callers
-    others clock low clean apart sole = others-by n c.callers low (λ one. apart (let s = sole one in let q = k.sole one in let r : v.steps.rises ≡ v.steps.rises_at_begin + 0 = k.rises ∙ ap (λ (b : Bool). v.steps.rises_at_begin + (if b then 1 else 0)) clean in omega arith))
+    others clock low clean apart sole =
+        others-by n c.callers low (λ one.
+        apart (let s = sole one in
+        let q = k.sole one in
+        let r : v.steps.rises ≡ v.steps.rises_at_begin + 0 =
+        k.rises ∙ ap (λ (b : Bool). v.steps.rises_at_begin + (if b then 1 else 0)) clean in
+        omega arith))
 
     -- a reader can still be cancelled, and may leave
     revocable : l.wrote ≡ false → is_irrevocable (known_of v o) ≡ false
-    revocable clean = ap (λ (a : Alg). irrevocable_under a (granted_under a v.gate v.lock) (not (is_empty (written_under a v.gate.granted v o)))) tml ∙ (ap (λ (b : Bool). irrevocable_under Tml b (not (is_empty (items v.attempt.stores)))) k.ungranted ∙ ap (λ (cs : List Cell). not (is_empty (items cs))) (k.clean clean))
+    revocable clean =
+        ap (λ (a : Alg). irrevocable_under a (granted_under a v.gate v.lock) (not (is_empty (written_under a v.gate.granted v o)))) tml
+        ∙ (ap (λ (b : Bool). irrevocable_under Tml b (not (is_empty (items v.attempt.stores)))) k.ungranted
+        ∙ ap (λ (cs : List Cell). not (is_empty (items cs))) (k.clean clean))
 
-    pub may-leave : (u : View) → l.wrote ≡ false → u.gate ≡ v.gate → u.lock ≡ v.lock → u.owned ≡ v.owned → u.tml.writer ≡ v.tml.writer → u.ring_commit.committed ≡ v.ring_commit.committed → u.attempt.stores ≡ v.attempt.stores → u.attempt.entered ≡ v.attempt.entered → CanLeave u
+    pub may-leave : (u : View) → l.wrote ≡ false → u.gate ≡ v.gate → u.lock ≡ v.lock → u.owned ≡ v.owned → u.tml.writer ≡ v.tml.writer
+        → u.ring_commit.committed ≡ v.ring_commit.committed → u.attempt.stores ≡ v.attempt.stores → u.attempt.entered ≡ v.attempt.entered
+        → CanLeave u
     may-leave u clean gate lock owned writer committed stores entered = record {
       phase = ap (λ (g : GateView). g.phase) gate ∙ i.phase;
       unlocked = ap (λ (q : LockView). q.taken) lock ∙ k.unlocked;
@@ -164,7 +181,11 @@ module _ (good : List ℕ → Type 0) (c : Config) (n : ℕ) where
     }
 
     quits-here : (u : View) → l.wrote ≡ false → IsUnmade v u → u.steps.rises ≡ v.steps.rises → Quits (known_of v o) (known_of (left n u) o)
-    quits-here u clean m rises = quits-left n v u o m (let r : v.steps.rises ≡ v.steps.rises_at_begin + 0 = k.rises ∙ ap (λ (b : Bool). v.steps.rises_at_begin + (if b then 1 else 0)) clean in (omega arith, omega arith)) (revocable clean)
+    quits-here u clean m rises =
+        quits-left n v u o m
+        (let r : v.steps.rises ≡ v.steps.rises_at_begin + 0 =
+        k.rises ∙ ap (λ (b : Bool). v.steps.rises_at_begin + (if b then 1 else 0)) clean in
+        (omega arith, omega arith)) (revocable clean)
 
     -- a reader's word stands where the clock is still its start
     pub tells-read : (a x clock : ℕ) (s w : View) → x < 2 ^ 64 → a < c.words → l.wrote ≡ false → clock ≡ l.start → Tells (tml_load a) (TmlLoads rule c a) v x s → Tells tml_again (FindsAgain rule c) s clock w
@@ -172,7 +193,9 @@ module _ (good : List ℕ → Type 0) (c : Config) (n : ℕ) where
     tells-read a x clock s w small low clean same t r = subst (λ (y : View). HasRead good c n a (reads.Value x) (known_of v o) (known_of y o)) (sym (again_path a x clock s w true here clean t r)) (
       goes-inner v u o i.phase (record { history = refl; gate = refl; lock = refl; writer = refl; fence = refl; start = refl; rises = refl; base = refl; installs = refl; step_trace = (_ ∷ _ ∷ [], refl) }),
       quiet,
-      reads-here a x (record { at = a; value = x } ∷ v.attempt.reads) u refl refl (ap (λ (cs : List Cell). if touches cs a then v.attempt.reads else record { at = a; value = x } ∷ v.attempt.reads) none) (value ∙ ap (λ (cs : List Cell). over cs a (word_now v.history.seen a)) (sym none)),
+      reads-here a x (record { at = a; value = x } ∷ v.attempt.reads) u refl refl
+          (ap (λ (cs : List Cell). if touches cs a then v.attempt.reads else record { at = a; value = x } ∷ v.attempt.reads) none)
+          (value ∙ ap (λ (cs : List Cell). over cs a (word_now v.history.seen a)) (sym none)),
       small,
       opaque-at good c n u o l.start i.start i.front i.legal i.below sees (inside-more c.words (record { at = a; value = x }) v.attempt.reads low i.reads_inside),
       (never-full a).0,
@@ -204,12 +227,26 @@ module _ (good : List ℕ → Type 0) (c : Config) (n : ℕ) where
     -- and else the attempt ends
     pub tells-conflict : (a x clock : ℕ) (s u w : View) → n < c.callers → l.wrote ≡ false → clock ≢ l.start → Tells (tml_load a) (TmlLoads rule c a) v x s → Tells tml_again (FindsAgain rule c) s clock u → w ≡ left n u
         → HasRead good c n a (reads.Conflict (causes.Clock l.start clock)) (known_of v o) (known_of w o)
-    tells-conflict a x clock s u w low clean apart t r is = subst (λ (y : View). HasRead good c n a (reads.Conflict (causes.Clock l.start clock)) (known_of v o) (known_of y o)) (sym (is ∙ ap (left n) (again_path a x clock s u false here clean t r))) (
-      quits-here y clean (record { carried = record { named = refl; base = refl; installs = refl; fence = refl; step_trace = (_ ∷ _ ∷ [], refl); unlocked = k.unlocked; unwritten = k.writer ∙ clean }; history = refl }) refl,
-      (tml, sym i.start, (λ e. apart (sym e)), found-left n Clock clock v y o o (_ ∷ _ ∷ [], refl, Load, (0, omega arith, refl))),
-      others clock low clean apart shown.sole,
-      (never-full a).0,
-    )
+    tells-conflict a x clock s u w low clean apart t r is = subst
+        (λ (y : View). HasRead good c n a (reads.Conflict (causes.Clock l.start clock)) (known_of v o) (known_of y o))
+        (sym (is ∙ ap (left n) (again_path a x clock s u false here clean t r))) (
+          quits-here y clean
+              (record {
+                carried = record {
+                  named = refl;
+                  base = refl;
+                  installs = refl;
+                  fence = refl;
+                  step_trace = (_ ∷ _ ∷ [], refl);
+                  unlocked = k.unlocked;
+                  unwritten = k.writer ∙ clean;
+                };
+                history = refl;
+              }) refl,
+          (tml, sym i.start, (λ e. apart (sym e)), found-left n Clock clock v y o o (_ ∷ _ ∷ [], refl, Load, (0, omega arith, refl))),
+          others clock low clean apart shown.sole,
+          (never-full a).0,
+        )
       where
         here : (clock == v.attempt.start) ≡ false
         here = let s = i.start in grind (arith, nat_tests)
@@ -225,7 +262,17 @@ module _ (good : List ℕ → Type 0) (c : Config) (n : ℕ) where
     asked_at clock = record v { tml = record v.tml { loaded = false }; steps = record v.steps { step_trace = record { place = Clock; act = Load; found = Some clock } ∷ v.steps.step_trace } }
 
     asked_path : (clock : ℕ) (s : View) → Tells tml_again (FindsAgain rule c) v clock s → s ≡ asked_at clock
-    asked_path clock s r = r.2 ∙ ((λ j. record (asked_at clock) { attempt = record v.attempt { reads = if clock == v.attempt.start then (if k.settled j then record { at = v.tml.from; value = v.tml.value } ∷ v.attempt.reads else v.attempt.reads) else v.attempt.reads } }) ∙ ap (λ (rs : List Cell). record (asked_at clock) { attempt = record v.attempt { reads = rs } }) (same (clock == v.attempt.start)))
+    asked_path clock s r =
+        r.2
+        ∙ ((λ j.
+        record (asked_at clock) {
+          attempt = record v.attempt {
+            reads = if clock
+                == v.attempt.start then (if k.settled j then record { at = v.tml.from; value = v.tml.value } ∷ v.attempt.reads else v.attempt.reads)
+                else v.attempt.reads;
+          };
+        })
+        ∙ ap (λ (rs : List Cell). record (asked_at clock) { attempt = record v.attempt { reads = rs } }) (same (clock == v.attempt.start)))
       where
         same : (b : Bool) → (if b then v.attempt.reads else v.attempt.reads) ≡ v.attempt.reads
         same true = refl
@@ -248,7 +295,11 @@ module _ (good : List ℕ → Type 0) (c : Config) (n : ℕ) where
       where
         by : (d : Bool) → record (asked_at clock) {
           tml = if d then record (asked_at clock).tml { writer = true } else (asked_at clock).tml;
-          steps = record (if d then record (asked_at clock).steps { rises = v.steps.rises + 1 } else (asked_at clock).steps) { step_trace = record { place = Clock; act = Exchange l.start (l.start + 1); found = Some found } ∷ (if d then record (asked_at clock).steps { rises = v.steps.rises + 1 } else (asked_at clock).steps).step_trace };
+          steps =
+              record (if d then record (asked_at clock).steps { rises = v.steps.rises + 1 } else (asked_at clock).steps) {
+                step_trace = record { place = Clock; act = Exchange l.start (l.start + 1); found = Some found }
+                    ∷ (if d then record (asked_at clock).steps { rises = v.steps.rises + 1 } else (asked_at clock).steps).step_trace;
+              };
         } ≡ tried_at clock found d
         by true = refl
         by false = refl
@@ -268,18 +319,23 @@ module _ (good : List ℕ → Type 0) (c : Config) (n : ℕ) where
     })
 
     -- the clock was found elsewhere: before the exchange, by it, or at its limit
-    pub refused-asked : (a x clock : ℕ) (s w : View) → n < c.callers → l.wrote ≡ false → clock ≢ l.start → Tells tml_again (FindsAgain rule c) v clock s → w ≡ left n s → HasWritten good c n a x (writes.Conflict (causes.Clock l.start clock)) (known_of v o) (known_of w o)
-    refused-asked a x clock s w low clean apart r is = subst (λ (y : View). HasWritten good c n a x (writes.Conflict (causes.Clock l.start clock)) (known_of v o) (known_of y o)) (sym (is ∙ ap (left n) (asked_path clock s r))) (
-      quits-here y clean (record { carried = record { named = refl; base = refl; installs = refl; fence = refl; step_trace = (_ ∷ [], refl); unlocked = k.unlocked; unwritten = k.writer ∙ clean }; history = refl }) refl,
-      (tml, sym i.start, (λ e. apart (sym e)), found-left n Clock clock v y o o (_ ∷ [], refl, Load, (0, omega arith, refl))),
-      others clock low clean apart r.1.sole,
-      (never-full a).1,
-    )
+    pub refused-asked : (a x clock : ℕ) (s w : View) → n < c.callers → l.wrote ≡ false → clock ≢ l.start
+        → Tells tml_again (FindsAgain rule c) v clock s → w ≡ left n s
+        → HasWritten good c n a x (writes.Conflict (causes.Clock l.start clock)) (known_of v o) (known_of w o)
+    refused-asked a x clock s w low clean apart r is = subst
+        (λ (y : View). HasWritten good c n a x (writes.Conflict (causes.Clock l.start clock)) (known_of v o) (known_of y o))
+        (sym (is ∙ ap (left n) (asked_path clock s r))) (
+          quits-here y clean (record { carried = record { named = refl; base = refl; installs = refl; fence = refl; step_trace = (_ ∷ [], refl); unlocked = k.unlocked; unwritten = k.writer ∙ clean }; history = refl }) refl,
+          (tml, sym i.start, (λ e. apart (sym e)), found-left n Clock clock v y o o (_ ∷ [], refl, Load, (0, omega arith, refl))),
+          others clock low clean apart r.1.sole,
+          (never-full a).1,
+        )
       where
         y : View
         y = asked_at clock
 
-    pub refused-full : (a x clock : ℕ) (s w : View) → l.wrote ≡ false → CLOCK_LIMIT ≤ clock → Tells tml_again (FindsAgain rule c) v clock s → w ≡ left n s → HasWritten good c n a x (writes.ClockFull clock) (known_of v o) (known_of w o)
+    pub refused-full : (a x clock : ℕ) (s w : View) → l.wrote ≡ false → CLOCK_LIMIT ≤ clock → Tells tml_again (FindsAgain rule c) v clock s
+        → w ≡ left n s → HasWritten good c n a x (writes.ClockFull clock) (known_of v o) (known_of w o)
     refused-full a x clock s w clean high r is = subst (λ (y : View). HasWritten good c n a x (writes.ClockFull clock) (known_of v o) (known_of y o)) (sym (is ∙ ap (left n) (asked_path clock s r))) (
       quits-here y clean (record { carried = record { named = refl; base = refl; installs = refl; fence = refl; step_trace = (_ ∷ [], refl); unlocked = k.unlocked; unwritten = k.writer ∙ clean }; history = refl }) refl,
       ap asks_at_write tml,
@@ -293,30 +349,54 @@ module _ (good : List ℕ → Type 0) (c : Config) (n : ℕ) where
     pub may-leave-asked : (clock : ℕ) (s : View) → l.wrote ≡ false → Tells tml_again (FindsAgain rule c) v clock s → CanLeave s
     may-leave-asked clock s clean r = subst CanLeave (sym (asked_path clock s r)) (may-leave (asked_at clock) clean refl refl refl refl refl refl refl)
 
-    pub refused-tried : (a x clock found : ℕ) (s u w : View) → n < c.callers → l.wrote ≡ false → found ≢ l.start → Tells tml_again (FindsAgain rule c) v clock s → Tells (tml_write l.start) (FindsSole c) s found u → w ≡ left n u
+    pub refused-tried : (a x clock found : ℕ) (s u w : View) → n < c.callers → l.wrote ≡ false → found ≢ l.start
+        → Tells tml_again (FindsAgain rule c) v clock s → Tells (tml_write l.start) (FindsSole c) s found u → w ≡ left n u
         → HasWritten good c n a x (writes.Conflict (causes.Clock l.start found)) (known_of v o) (known_of w o)
-    refused-tried a x clock found s u w low clean apart r t is = subst (λ (y : View). HasWritten good c n a x (writes.Conflict (causes.Clock l.start found)) (known_of v o) (known_of y o)) (sym (is ∙ ap (left n) (tried_path clock found s u false (grind (arith, nat_tests)) r t))) (
-      quits-here y clean (record { carried = record { named = refl; base = refl; installs = refl; fence = refl; step_trace = (_ ∷ _ ∷ [], refl); unlocked = k.unlocked; unwritten = k.writer ∙ clean }; history = refl }) refl,
-      (tml, sym i.start, (λ e. apart (sym e)), found-left n Clock found v y o o (_ ∷ _ ∷ [], refl, Exchange l.start (l.start + 1), (0, omega arith, refl))),
-      others found low clean apart (subst (λ (y : View). FindsSole c t.0 y found) (asked_path clock s r) t.1),
-      (never-full a).1,
-    )
+    refused-tried a x clock found s u w low clean apart r t is = subst
+        (λ (y : View). HasWritten good c n a x (writes.Conflict (causes.Clock l.start found)) (known_of v o) (known_of y o))
+        (sym (is ∙ ap (left n) (tried_path clock found s u false (grind (arith, nat_tests)) r t))) (
+          quits-here y clean
+              (record {
+                carried = record {
+                  named = refl;
+                  base = refl;
+                  installs = refl;
+                  fence = refl;
+                  step_trace = (_ ∷ _ ∷ [], refl);
+                  unlocked = k.unlocked;
+                  unwritten = k.writer ∙ clean;
+                };
+                history = refl;
+              }) refl,
+          (tml, sym i.start, (λ e. apart (sym e)), found-left n Clock found v y o o (_ ∷ _ ∷ [], refl, Exchange l.start (l.start + 1), (0, omega arith, refl))),
+          others found low clean apart (subst (λ (y : View). FindsSole c t.0 y found) (asked_path clock s r) t.1),
+          (never-full a).1,
+        )
       where
         y : View
         y = tried_at clock found false
 
     pub may-leave-tried : (clock found : ℕ) (s u : View) → l.wrote ≡ false → found ≢ l.start → Tells tml_again (FindsAgain rule c) v clock s → Tells (tml_write l.start) (FindsSole c) s found u → CanLeave u
-    may-leave-tried clock found s u clean apart r t = subst CanLeave (sym (tried_path clock found s u false (grind (arith, nat_tests)) r t)) (may-leave (tried_at clock found false) clean refl refl refl refl refl refl refl)
+    may-leave-tried clock found s u clean apart r t =
+        subst CanLeave (sym (tried_path clock found s u false (grind (arith, nat_tests)) r t))
+        (may-leave (tried_at clock found false) clean refl refl refl refl refl refl refl)
 
     -- the view after the first write
     abbrev put_at : ℕ → ℕ → ℕ → ℕ → View
     put_at a x clock found = record v {
       attempt = record v.attempt { stores = record { at = a; value = x } ∷ v.attempt.stores };
       tml = record v.tml { loaded = false; writer = true };
-      steps = record v.steps { rises = v.steps.rises + 1; step_trace = record { place = Heap a; act = Store x; found = None } ∷ record { place = Clock; act = Exchange l.start (l.start + 1); found = Some found } ∷ record { place = Clock; act = Load; found = Some clock } ∷ v.steps.step_trace };
+      steps =
+          record v.steps {
+            rises = v.steps.rises + 1;
+            step_trace = record { place = Heap a; act = Store x; found = None }
+                ∷ record { place = Clock; act = Exchange l.start (l.start + 1); found = Some found }
+                ∷ record { place = Clock; act = Load; found = Some clock } ∷ v.steps.step_trace;
+          };
     }
 
-    put_path : (a x clock found : ℕ) (s u w : View) → found ≡ l.start → Tells tml_again (FindsAgain rule c) v clock s → Tells (tml_write l.start) (FindsSole c) s found u → Tells (tml_store a x) Nothing u x w → w ≡ put_at a x clock found
+    put_path : (a x clock found : ℕ) (s u w : View) → found ≡ l.start → Tells tml_again (FindsAgain rule c) v clock s
+        → Tells (tml_write l.start) (FindsSole c) s found u → Tells (tml_store a x) Nothing u x w → w ≡ put_at a x clock found
     put_path a x clock found s u w same r t p = p.2 ∙ ap (λ (y : View). view_after (tml_store a x) p.0 y x) (tried_path clock found s u true (grind (arith, nat_tests)) r t)
 
     clean_rises : l.wrote ≡ false → v.steps.rises ≡ v.steps.rises_at_begin
@@ -325,7 +405,9 @@ module _ (good : List ℕ → Type 0) (c : Config) (n : ℕ) where
     keeps-tml : (m : Local) (y : View) → m.algorithm ≡ l.algorithm → m.granted ≡ l.granted → l.granted ≡ false → IsTml c m y → Rules.Keeps c m.algorithm m.granted m y
     keeps-tml m y alg granted plain q = subst (λ (a : Alg). Rules.Keeps c a m.granted m y) (sym (alg ∙ (sym i.named ∙ tml))) (subst (λ (b : Bool). Rules.Keeps c Tml b m y) (sym (granted ∙ plain)) q)
 
-    pub stays-written : (a x clock found : ℕ) (s u w : View) → a < c.words → l.granted ≡ false → l.wrote ≡ false → l.start < CLOCK_LIMIT → found ≡ l.start → Tells tml_again (FindsAgain rule c) v clock s → Tells (tml_write l.start) (FindsSole c) s found u → Tells (tml_store a x) Nothing u x w
+    pub stays-written : (a x clock found : ℕ) (s u w : View) → a < c.words → l.granted ≡ false → l.wrote ≡ false → l.start < CLOCK_LIMIT
+        → found ≡ l.start → Tells tml_again (FindsAgain rule c) v clock s → Tells (tml_write l.start) (FindsSole c) s found u
+        → Tells (tml_store a x) Nothing u x w
         → IsInside good c n (record l { wrote = true }) w
     stays-written a x clock found s u w low plain clean under same r t p = subst (λ (y : View). IsInside good c n m y) (sym (put_path a x clock found s u w same r t p)) (record {
       phase = i.phase;
@@ -368,7 +450,9 @@ module _ (good : List ℕ → Type 0) (c : Config) (n : ℕ) where
         y : View
         y = put_at a x clock found
 
-    pub tells-first : (a x clock found : ℕ) (s u w : View) → l.wrote ≡ false → found ≡ l.start → Tells tml_again (FindsAgain rule c) v clock s → Tells (tml_write l.start) (FindsSole c) s found u → Tells (tml_store a x) Nothing u x w
+    pub tells-first : (a x clock found : ℕ) (s u w : View) → l.wrote ≡ false → found ≡ l.start
+        → Tells tml_again (FindsAgain rule c) v clock s → Tells (tml_write l.start) (FindsSole c) s found u
+        → Tells (tml_store a x) Nothing u x w
         → HasWritten good c n a x writes.Done (known_of v o) (known_of w o)
     tells-first a x clock found s u w clean same r t p = subst (λ (y : View). HasWritten good c n a x writes.Done (known_of v o) (known_of y o)) (sym (put_path a x clock found s u w same r t p)) (
       record {
@@ -403,7 +487,8 @@ module _ (good : List ℕ → Type 0) (c : Config) (n : ℕ) where
         y : View
         y = put_at a x clock found
 
-    pub put_holds : (a x clock found : ℕ) (s u w : View) → found ≡ l.start → Tells tml_again (FindsAgain rule c) v clock s → Tells (tml_write l.start) (FindsSole c) s found u → Tells (tml_store a x) Nothing u x w → w.gate.holds ≡ v.gate.holds
+    pub put_holds : (a x clock found : ℕ) (s u w : View) → found ≡ l.start → Tells tml_again (FindsAgain rule c) v clock s
+        → Tells (tml_write l.start) (FindsSole c) s found u → Tells (tml_store a x) Nothing u x w → w.gate.holds ≡ v.gate.holds
     put_holds a x clock found s u w same r t p = ap (λ (y : View). y.gate.holds) (put_path a x clock found s u w same r t p)
 
     -- a writer stores in place
@@ -426,12 +511,19 @@ module _ (good : List ℕ → Type 0) (c : Config) (n : ℕ) where
     unwritten clean = ap (λ (ws : List (ℕ × ℕ)). not (is_empty ws)) (written-here v ∙ ap items (k.clean clean))
 
     pub tells-read_only : (w : View) → l.wrote ≡ false → w ≡ left n v → Commits good c n (ReadOnly l.start) (known_of v o) (known_of w o)
-    tells-read_only w clean is = subst (λ (y : View). Commits good c n (ReadOnly l.start) (known_of v o) (known_of y o)) (sym is)
-        (ended-left n good c l.start v v o (unmade-refl v k.unlocked (k.writer ∙ clean)) (sym i.start) (opaque-inside good c n l v o i), (let r = clean_rises clean in omega arith, let r = clean_rises clean in omega arith), unwritten clean)
+    tells-read_only w clean is = subst (λ (y : View). Commits good c n (ReadOnly l.start) (known_of v o) (known_of y o)) (sym is) (
+      ended-left n good c l.start v v o (unmade-refl v k.unlocked (k.writer ∙ clean)) (sym i.start) (opaque-inside good c n l v o i),
+      (let r = clean_rises clean in omega arith, let r = clean_rises clean in omega arith),
+      unwritten clean,
+    )
 
     pub tells-cancelled : (w : View) → l.wrote ≡ false → w ≡ left n v → Cancels good c n (Cancelled l.start) (known_of v o) (known_of w o)
-    tells-cancelled w clean is = subst (λ (y : View). Cancels good c n (Cancelled l.start) (known_of v o) (known_of y o)) (sym is)
-        (ended-left n good c l.start v v o (unmade-refl v k.unlocked (k.writer ∙ clean)) (sym i.start) (opaque-inside good c n l v o i), (let r = clean_rises clean in omega arith), (let r = clean_rises clean in omega arith), revocable clean)
+    tells-cancelled w clean is = subst (λ (y : View). Cancels good c n (Cancelled l.start) (known_of v o) (known_of y o)) (sym is) (
+      ended-left n good c l.start v v o (unmade-refl v k.unlocked (k.writer ∙ clean)) (sym i.start) (opaque-inside good c n l v o i),
+      (let r = clean_rises clean in omega arith),
+      (let r = clean_rises clean in omega arith),
+      revocable clean,
+    )
 
     pub may-commit : (t : ℕ) → t ≡ l.start + 2 → l.wrote ≡ true → KeepsRule good c n (known_of v o) → CanTmlCommit rule t v
     may-commit t time dirty keeps = record {
@@ -451,12 +543,18 @@ module _ (good : List ℕ → Type 0) (c : Config) (n : ℕ) where
         (commits-left n good c t a.0 v (view_after (tml_commit n t) a.0 v t) o a.1 (record {
           carried = record { named = refl; base = refl; installs = refl; fence = refl; step_trace = (_ ∷ [], refl); unlocked = k.unlocked; unwritten = refl };
           history = refl;
-          rises = (let r : v.steps.rises ≡ v.steps.rises_at_begin + 1 = k.rises ∙ ap (λ (b : Bool). v.steps.rises_at_begin + (if b then 1 else 0)) dirty in let e : entry_rise v.gate.algorithm ≡ 2 = ap entry_rise tml in omega arith);
+          rises =
+              (let r : v.steps.rises ≡ v.steps.rises_at_begin + 1 =
+              k.rises ∙ ap (λ (b : Bool). v.steps.rises_at_begin + (if b then 1 else 0)) dirty in
+              let e : entry_rise v.gate.algorithm ≡ 2 = ap entry_rise tml in omega arith);
         }) (let q = i.start in omega arith) (let q = i.front in omega arith) (k.dirty dirty) (written-here v))
 
     -- a writer is irrevocable
     pub irrevocable-writer : l.wrote ≡ true → is_irrevocable (known_of v o) ≡ true
-    irrevocable-writer dirty = ap (λ (a : Alg). irrevocable_under a (granted_under a v.gate v.lock) (not (is_empty (written_under a v.gate.granted v o)))) tml ∙ (ap (λ (b : Bool). irrevocable_under Tml b (not (is_empty (items v.attempt.stores)))) k.ungranted ∙ ap not (wrote-some v.attempt.stores (k.dirty dirty)))
+    irrevocable-writer dirty =
+        ap (λ (a : Alg). irrevocable_under a (granted_under a v.gate v.lock) (not (is_empty (written_under a v.gate.granted v o)))) tml
+        ∙ (ap (λ (b : Bool). irrevocable_under Tml b (not (is_empty (items v.attempt.stores)))) k.ungranted
+        ∙ ap not (wrote-some v.attempt.stores (k.dirty dirty)))
 
     -- the grant, by whether the clock allows it
     abbrev granted_view : ℕ → Bool → View
@@ -482,7 +580,10 @@ module _ (good : List ℕ → Type 0) (c : Config) (n : ℕ) where
     moved_no clock apart = ap (λ (b : Bool). if b then ltb clock CLOCK_LIMIT else false) (let q = i.start in let e : (clock == v.attempt.start) ≡ false = grind (arith, nat_tests) in e)
 
     still_yes : (clock : ℕ) → clock ≡ l.start → clock < CLOCK_LIMIT → tml_grants clock v ≡ true
-    still_yes clock same under = ap (λ (b : Bool). if b then ltb clock CLOCK_LIMIT else false) (let q = i.start in let e : (clock == v.attempt.start) ≡ true = grind (arith, nat_tests) in e) ∙ (let e : ltb clock CLOCK_LIMIT ≡ true = grind (arith, nat_tests) in e)
+    still_yes clock same under =
+        ap (λ (b : Bool). if b then ltb clock CLOCK_LIMIT else false)
+        (let q = i.start in let e : (clock == v.attempt.start) ≡ true = grind (arith, nat_tests) in e)
+        ∙ (let e : ltb clock CLOCK_LIMIT ≡ true = grind (arith, nat_tests) in e)
 
     pub may-leave-alone : (clock : ℕ) (w : View) → l.wrote ≡ false → tml_grants clock v ≡ false → Tells tml_grant (FindsSole c) v clock w → CanLeave w
     may-leave-alone clock w clean stays t = subst CanLeave (sym (grant_path clock w false stays t)) (may-leave (granted_view clock false) clean refl refl refl refl refl refl refl)
@@ -503,17 +604,22 @@ module _ (good : List ℕ → Type 0) (c : Config) (n : ℕ) where
         y : View
         y = granted_view clock false
 
-    pub grants-moved : (clock : ℕ) (u w : View) → n < c.callers → l.wrote ≡ false → clock ≢ l.start → Tells tml_grant (FindsSole c) v clock u → w ≡ left n u → Grants good c n (irrevs.Conflict (causes.Clock l.start clock)) (known_of v o) (known_of w o)
-    grants-moved clock u w low clean apart t is = subst (λ (y : View). Grants good c n (irrevs.Conflict (causes.Clock l.start clock)) (known_of v o) (known_of y o)) (sym (is ∙ ap (left n) (grant_path clock u false (moved_no clock apart) t))) (
-      quits-here y clean (record { carried = record { named = refl; base = refl; installs = refl; fence = refl; step_trace = (_ ∷ [], refl); unlocked = k.unlocked; unwritten = k.writer ∙ clean }; history = refl }) refl,
-      (tml, sym i.start, (λ e. apart (sym e)), found-left n Clock clock v y o o (_ ∷ [], refl, Load, (0, omega arith, refl))),
-      others clock low clean apart t.1,
-    )
+    pub grants-moved : (clock : ℕ) (u w : View) → n < c.callers → l.wrote ≡ false → clock ≢ l.start
+        → Tells tml_grant (FindsSole c) v clock u → w ≡ left n u
+        → Grants good c n (irrevs.Conflict (causes.Clock l.start clock)) (known_of v o) (known_of w o)
+    grants-moved clock u w low clean apart t is = subst
+        (λ (y : View). Grants good c n (irrevs.Conflict (causes.Clock l.start clock)) (known_of v o) (known_of y o))
+        (sym (is ∙ ap (left n) (grant_path clock u false (moved_no clock apart) t))) (
+          quits-here y clean (record { carried = record { named = refl; base = refl; installs = refl; fence = refl; step_trace = (_ ∷ [], refl); unlocked = k.unlocked; unwritten = k.writer ∙ clean }; history = refl }) refl,
+          (tml, sym i.start, (λ e. apart (sym e)), found-left n Clock clock v y o o (_ ∷ [], refl, Load, (0, omega arith, refl))),
+          others clock low clean apart t.1,
+        )
       where
         y : View
         y = granted_view clock false
 
-    pub grants-so : (clock : ℕ) (w : View) → l.wrote ≡ false → clock ≡ l.start → clock < CLOCK_LIMIT → IsAlone c.callers n v → Tells tml_grant (FindsSole c) v clock w → Grants good c n irrevs.Granted (known_of v o) (known_of w o)
+    pub grants-so : (clock : ℕ) (w : View) → l.wrote ≡ false → clock ≡ l.start → clock < CLOCK_LIMIT → IsAlone c.callers n v
+        → Tells tml_grant (FindsSole c) v clock w → Grants good c n irrevs.Granted (known_of v o) (known_of w o)
     grants-so clock w clean same under a t = subst (λ (y : View). TriesIrrevocable good c n (known_of v o) (known_of y o)) (sym (grant_path clock w true (still_yes clock same under) t)) (record {
       continues = record {
         running = ap is_in i.phase;
@@ -584,7 +690,8 @@ module _ (good : List ℕ → Type 0) (c : Config) (n : ℕ) where
   pub irrevocable-granted : (l : Local) (v : View) (o : Own) → IsInside good c n l v → v.gate.algorithm ≡ Tml → l.granted ≡ true → is_irrevocable (known_of v o) ≡ true
   irrevocable-granted l v o i tml granted =
       let here : v.gate.granted ≡ true = i.granted ∙ (λ j. closes_gate ((sym i.named ∙ tml) j) && granted j) in
-      ap (λ (a : Alg). irrevocable_under a (granted_under a v.gate v.lock) (not (is_empty (written_under a v.gate.granted v o)))) tml ∙ ap (λ (b : Bool). irrevocable_under Tml b (not (is_empty (items v.attempt.stores)))) here
+      ap (λ (a : Alg). irrevocable_under a (granted_under a v.gate v.lock) (not (is_empty (written_under a v.gate.granted v o)))) tml
+      ∙ ap (λ (b : Bool). irrevocable_under Tml b (not (is_empty (items v.attempt.stores)))) here
 
 module _ (good : List ℕ → Type 0) (c : Config) (n : ℕ) (v : View) (can : CanBegin Tml v) where
   abbrev begun_at : World → ℕ → Bool → View
@@ -602,7 +709,23 @@ module _ (good : List ℕ → Type 0) (c : Config) (n : ℕ) (v : View) (can : C
   pub tells-held : (clock : ℕ) (w : View) → clock % 2 ≡ 1 → Tells tml_begin (FindsBegin (of_words good c.words) c) v clock w → Starts.Refuses good c n Tml (begins.Held clock) v w
   tells-held clock w odd t = subst (λ (y : View). Starts.Refuses good c n Tml (begins.Held clock) v y) (sym (begun_path clock w false (grind (arith, nat_tests)) t)) (
     record {
-      can = record { phase = can.phase; named = can.named; reopened = can.reopened; ungranted = can.ungranted; clear = record { unlocked = can.clear.unlocked; disowned = can.clear.disowned; unwritten = can.clear.unwritten; uncommitted = can.clear.uncommitted; unentered = can.clear.unentered; unfixed = can.clear.unfixed }; unentered = can.unentered; rises = can.rises };
+      can =
+          record {
+            phase = can.phase;
+            named = can.named;
+            reopened = can.reopened;
+            ungranted = can.ungranted;
+            clear = record {
+              unlocked = can.clear.unlocked;
+              disowned = can.clear.disowned;
+              unwritten = can.clear.unwritten;
+              uncommitted = can.clear.uncommitted;
+              unentered = can.clear.unentered;
+              unfixed = can.clear.unfixed;
+            };
+            unentered = can.unentered;
+            rises = can.rises;
+          };
       keeps = λ o. record { made = refl; grows = grows-same (known_of v o) (known_of y o) refl refl (_ ∷ []) refl refl refl refl; rises = refl; installs = refl };
     },
     omega arith,
@@ -653,7 +776,25 @@ module _ (good : List ℕ → Type 0) (c : Config) (n : ℕ) (v : View) (can : C
     fence = refl;
     rises = can.rises;
     starts = λ o fresh. record {
-      keeps = record { made = refl; grows = (let q = later-seen t.0.history v.history.front clock b.below b.front in record { later = q.0; is = subst (λ (h : List Entry). public_history t.0.history ≡ public_history h ++ q.0) (sym b.seen) q.1; ascending = q.2; up_to = q.3; front_rose = b.front; more = record { place = Clock; act = Load; found = Some clock } ∷ []; step_trace = refl; reads_limit = refl; writes_limit = refl; fenced = refl }); rises = refl; installs = refl };
+      keeps =
+          record {
+            made = refl;
+            grows = (let q = later-seen t.0.history v.history.front clock b.below b.front in
+                record {
+                  later = q.0;
+                  is = subst (λ (h : List Entry). public_history t.0.history ≡ public_history h ++ q.0) (sym b.seen) q.1;
+                  ascending = q.2;
+                  up_to = q.3;
+                  front_rose = b.front;
+                  more = record { place = Clock; act = Load; found = Some clock } ∷ [];
+                  step_trace = refl;
+                  reads_limit = refl;
+                  writes_limit = refl;
+                  fenced = refl;
+                });
+            rises = refl;
+            installs = refl;
+          };
       found = (_ ∷ [], refl, Load, (0, omega arith, refl));
       is = refl;
       fresh = b.front;

@@ -1,7 +1,7 @@
 -- What a call of TML knows of its attempt.
 use Rattle.std.proofs.Common.{ℕ, ◌≡◌, List, true, false, sym, ap, ◌∙◌}
-use Rattle.std.specs.Prelude.{not, ◌||◌}
-use Rattle.stm_model.specs.Algorithms.{asks_at_commit}
+use Rattle.std.specs.Prelude.{not, ◌||◌, ◌&&◌}
+use Rattle.stm_model.specs.Algorithms.{asks_at_commit, closes_gate}
 use Rattle.stm_model.specs.declared.alg.Alg.{Alg}
 use Rattle.stm_model.specs.declared.alg.Alg.TheVariants.{Tml}
 use Rattle.stm_model.specs.declared.config.Config.{Config}
@@ -12,7 +12,7 @@ use Rattle.stm_rule.specs.declared.stm.Stm.{Stm}
 use Rattle.stm_rule.specs.Attempts.{IsInside, own_of}
 use Rattle.stm_rule.specs.Callers.{Handle}
 use Rattle.stm_rule.specs.StandLemmas.{inside-of}
-use Rattle.tx_answers.specs.CallerState.{CallerState, is_irrevocable}
+use Rattle.tx_answers.specs.CallerState.{CallerState, granted_under, is_irrevocable}
 use Rattle.stm_gate.specs.Knowing.{known}
 use Rattle.stm_gate.specs.Opening.{Opened}
 use Rattle.stm_gate.specs.PromotingLaws.{revocable-tml}
@@ -26,7 +26,8 @@ pub record Revocable (good : List ℕ → Type 0) (c : Config) (n : ℕ) (l : Lo
   pub plain : l.granted ≡ false
   pub clean : l.wrote ≡ false
 
-module _ {K : Type 0} (good : K → List ℕ → Type 0) (stm : Stm K) {e : Handle K} {who : Who K} {v : View} {n : ℕ} {l : Local} (a : Opened good stm e who v n l) (runs : (known e).running ≡ true) (tml : (known e).alg ≡ Tml) where
+module _ {K : Type 0} (good : K → List ℕ → Type 0) (stm : Stm K) {e : Handle K} {who : Who K} {v : View} {n : ℕ} {l : Local}
+    (a : Opened good stm e who v n l) (runs : (known e).running ≡ true) (tml : (known e).alg ≡ Tml) where
   pub inside : IsInside (good stm.rule) stm.config n l v
   inside = inside-of (good stm.rule) stm.config n l v (in-of v.gate.phase (ap (λ (k : CallerState). k.running) (sym a.knows) ∙ runs)) a.stands
 
@@ -41,6 +42,9 @@ module _ {K : Type 0} (good : K → List ℕ → Type 0) (stm : Stm K) {e : Hand
     named = named;
     keeps = tml-of (good stm.rule) stm.config n l v inside named ungranted;
   }
+
+  pub plain-of : (known e).granted ≡ false → InTml (good stm.rule) stm.config n l v (own_of l)
+  plain-of h = plain ((λ j. closes_gate ((sym named ∙ inside.named) j) && l.granted) ∙ (sym inside.granted ∙ ((λ j. granted_under (sym named j) v.gate v.lock) ∙ (ap (λ (k : CallerState). k.granted) (sym a.knows) ∙ h))))
 
   -- it can be cancelled
   pub revocable : is_irrevocable (known e) ≡ false → Revocable (good stm.rule) stm.config n l v

@@ -19,14 +19,17 @@ abbrev pub taken : View → List Cell → List TracedStep → View
 taken v stores more = record v { attempt = record v.attempt { stores = stores }; steps = record v.steps { step_trace = more ++ v.steps.step_trace } }
 
 -- a store more is covered where its address is
-pub covers-more : (a x : ℕ) (stores undo : List Cell) → ((b : ℕ) → touches stores b ≡ true → touches undo b ≡ true) → touches undo a ≡ true → (b : ℕ) → touches (record { at = a; value = x } ∷ stores) b ≡ true → touches undo b ≡ true
+pub covers-more : (a x : ℕ) (stores undo : List Cell) → ((b : ℕ) → touches stores b ≡ true → touches undo b ≡ true) → touches undo a ≡ true
+    → (b : ℕ) → touches (record { at = a; value = x } ∷ stores) b ≡ true → touches undo b ≡ true
 covers-more a x stores undo h there b t = by (a == b) refl t
   where
     by : (q : Bool) → (a == b) ≡ q → (if q then true else touches stores b) ≡ true → touches undo b ≡ true
     by true e f = subst (λ (k : ℕ). touches undo k ≡ true) (let is : a ≡ b = grind (arith, nat_tests) in is) there
     by false e f = h b f
 
-pub taken-step : {K : Type 0} → (first s t : SeatView K) (more : List TracedStep) (a x : ℕ) (m : World) → s ≡ record first { view = taken first.view s.view.attempt.stores more } → t ≡ record s { view = view_after (store_back a x) m s.view x }
+pub taken-step : {K : Type 0} → (first s t : SeatView K) (more : List TracedStep) (a x : ℕ) (m : World)
+    → s ≡ record first { view = taken first.view s.view.attempt.stores more }
+    → t ≡ record s { view = view_after (store_back a x) m s.view x }
     → t ≡ record first { view = taken first.view t.view.attempt.stores (record { place = Heap a; act = Store x; found = None } ∷ more) }
 taken-step {K} first s t more a x m e p = p ∙ (ap (λ (y : SeatView K). record y { view = view_after (store_back a x) m y.view x }) e
     ∙ (λ i. record first { view = taken first.view (sym stores i) (record { place = Heap a; act = Store x; found = None } ∷ more) }))
@@ -34,7 +37,9 @@ taken-step {K} first s t more a x m e p = p ∙ (ap (λ (y : SeatView K). record
     stores : t.view.attempt.stores ≡ without s.view.attempt.stores a
     stores = ap (λ (y : SeatView K). y.view.attempt.stores) p
 
-pub stored-step : {K : Type 0} → (first s t : SeatView K) (more : List TracedStep) (a x : ℕ) (m : World) → s ≡ record first { view = taken first.view s.view.attempt.stores more } → t ≡ record s { view = view_after (store_heap a x) m s.view x }
+pub stored-step : {K : Type 0} → (first s t : SeatView K) (more : List TracedStep) (a x : ℕ) (m : World)
+    → s ≡ record first { view = taken first.view s.view.attempt.stores more }
+    → t ≡ record s { view = view_after (store_heap a x) m s.view x }
     → t ≡ record first { view = taken first.view t.view.attempt.stores (record { place = Heap a; act = Store x; found = None } ∷ more) }
 stored-step {K} first s t more a x m e p = p ∙ (ap (λ (y : SeatView K). record y { view = view_after (store_heap a x) m y.view x }) e
     ∙ (λ i. record first { view = taken first.view (sym stores i) (record { place = Heap a; act = Store x; found = None } ∷ more) }))

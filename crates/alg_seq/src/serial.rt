@@ -128,15 +128,18 @@ fn keep_old<K: MemRule>(
 ) -> Result<(), Write>
     requires seat { IsSeatOf stm.now caller seat.old }
     requires caller { caller < stm.now.config.callers }
-    requires attempt { IsInside (K.good stm.now.rule) stm.now.config caller local.old (view_of seat.old) }
+    requires attempt { IsInside (K.good stm.now.rule) stm.now.config caller local.old
+        (view_of seat.old) }
     requires serial { local.old.algorithm ≡ Alg.Serial }
     requires lengths { local.old.writes.len ≡ local.old.undo.len }
     requires free { (local.old.holds ≡ false) × ((view_of seat.old).gate.holds ≡ false) }
     requires inside { a < stm.now.config.words }
     requires spared { fenced (view_of seat.old).gate.fence a ≡ false }
     ensures same { MovesView seat.old seat.new }
-    ensures keeps { KeepsOld (K.good stm.now.rule) stm.now.config caller a x result local.old (view_of seat.old) local.new (view_of seat.new) }
-    ensures steps { MatchResult result (λ _. TakesAtMost 2 (view_of seat.old) (view_of seat.new)) (λ _. TakesAtMost (4 + local.old.undo.len) (view_of seat.old) (view_of seat.new)) }
+    ensures keeps { KeepsOld (K.good stm.now.rule) stm.now.config caller a x result local.old
+        (view_of seat.old) local.new (view_of seat.new) }
+    ensures steps { MatchResult result (λ _. TakesAtMost 2 (view_of seat.old) (view_of seat.new))
+        (λ _. TakesAtMost (4 + local.old.undo.len) (view_of seat.old) (view_of seat.new)) }
 {
     if local.granted {
         return Ok(());
@@ -171,7 +174,8 @@ fn below_limit<K: MemRule>(
     caller: usize,
 ) -> Result<(), u64>
     requires seat { IsSeatOf stm.now caller seat.old }
-    requires attempt { IsInside (K.good stm.now.rule) stm.now.config caller local.now (view_of seat.old) }
+    requires attempt { IsInside (K.good stm.now.rule) stm.now.config caller local.now
+        (view_of seat.old) }
     requires serial { local.now.algorithm ≡ Alg.Serial }
     ensures same { MovesView seat.old seat.new }
     ensures below { HasClock result local.now (view_of seat.old) (view_of seat.new) }
@@ -199,14 +203,16 @@ fn log_old<K: MemRule>(
     x: u64,
 )
     requires seat { IsSeatOf stm.now caller seat.old }
-    requires attempt { IsInside (K.good stm.now.rule) stm.now.config caller local.old (view_of seat.old) }
+    requires attempt { IsInside (K.good stm.now.rule) stm.now.config caller local.old
+        (view_of seat.old) }
     requires serial { (local.old.algorithm ≡ Alg.Serial) × (local.old.granted ≡ false) }
     requires lengths { local.old.writes.len ≡ local.old.undo.len }
     requires place { HasPlace true a local.old.undo }
     requires inside { a < stm.now.config.words }
     requires spared { fenced (view_of seat.old).gate.fence a ≡ false }
     ensures same { MovesView seat.old seat.new }
-    ensures logs { HasLogged stm.now.config.words a x local.old (view_of seat.old) local.new (view_of seat.new) }
+    ensures logs { HasLogged stm.now.config.words a x local.old (view_of seat.old) local.new
+        (view_of seat.new) }
     ensures steps { TakesAtMost 1 (view_of seat.old) (view_of seat.new) }
 {
     let count = local.writes.count();
@@ -223,7 +229,8 @@ fn log_old<K: MemRule>(
 fn abort<K: MemRule>(seat: &mut Token<K>, local: &mut Local, stm: &Stm<K>, caller: usize)
     requires seat { IsSeatOf stm.now caller seat.old }
     requires caller { caller < stm.now.config.callers }
-    requires attempt { IsInside (K.good stm.now.rule) stm.now.config caller local.old (view_of seat.old) }
+    requires attempt { IsInside (K.good stm.now.rule) stm.now.config caller local.old
+        (view_of seat.old) }
     requires serial { (local.old.algorithm ≡ Alg.Serial) × (local.old.granted ≡ false) }
     requires free { (local.old.holds ≡ false) × ((view_of seat.old).gate.holds ≡ false) }
     ensures same { MovesView seat.old seat.new }

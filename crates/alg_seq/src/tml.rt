@@ -18,7 +18,7 @@ ghost use Rattle.stm_gate.specs.Granting.{IsAlone, Grants};
 ghost use Rattle.stm_gate.specs.Leaving.{CanLeave, left};
 
 use alg_calls::algorithm::Algorithm;
-use stm_gate::direct::{direct_commit, direct_load, direct_store};
+use stm_gate::direct::direct_commit;
 use stm_gate::leave::leave;
 use stm_gate::promote::{Promotion, promote};
 use stm_model::alg::Alg;
@@ -51,9 +51,6 @@ impl Algorithm for Tml {
     /// ends the attempt. Two steps, four at most.
     #[inline(always)]
     fn read<K: MemRule>(desc: &mut Desc<K>, stm: &Stm<K>, a: usize) -> Read {
-        if desc.local.granted {
-            return direct_load(desc, stm, a);
-        }
         let x = stm.tml_load(&mut desc.seat, desc.number, a);
         if desc.local.wrote {
             return Read::Value(x);
@@ -74,9 +71,6 @@ impl Algorithm for Tml {
     /// where that ends the attempt.
     #[inline(always)]
     fn write<K: MemRule>(desc: &mut Desc<K>, stm: &Stm<K>, a: usize, x: u64) -> Write {
-        if desc.local.granted {
-            return direct_store(desc, stm, a, x);
-        }
         if !desc.local.wrote {
             return first_write(desc, stm, a, x);
         }
@@ -159,7 +153,8 @@ fn first_write<K: MemRule>(desc: &mut Desc<K>, stm: &Stm<K>, a: usize, x: u64) -
     requires inside { a < stm.now.config.words }
     requires spared { fenced (known desc.old).fence a ≡ false }
     ensures same { IsSameCaller desc.old desc.new }
-    ensures write { HasWritten (K.good stm.now.rule) stm.now.config (number desc.old) a x result (known desc.old) (known desc.new) }
+    ensures write { HasWritten (K.good stm.now.rule) stm.now.config (number desc.old) a x result
+        (known desc.old) (known desc.new) }
     ensures steps { AddsAtMost 4 (known desc.old) (known desc.new) }
 {
     let caller = desc.number;
@@ -216,7 +211,8 @@ fn grant<K: MemRule>(desc: &mut Desc<K>, stm: &Stm<K>) -> Irrev
     requires revocable { is_irrevocable (known desc.old) ≡ false }
     requires alone { IsAlone stm.now.config.callers (number desc.old) desc.old.view }
     ensures same { IsSameCaller desc.old desc.new }
-    ensures grants { Grants (K.good stm.now.rule) stm.now.config (number desc.old) result (known desc.old) (known desc.new) }
+    ensures grants { Grants (K.good stm.now.rule) stm.now.config (number desc.old) result
+        (known desc.old) (known desc.new) }
     ensures steps { AddsAtMost 3 (known desc.old) (known desc.new) }
 {
     let caller = desc.number;

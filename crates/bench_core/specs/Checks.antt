@@ -10,8 +10,4 @@ abbrev pub SaidOfCheck : List ℕ → Status → List ℕ → Type 0
 SaidOfCheck text Done said = IsYes text × (said ≡ yes_line)
 SaidOfCheck text (No line) said = IsNo text line × (said ≡ no_line line)
 SaidOfCheck text (Refused line code) said = IsFaulty text line code × (said ≡ refused_line line code)
-SaidOfCheck text Usage said = ⊥
-SaidOfCheck text ReadFault said = ⊥
-SaidOfCheck text WriteFault said = ⊥
-SaidOfCheck text Memory said = ⊥
-SaidOfCheck text (ClockFull clock) said = ⊥
+SaidOfCheck text status said = ⊥

@@ -1,6 +1,7 @@
 -- THE HEADLINE, to be read aloud: what `run` at status 0 means, from the text read to the text written. `bench` promises it (`laws::run_is_right`, of its clause `IsOutcome`).
 --
--- A memory ran the text's transactions, its callers on threads of their own, across every switch of algorithm; then it was closed. What is written is as if one thread had run them one after the other: the definitions say so, and stand where their names are imported from.
+-- A memory ran the text's transactions, its callers on threads of their own, across every switch of algorithm; then it was closed. What is
+-- written is as if one thread had run them one after the other: the definitions say so, and stand where their names are imported from.
 --
 --   workload_of   the text is a workload, by the grammar                                    stm_text, Grammar.antt
 --   report_bytes  the text of a report                                                      stm_text, Reports.antt

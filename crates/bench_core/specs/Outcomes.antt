@@ -62,12 +62,7 @@ SaidAtLimit Stepwise policy w clock closed said = SteppedToLimit w clock closed 
 abbrev pub SaidOfRun : Mode → Policy → Workload → Status → Option Ended → List ℕ → Type 0
 SaidOfRun m policy w Done closed said = MatchOption closed ⊥ (λ c. SaidAtEnd m policy w c said)
 SaidOfRun m policy w (ClockFull clock) closed said = MatchOption closed ⊥ (λ c. SaidAtLimit m policy w clock c said)
-SaidOfRun m policy w (Refused line code) closed said = ⊥
-SaidOfRun m policy w Usage closed said = ⊥
-SaidOfRun m policy w ReadFault closed said = ⊥
-SaidOfRun m policy w WriteFault closed said = ⊥
-SaidOfRun m policy w Memory closed said = ⊥
-SaidOfRun m policy w (No line) closed said = ⊥
+SaidOfRun m policy w status closed said = ⊥
 
 -- the text is a workload's, and this is said of its run
 pub record WasRun (m : Mode) (policy : Policy) (text : List ℕ) (status : Status) (closed : Option Ended) (said : List ℕ) : Type 0 where
@@ -85,11 +80,7 @@ abbrev pub SaidOf : Mode → Policy → List ℕ → Status → Option Ended →
 SaidOf m policy text Done closed said = WasRun m policy text Done closed said
 SaidOf m policy text (Refused line code) closed said = IsRefused m text line code said × (closed ≡ None)
 SaidOf m policy text (ClockFull clock) closed said = WasRun m policy text (ClockFull clock) closed said
-SaidOf m policy text Usage closed said = ⊥
-SaidOf m policy text ReadFault closed said = ⊥
-SaidOf m policy text WriteFault closed said = ⊥
-SaidOf m policy text Memory closed said = ⊥
-SaidOf m policy text (No line) closed said = ⊥
+SaidOf m policy text status closed said = ⊥
 
 -- the run of the workload that is drawn went to its end, and what is said is the summary of a report that replays it and shows the closed memory's history; the number of transactions alone tells which
 pub record RanToSummary (n t seed : ℕ) (closed : Ended) (said : List ℕ) : Type 0 where
@@ -101,13 +92,7 @@ pub record RanToSummary (n t seed : ℕ) (closed : Ended) (said : List ℕ) : Ty
 -- what is said of a workload that is drawn: no fault of the text, no full clock
 abbrev pub SaidOfMade : ℕ → ℕ → ℕ → Status → Option Ended → List ℕ → Type 0
 SaidOfMade n t seed Done closed said = MatchOption closed ⊥ (λ c. RanToSummary n t seed c said)
-SaidOfMade n t seed (Refused line code) closed said = ⊥
-SaidOfMade n t seed (ClockFull clock) closed said = ⊥
-SaidOfMade n t seed Usage closed said = ⊥
-SaidOfMade n t seed ReadFault closed said = ⊥
-SaidOfMade n t seed WriteFault closed said = ⊥
-SaidOfMade n t seed Memory closed said = ⊥
-SaidOfMade n t seed (No line) closed said = ⊥
+SaidOfMade n t seed status closed said = ⊥
 
 -- what is left behind: the closed memory of this call's run, or what was there
 abbrev pub kept : Option Ended → Option Ended → Option Ended
@@ -147,10 +132,7 @@ module _ {S : Type 0} (left : S → Option (List ℕ)) (faults : S → ℕ) (sou
   SaysRead m policy (Refused line code) closed said = HasRead most_read (λ text. SaidOf m policy text (Refused line code) closed said)
   SaysRead m policy (ClockFull clock) closed said = HasRead most_read (λ text. SaidOf m policy text (ClockFull clock) closed said)
   SaysRead m policy ReadFault closed said = Unread most_read said × (closed ≡ None)
-  SaysRead m policy Usage closed said = ⊥
-  SaysRead m policy WriteFault closed said = ⊥
-  SaysRead m policy Memory closed said = ⊥
-  SaysRead m policy (No line) closed said = ⊥
+  SaysRead m policy status closed said = ⊥
 
   -- what is to be written by `check`; no closed memory is left
   abbrev pub SaysChecked : Status → Option Ended → List ℕ → Type 0
@@ -158,10 +140,7 @@ module _ {S : Type 0} (left : S → Option (List ℕ)) (faults : S → ℕ) (sou
   SaysChecked (No line) closed said = HasRead most_checked (λ text. SaidOfCheck text (No line) said) × (closed ≡ None)
   SaysChecked (Refused line code) closed said = HasRead most_checked (λ text. SaidOfCheck text (Refused line code) said) × (closed ≡ None)
   SaysChecked ReadFault closed said = Unread most_checked said × (closed ≡ None)
-  SaysChecked Usage closed said = ⊥
-  SaysChecked WriteFault closed said = ⊥
-  SaysChecked Memory closed said = ⊥
-  SaysChecked (ClockFull clock) closed said = ⊥
+  SaysChecked status closed said = ⊥
 
   -- what is to be written by each command; `gen` reads nothing
   abbrev pub SaysFor : Command → Status → Option Ended → List ℕ → Type 0

@@ -57,7 +57,8 @@ pub fn bench<R: Threads + Wait + Sync, S: Source, K: Sink, G: Turnstile + Sync>(
     last: &mut Option<Closed>,
     why: &mut Option<String>,
 ) -> Status
-    ensures { IsOutcome S.left S.faults source.old source.new words.now K.held K.faults sink.old sink.new last.old last.new result }
+    ensures { IsOutcome S.left S.faults source.old source.new words.now K.held K.faults sink.old
+        sink.new last.old last.new result }
 {
     let Ok(saying) = saying_of_words(rt, alloc, words, source, turnstile) else {
         return Status::Memory;
@@ -89,7 +90,8 @@ fn saying_of_words<R: Threads + Wait + Sync, S: Source, G: Turnstile + Sync>(
     source: &mut S,
     turnstile: &G,
 ) -> Result<Saying, Memory>
-    ensures says { IfOk result (λ s. Says S.left S.faults source.old source.new words.now s.status s.closed s.text.items) }
+    ensures says { IfOk result (λ s.
+        Says S.left S.faults source.old source.new words.now s.status s.closed s.text.items) }
     ensures spared { OnErr result (Spared S.left S.faults source.old source.new words.now) }
 {
     words_ask_once();
@@ -122,7 +124,8 @@ fn saying_of_words<R: Threads + Wait + Sync, S: Source, G: Turnstile + Sync>(
 
 /// What is to be written of the workload and the report that the source has.
 fn saying_of_check<S: Source>(alloc: Global, source: &mut S) -> Result<Saying, Memory>
-    ensures says { IfOk result (λ s. SaysChecked S.left S.faults source.old source.new s.status s.closed s.text.items) }
+    ensures says { IfOk result (λ s.
+        SaysChecked S.left S.faults source.old source.new s.status s.closed s.text.items) }
     ensures lost { OnErr result (TookSome most_checked (S.left source.old) (S.left source.new)) }
     ensures calm { OnErr result (S.faults source.new ≡ S.faults source.old) }
 {
@@ -157,7 +160,8 @@ fn saying_of_source<R: Threads + Wait + Sync, S: Source, G: Turnstile + Sync>(
     source: &mut S,
     turnstile: &G,
 ) -> Result<Saying, Memory>
-    ensures says { IfOk result (λ s. SaysRead S.left S.faults source.old source.new mode policy s.status s.closed s.text.items) }
+    ensures says { IfOk result (λ s.
+        SaysRead S.left S.faults source.old source.new mode policy s.status s.closed s.text.items) }
     ensures lost { OnErr result (TookSome most_read (S.left source.old) (S.left source.new)) }
     ensures calm { OnErr result (S.faults source.new ≡ S.faults source.old) }
 {

@@ -73,7 +73,8 @@ pub(crate) fn trace<R: Threads + Wait + Sync>(
     workload: Workload,
 ) -> Result<Saying, Memory>
     requires { IsParsed Step workload }
-    ensures { (policy : Policy) → IfOk result (λ s. SaidOfRun Step policy workload s.status s.closed s.text.items) }
+    ensures { (policy : Policy)
+        → IfOk result (λ s. SaidOfRun Step policy workload s.status s.closed s.text.items) }
 {
     let (lines, outcome) = step_workload(rt, alloc, workload)?;
     match outcome {
@@ -110,7 +111,8 @@ pub(crate) fn summarize<R: Threads + Wait + Sync, G: Turnstile + Sync>(
 ) -> Result<Saying, Memory>
     requires transactions { transactions ≤ MOST_TRANSACTIONS }
     requires callers { (1 ≤ callers) × (callers ≤ MAX_CALLERS) }
-    ensures { IfOk result (λ s. SaidOfMade transactions callers seed s.status s.closed s.text.items) }
+    ensures { IfOk result (λ s.
+        SaidOfMade transactions callers seed s.status s.closed s.text.items) }
 {
     summary_is_counted();
     let workload = generate(alloc, transactions, callers, seed)?;

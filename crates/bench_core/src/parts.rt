@@ -73,7 +73,9 @@ impl Parts {
         policy: Policy,
     ) -> Result<Prepared<'a, Regions>, Memory>
         requires { (mode : Mode) × (w : Workload) × IsParsed mode w × AreParts w self.now }
-        ensures { IfOk result (λ p. (mode : Mode) (w : Workload) → IsParsed mode w → AreParts w self.now → IsReadyFor (AllWellFormed p.stm.rule) mode policy w p) }
+        ensures { IfOk result (λ p.
+            (mode : Mode) (w : Workload) → IsParsed mode w → AreParts w self.now
+            → IsReadyFor (AllWellFormed p.stm.rule) mode policy w p) }
     {
         regions_are_kept();
         let rule = self.header.regions(alloc)?;

@@ -88,7 +88,8 @@ fn exits<R: Threads + Wait + Sync, S: Source, K: Sink>(
     sink: &mut K,
     why: &mut Option<String>,
 ) -> (Status, ExitCode)
-    ensures { Exits S.left S.faults source.old source.new words.now K.held K.faults sink.old sink.new result.0 (exit_status result.1) }
+    ensures { Exits S.left S.faults source.old source.new words.now K.held K.faults sink.old
+        sink.new result.0 (exit_status result.1) }
 {
     let mut last = None;
     let status = bench(rt, alloc, words, source, sink, &Open, &mut last, why);

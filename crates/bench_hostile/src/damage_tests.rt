@@ -11,15 +11,24 @@ use std::thread::Threads;
 
 /// Two transactions that add, and one that reads.
 const ADDS: &str =
-    "stm 1 / words 8 / callers 1 / records 4 / ring 4 / reads 256 / writes 256 / clock 0 / alg CGL / structs off / tx 0 {add 3 1} / tx 0 {add 3 1} / tx 0 {read 3} / done";
+    "stm 1 / words 8 / callers 1 / records 4 / ring 4 / reads 256 / writes 256 / clock 0 / alg CGL / structs off / \
+     tx 0 {add 3 1} / tx 0 {add 3 1} / tx 0 {read 3} / done";
 
 /// Every kind of line.
 const EVERY: &str =
-    "stm 1 / words 1030 / callers 2 / records 4 / ring 4 / reads 16 / writes 16 / clock 5 / alg TML / structs on / tx 0 {read 1; write 1028 7; add 2 3; move 1 2 3; irrev; emit 63; cancel} / switch 1 RingSW / tx 1 {count 3 10; total; ladd 9; ldel 8; lhas 7; llen; hadd 20; hdel 4; hhas 20; tadd 6; tdel 6; thas 6; tmin} / schedule / go 0 2 / go 1 10 / done";
+    "stm 1 / words 1030 / callers 2 / records 4 / ring 4 / reads 16 / writes 16 / clock 5 / alg TML / structs on / \
+     tx 0 {read 1; write 1028 7; add 2 3; move 1 2 3; irrev; emit 63; cancel} / switch 1 RingSW / \
+     tx 1 {count 3 10; total; ladd 9; ldel 8; lhas 7; llen; hadd 20; hdel 4; hhas 20; tadd 6; tdel 6; thas 6; tmin} / \
+     schedule / go 0 2 / go 1 10 / done";
 
 /// Every kind of line of version 2.
 const EVERY_TWO: &str =
-    "stm 2 / words 1030 / callers 2 / records 4 / ring 4 / reads 16 / writes 16 / clock 5 / alg TML / regions 6 / region counter 8 2 / region list 10 4 / region hash 20 4 / region tree 50 4 / region queue 70 2 / region summap 80 4 / policy state:3 / tx 0 {read 1; write 1028 7; add 2 3; move 1 2 3; irrev; emit 7; cancel} / switch 1 RingSW / reserve 1 20 30 / tx 1 {count 0 1 10; total 0; ladd 1 9; ldel 1 8; lhas 1 7; llen 1; hadd 2 20; hdel 2 4; hhas 2 20; tadd 3 6; tdel 3 6; thas 3 6; tmin 3; qput 4 5; qget 4; mput 5 6 7; mdel 5 6; mget 5 6; msum 5 0 9} / schedule / go 0 2 / go 1 10 / done";
+    "stm 2 / words 1030 / callers 2 / records 4 / ring 4 / reads 16 / writes 16 / clock 5 / alg TML / regions 6 / \
+     region counter 8 2 / region list 10 4 / region hash 20 4 / region tree 50 4 / region queue 70 2 / \
+     region summap 80 4 / policy state:3 / \
+     tx 0 {read 1; write 1028 7; add 2 3; move 1 2 3; irrev; emit 7; cancel} / switch 1 RingSW / reserve 1 20 30 / \
+     tx 1 {count 0 1 10; total 0; ladd 1 9; ldel 1 8; lhas 1 7; llen 1; hadd 2 20; hdel 2 4; hhas 2 20; tadd 3 6; tdel 3 6; thas 3 6; tmin 3; qput 4 5; qget 4; mput 5 6 7; mdel 5 6; mget 5 6; msum 5 0 9} / \
+     schedule / go 0 2 / go 1 10 / done";
 
 /// The bytes that take another's place.
 const WRONG: [u8; 8] = [0, 9, 10, 32, 127, 255, b'0', b'x'];

@@ -34,7 +34,8 @@ const TABLE: [Told<'static>; 8] = [
         &[],
         4096,
         Some(
-            "line 12, `ad 3 1`: its first word isn't allowed here; here stands an operation of the transaction or its end: `read A`, `write A V`, `add A V`, `move A B V`, `irrev`, `emit A`, `cancel`, `end`",
+            "line 12, `ad 3 1`: its first word isn't allowed here; here stands an operation of the transaction or \
+             its end: `read A`, `write A V`, `add A V`, `move A B V`, `irrev`, `emit A`, `cancel`, `end`",
         ),
     ),
     (
@@ -83,7 +84,9 @@ const TABLE: [Told<'static>; 8] = [
         &[],
         4096,
         Some(
-            "in the report, after the workload's 14 lines: line 2, `W 1 0 0 1`: the line isn't in its form; here stands a row, `K PLACE CALLER SEQ : REPLIES` with K one of W, R, C, and after it ` ! EMITS` where there are emits; or `mem ADDRESS VALUE`, or `end`",
+            "in the report, after the workload's 14 lines: line 2, `W 1 0 0 1`: the line isn't in its form; here \
+             stands a row, `K PLACE CALLER SEQ : REPLIES` with K one of W, R, C, and after it ` ! EMITS` where \
+             there are emits; or `mem ADDRESS VALUE`, or `end`",
         ),
     ),
     (

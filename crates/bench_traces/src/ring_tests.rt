@@ -9,55 +9,71 @@ const RING_TRACES: &[Case] = &[
     (
         "alg RingSW / callers 2 / words 128",
         "tx 0 {read 1; read 2} / tx 1 {write 65 9} / schedule / go 0 2 / go 1 3 / go 0 2",
-        "0 begin RingSW / 0 read 0 / 1 begin RingSW / 1 write 9 / 1 commit committed 1 / 0 read 0 / 0 commit readonly 1 / finish / report 1 / W 1 1 0 : 9 / R 1 0 0 : 0 0 / mem 65 9 / end",
+        "0 begin RingSW / 0 read 0 / 1 begin RingSW / 1 write 9 / 1 commit committed 1 / 0 read 0 / \
+         0 commit readonly 1 / finish / report 1 / W 1 1 0 : 9 / R 1 0 0 : 0 0 / mem 65 9 / end",
     ),
     // a word that was read before is written
     (
         "alg RingSW / callers 2 / words 128",
         "tx 0 {read 1; read 2} / tx 1 {write 1 9} / schedule / go 0 2 / go 1 3 / go 0 2",
-        "0 begin RingSW / 0 read 0 / 1 begin RingSW / 1 write 9 / 1 commit committed 1 / 0 read conflict filter 1 2 / 0 begin RingSW / finish / 0 drop / 0 begin RingSW / 0 read 9 / 0 read 0 / 0 commit readonly 1 / report 1 / W 1 1 0 : 9 / R 1 0 0 : 9 0 / mem 1 9 / end",
+        "0 begin RingSW / 0 read 0 / 1 begin RingSW / 1 write 9 / 1 commit committed 1 / \
+         0 read conflict filter 1 2 / 0 begin RingSW / finish / 0 drop / 0 begin RingSW / 0 read 9 / 0 read 0 / \
+         0 commit readonly 1 / report 1 / W 1 1 0 : 9 / R 1 0 0 : 9 0 / mem 1 9 / end",
     ),
     // the lowest word of the filters that has a common bit isn't the first
     (
         "alg RingSW / callers 2 / words 256",
         "tx 0 {read 200; read 2} / tx 1 {write 200 9} / schedule / go 0 2 / go 1 3 / go 0 2",
-        "0 begin RingSW / 0 read 0 / 1 begin RingSW / 1 write 9 / 1 commit committed 1 / 0 read conflict filter 1 256 / 0 begin RingSW / finish / 0 drop / 0 begin RingSW / 0 read 9 / 0 read 0 / 0 commit readonly 1 / report 1 / W 1 1 0 : 9 / R 1 0 0 : 9 0 / mem 200 9 / end",
+        "0 begin RingSW / 0 read 0 / 1 begin RingSW / 1 write 9 / 1 commit committed 1 / \
+         0 read conflict filter 1 256 / 0 begin RingSW / finish / 0 drop / 0 begin RingSW / 0 read 9 / 0 read 0 / \
+         0 commit readonly 1 / report 1 / W 1 1 0 : 9 / R 1 0 0 : 9 0 / mem 200 9 / end",
     ),
     // the word that is asked for counts as read: the filters don't say that it was written before it was loaded
     (
         "alg RingSW / callers 2",
         "tx 0 {read 0; read 1} / tx 1 {write 1 9} / schedule / go 0 2 / go 1 3 / go 0 1",
-        "0 begin RingSW / 0 read 0 / 1 begin RingSW / 1 write 9 / 1 commit committed 1 / 0 read conflict filter 1 2 / finish / 0 begin RingSW / 0 read 0 / 0 read 9 / 0 commit readonly 1 / report 1 / W 1 1 0 : 9 / R 1 0 0 : 0 9 / mem 1 9 / end",
+        "0 begin RingSW / 0 read 0 / 1 begin RingSW / 1 write 9 / 1 commit committed 1 / \
+         0 read conflict filter 1 2 / finish / 0 begin RingSW / 0 read 0 / 0 read 9 / 0 commit readonly 1 / \
+         report 1 / W 1 1 0 : 9 / R 1 0 0 : 0 9 / mem 1 9 / end",
     ),
     // a commit finds that what it read was written
     (
         "alg RingSW / callers 2",
         "tx 0 {read 1; write 0 5} / tx 1 {write 1 6} / schedule / go 0 3 / go 1 3 / go 0 1",
-        "0 begin RingSW / 0 read 0 / 0 write 5 / 1 begin RingSW / 1 write 6 / 1 commit committed 1 / 0 commit conflict filter 1 2 / finish / 0 begin RingSW / 0 read 6 / 0 write 5 / 0 commit committed 2 / report 1 / W 1 1 0 : 6 / W 2 0 0 : 6 5 / mem 0 5 / mem 1 6 / end",
+        "0 begin RingSW / 0 read 0 / 0 write 5 / 1 begin RingSW / 1 write 6 / 1 commit committed 1 / \
+         0 commit conflict filter 1 2 / finish / 0 begin RingSW / 0 read 6 / 0 write 5 / 0 commit committed 2 / \
+         report 1 / W 1 1 0 : 6 / W 2 0 0 : 6 5 / mem 0 5 / mem 1 6 / end",
     ),
     // promotion: it waits for the other, and what it wrote is stored at the grant
     (
         "alg RingSW / callers 2",
         "tx 0 {read 0; write 1 5; irrev; write 2 6; emit 1} / tx 1 {write 3 4} / schedule / go 0 3 / go 1 2 / go 0 1 / go 1 1 / go 0 4",
-        "0 begin RingSW / 0 read 0 / 0 write 5 / 1 begin RingSW / 1 write 4 / 0 irrev busy 1 1 / 1 commit committed 1 / 0 irrev granted / 0 write 6 / 0 emit 5 / 0 commit committed 2 / finish / report 1 / W 1 1 0 : 4 / W 2 0 0 : 0 5 1 6 5 ! 5 / mem 1 5 / mem 2 6 / mem 3 4 / end",
+        "0 begin RingSW / 0 read 0 / 0 write 5 / 1 begin RingSW / 1 write 4 / 0 irrev busy 1 1 / \
+         1 commit committed 1 / 0 irrev granted / 0 write 6 / 0 emit 5 / 0 commit committed 2 / finish / report 1 / \
+         W 1 1 0 : 4 / W 2 0 0 : 0 5 1 6 5 ! 5 / mem 1 5 / mem 2 6 / mem 3 4 / end",
     ),
     // what it read is written when it asks
     (
         "alg RingSW / callers 2",
         "tx 0 {read 1; irrev; emit 1} / tx 1 {write 1 6} / schedule / go 0 2 / go 1 3 / go 0 1",
-        "0 begin RingSW / 0 read 0 / 1 begin RingSW / 1 write 6 / 1 commit committed 1 / 0 irrev conflict filter 1 2 / finish / 0 begin RingSW / 0 read 6 / 0 irrev granted / 0 emit 6 / 0 commit readonly 1 / report 1 / W 1 1 0 : 6 / R 1 0 0 : 6 1 6 ! 6 / mem 1 6 / end",
+        "0 begin RingSW / 0 read 0 / 1 begin RingSW / 1 write 6 / 1 commit committed 1 / \
+         0 irrev conflict filter 1 2 / finish / 0 begin RingSW / 0 read 6 / 0 irrev granted / 0 emit 6 / \
+         0 commit readonly 1 / report 1 / W 1 1 0 : 6 / R 1 0 0 : 6 1 6 ! 6 / mem 1 6 / end",
     ),
     // a full write log
     (
         "alg RingSW / writes 2",
         "tx 0 {write 0 1; write 1 2; write 0 4; write 2 3}",
-        "finish / 0 begin RingSW / 0 write 1 / 0 write 2 / 0 write 4 / 0 write full 2 / 0 begin RingSW / 0 irrev granted / 0 write 1 / 0 write 2 / 0 write 4 / 0 write 3 / 0 commit committed 1 / report 1 / W 1 0 0 : 1 2 4 3 / mem 0 4 / mem 1 2 / mem 2 3 / end",
+        "finish / 0 begin RingSW / 0 write 1 / 0 write 2 / 0 write 4 / 0 write full 2 / 0 begin RingSW / \
+         0 irrev granted / 0 write 1 / 0 write 2 / 0 write 4 / 0 write 3 / 0 commit committed 1 / report 1 / \
+         W 1 0 0 : 1 2 4 3 / mem 0 4 / mem 1 2 / mem 2 3 / end",
     ),
     // a cancelled attempt leaves nothing
     (
         "alg RingSW",
         "tx 0 {write 0 5; read 0; cancel} / tx 0 {read 0}",
-        "finish / 0 begin RingSW / 0 write 5 / 0 read 5 / 0 cancel cancelled 0 / 0 begin RingSW / 0 read 0 / 0 commit readonly 0 / report 1 / C 0 0 0 : 5 5 1 / R 0 0 1 : 0 / end",
+        "finish / 0 begin RingSW / 0 write 5 / 0 read 5 / 0 cancel cancelled 0 / 0 begin RingSW / 0 read 0 / \
+         0 commit readonly 0 / report 1 / C 0 0 0 : 5 5 1 / R 0 0 1 : 0 / end",
     ),
 ];
 
@@ -71,7 +87,8 @@ const CUT_RING_TRACES: &[Case] = &[
     (
         "alg RingSW / clock 4611686018427387903",
         "tx 0 {write 0 1} / tx 0 {write 0 2}",
-        "finish / 0 begin RingSW / 0 write 1 / 0 commit committed 4611686018427387904 / 0 begin RingSW / 0 write 2 / 0 commit clockfull 4611686018427387904 / clock full 4611686018427387904",
+        "finish / 0 begin RingSW / 0 write 1 / 0 commit committed 4611686018427387904 / 0 begin RingSW / \
+         0 write 2 / 0 commit clockfull 4611686018427387904 / clock full 4611686018427387904",
     ),
     (
         "alg RingSW / clock 4611686018427387904",

@@ -13,17 +13,22 @@ const TRACES: &[Case] = &[
     (
         "alg CGL",
         "tx 0 {add 3 1} / tx 0 {add 3 1} / tx 0 {read 3}",
-        "finish / 0 begin CGL / 0 add 1 / 0 commit committed 1 / 0 begin CGL / 0 add 2 / 0 commit committed 2 / 0 begin CGL / 0 read 2 / 0 commit readonly 2 / report 1 / W 1 0 0 : 1 / W 2 0 1 : 2 / R 2 0 2 : 2 / mem 3 2 / end",
+        "finish / 0 begin CGL / 0 add 1 / 0 commit committed 1 / 0 begin CGL / 0 add 2 / 0 commit committed 2 / \
+         0 begin CGL / 0 read 2 / 0 commit readonly 2 / report 1 / W 1 0 0 : 1 / W 2 0 1 : 2 / R 2 0 2 : 2 / \
+         mem 3 2 / end",
     ),
     (
         "alg CGL",
         "tx 0 {write 2 7; read 2; write 2 8} / tx 0 {read 2; read 3}",
-        "finish / 0 begin CGL / 0 write 7 / 0 read 7 / 0 write 8 / 0 commit committed 1 / 0 begin CGL / 0 read 8 / 0 read 0 / 0 commit readonly 1 / report 1 / W 1 0 0 : 7 7 8 / R 1 0 1 : 8 0 / mem 2 8 / end",
+        "finish / 0 begin CGL / 0 write 7 / 0 read 7 / 0 write 8 / 0 commit committed 1 / 0 begin CGL / 0 read 8 / \
+         0 read 0 / 0 commit readonly 1 / report 1 / W 1 0 0 : 7 7 8 / R 1 0 1 : 8 0 / mem 2 8 / end",
     ),
     (
         "alg CGL / clock 100",
         "tx 0 {write 0 1000; write 1 1000} / tx 0 {move 0 1 250; move 0 1 751} / tx 0 {read 0; read 1}",
-        "finish / 0 begin CGL / 0 write 1000 / 0 write 1000 / 0 commit committed 101 / 0 begin CGL / 0 move 1 / 0 move 0 / 0 commit committed 102 / 0 begin CGL / 0 read 750 / 0 read 1250 / 0 commit readonly 102 / report 1 / W 101 0 0 : 1000 1000 / W 102 0 1 : 1 0 / R 102 0 2 : 750 1250 / mem 0 750 / mem 1 1250 / end",
+        "finish / 0 begin CGL / 0 write 1000 / 0 write 1000 / 0 commit committed 101 / 0 begin CGL / 0 move 1 / \
+         0 move 0 / 0 commit committed 102 / 0 begin CGL / 0 read 750 / 0 read 1250 / 0 commit readonly 102 / \
+         report 1 / W 101 0 0 : 1000 1000 / W 102 0 1 : 1 0 / R 102 0 2 : 750 1250 / mem 0 750 / mem 1 1250 / end",
     ),
     ("alg CGL", "", "finish / report 1 / end"),
     // nothing is left
@@ -36,43 +41,54 @@ const TRACES: &[Case] = &[
     (
         "alg CGL / callers 2",
         "tx 0 {write 0 5; cancel} / switch 1 CGL / tx 1 {read 0} / schedule / go 0 2 / go 1 2 / go 0 2 / go 1 1",
-        "0 begin CGL / 0 write 5 / 1 close closed / 1 look busy 0 1 / 0 cancel irrevocable / 0 commit committed 1 / 1 look quiet / finish / 1 reopen / 1 close closed / 1 look quiet / 1 install CGL / 1 begin CGL / 1 read 5 / 1 commit readonly 1 / report 1 / W 1 0 0 : 5 0 / R 1 1 0 : 5 / mem 0 5 / end",
+        "0 begin CGL / 0 write 5 / 1 close closed / 1 look busy 0 1 / 0 cancel irrevocable / 0 commit committed 1 / \
+         1 look quiet / finish / 1 reopen / 1 close closed / 1 look quiet / 1 install CGL / 1 begin CGL / \
+         1 read 5 / 1 commit readonly 1 / report 1 / W 1 0 0 : 5 0 / R 1 1 0 : 5 / mem 0 5 / end",
     ),
     // an open attempt goes on to its end after the schedule
     (
         "alg CGL / callers 2",
         "tx 0 {read 0} / tx 1 {read 0} / schedule / go 0 1 / go 1 1",
-        "0 begin CGL / 1 begin held 1 / finish / 0 read 0 / 0 commit readonly 0 / 1 begin CGL / 1 read 0 / 1 commit readonly 0 / report 1 / R 0 0 0 : 0 / R 0 1 0 : 0 / end",
+        "0 begin CGL / 1 begin held 1 / finish / 0 read 0 / 0 commit readonly 0 / 1 begin CGL / 1 read 0 / \
+         1 commit readonly 0 / report 1 / R 0 0 0 : 0 / R 0 1 0 : 0 / end",
     ),
     // an attempt that can't be cancelled goes on to its end before any other begins
     (
         "alg CGL / callers 2",
         "tx 0 {read 0} / tx 1 {write 0 7; cancel} / schedule / go 1 2 / go 0 1",
-        "1 begin CGL / 1 write 7 / 0 begin held 2 / finish / 1 cancel irrevocable / 1 commit committed 1 / 0 begin CGL / 0 read 7 / 0 commit readonly 1 / report 1 / W 1 1 0 : 7 0 / R 1 0 0 : 7 / mem 0 7 / end",
+        "1 begin CGL / 1 write 7 / 0 begin held 2 / finish / 1 cancel irrevocable / 1 commit committed 1 / \
+         0 begin CGL / 0 read 7 / 0 commit readonly 1 / report 1 / W 1 1 0 : 7 0 / R 1 0 0 : 7 / mem 0 7 / end",
     ),
     // under TML a reader meets a writer's odd clock, and begins anew
     (
         "alg TML / callers 2",
         "tx 0 {read 1; read 2} / tx 1 {write 1 5} / schedule / go 0 2 / go 1 2 / go 0 1",
-        "0 begin TML / 0 read 0 / 1 begin TML / 1 write 5 / 0 read conflict clock 0 1 / finish / 1 commit committed 2 / 0 begin TML / 0 read 5 / 0 read 0 / 0 commit readonly 2 / report 1 / W 2 1 0 : 5 / R 2 0 0 : 5 0 / mem 1 5 / end",
+        "0 begin TML / 0 read 0 / 1 begin TML / 1 write 5 / 0 read conflict clock 0 1 / finish / \
+         1 commit committed 2 / 0 begin TML / 0 read 5 / 0 read 0 / 0 commit readonly 2 / report 1 / W 2 1 0 : 5 / \
+         R 2 0 0 : 5 0 / mem 1 5 / end",
     ),
     // under TML a writer can't be cancelled, and nobody begins beside it
     (
         "alg TML / callers 2",
         "tx 0 {write 0 1; cancel} / tx 1 {read 0} / schedule / go 0 2 / go 1 1 / go 0 2",
-        "0 begin TML / 0 write 1 / 1 begin held 1 / 0 cancel irrevocable / 0 commit committed 2 / finish / 1 begin TML / 1 read 1 / 1 commit readonly 2 / report 1 / W 2 0 0 : 1 0 / R 2 1 0 : 1 / mem 0 1 / end",
+        "0 begin TML / 0 write 1 / 1 begin held 1 / 0 cancel irrevocable / 0 commit committed 2 / finish / \
+         1 begin TML / 1 read 1 / 1 commit readonly 2 / report 1 / W 2 0 0 : 1 0 / R 2 1 0 : 1 / mem 0 1 / end",
     ),
     // two readers want to be irrevocable: one waits for the other, which makes way
     (
         "alg TML / callers 2",
         "tx 0 {read 0; irrev; write 1 5; emit 1} / tx 1 {read 2; irrev; write 2 3} / schedule / go 0 2 / go 1 2 / go 0 1 / go 1 1 / go 0 4",
-        "0 begin TML / 0 read 0 / 1 begin TML / 1 read 0 / 0 irrev busy 1 1 / 1 irrev taken 257 / 0 irrev granted / 0 write 5 / 0 emit 5 / 0 commit committed 2 / finish / 1 begin TML / 1 read 0 / 1 irrev granted / 1 write 3 / 1 commit committed 4 / report 1 / W 2 0 0 : 0 1 5 5 ! 5 / W 4 1 0 : 0 1 3 / mem 1 5 / mem 2 3 / end",
+        "0 begin TML / 0 read 0 / 1 begin TML / 1 read 0 / 0 irrev busy 1 1 / 1 irrev taken 257 / 0 irrev granted / \
+         0 write 5 / 0 emit 5 / 0 commit committed 2 / finish / 1 begin TML / 1 read 0 / 1 irrev granted / \
+         1 write 3 / 1 commit committed 4 / report 1 / W 2 0 0 : 0 1 5 5 ! 5 / W 4 1 0 : 0 1 3 / mem 1 5 / \
+         mem 2 3 / end",
     ),
     // an undo log of one item: the attempt after it asks to be irrevocable, and its reply is no operation's
     (
         "alg Serial / writes 1",
         "tx 0 {write 0 1; write 1 2}",
-        "finish / 0 begin Serial / 0 write 1 / 0 write full 1 / 0 begin Serial / 0 irrev granted / 0 write 1 / 0 write 2 / 0 commit committed 1 / report 1 / W 1 0 0 : 1 2 / mem 0 1 / mem 1 2 / end",
+        "finish / 0 begin Serial / 0 write 1 / 0 write full 1 / 0 begin Serial / 0 irrev granted / 0 write 1 / \
+         0 write 2 / 0 commit committed 1 / report 1 / W 1 0 0 : 1 2 / mem 0 1 / mem 1 2 / end",
     ),
 ];
 
@@ -91,7 +107,8 @@ const CUT_TRACES: &[Case] = &[
     (
         "alg CGL / clock 4611686018427387903",
         "tx 0 {write 0 1} / tx 0 {read 0} / schedule / go 0 4",
-        "0 begin CGL / 0 write 1 / 0 commit committed 4611686018427387904 / 0 begin clockfull 4611686018427387904 / clock full 4611686018427387904",
+        "0 begin CGL / 0 write 1 / 0 commit committed 4611686018427387904 / 0 begin clockfull 4611686018427387904 / \
+         clock full 4611686018427387904",
     ),
     // what another caller had to do is left
     (
@@ -102,7 +119,8 @@ const CUT_TRACES: &[Case] = &[
     (
         "alg TML / clock 4611686018427387902",
         "tx 0 {write 0 1} / tx 0 {write 0 2}",
-        "finish / 0 begin TML / 0 write 1 / 0 commit committed 4611686018427387904 / 0 begin TML / 0 write clockfull 4611686018427387904 / clock full 4611686018427387904",
+        "finish / 0 begin TML / 0 write 1 / 0 commit committed 4611686018427387904 / 0 begin TML / \
+         0 write clockfull 4611686018427387904 / clock full 4611686018427387904",
     ),
     // the install makes the clock even
     (
@@ -113,7 +131,8 @@ const CUT_TRACES: &[Case] = &[
     (
         "alg Serial / clock 4611686018427387903",
         "tx 0 {write 0 1} / tx 0 {write 0 2}",
-        "finish / 0 begin Serial / 0 write 1 / 0 commit committed 4611686018427387904 / 0 begin Serial / 0 write clockfull 4611686018427387904 / clock full 4611686018427387904",
+        "finish / 0 begin Serial / 0 write 1 / 0 commit committed 4611686018427387904 / 0 begin Serial / \
+         0 write clockfull 4611686018427387904 / clock full 4611686018427387904",
     ),
 ];
 
@@ -153,10 +172,15 @@ fn installs_each(
         let second = if first == 1 { *after_one } else { *after_two };
         let changes = format!(in alloc; "alg {from} / callers 2")?;
         let body = format!(in alloc;
-            "tx 0 {{add 3 1}} / switch 0 {to} / tx 0 {{add 3 1}} / tx 1 {{read 3}} / tx 1 {{read 3}} / schedule / go 0 3 / go 1 2 / go 0 2 / go 1 1 / go 0 5"
+            "tx 0 {{add 3 1}} / switch 0 {to} / tx 0 {{add 3 1}} / tx 1 {{read 3}} / tx 1 {{read 3}} / schedule / \
+             go 0 3 / go 1 2 / go 0 2 / go 1 1 / go 0 5"
         )?;
         let said = format!(in alloc;
-            "0 begin {from} / 0 add 1 / 0 commit committed {first} / 1 begin {from} / 1 read 1 / 0 close closed / 0 look busy 1 1 / 1 commit readonly {first} / 0 look quiet / 0 install {to} / 0 begin {to} / 0 add 2 / 0 commit committed {second} / finish / 1 begin {to} / 1 read 2 / 1 commit readonly {second} / report 1 / W {first} 0 0 : 1 / R {first} 1 0 : 1 / W {second} 0 1 : 2 / R {second} 1 1 : 2 / mem 3 2 / end"
+            "0 begin {from} / 0 add 1 / 0 commit committed {first} / 1 begin {from} / 1 read 1 / 0 close closed / \
+             0 look busy 1 1 / 1 commit readonly {first} / 0 look quiet / 0 install {to} / 0 begin {to} / 0 add 2 / \
+             0 commit committed {second} / finish / 1 begin {to} / 1 read 2 / 1 commit readonly {second} / \
+             report 1 / W {first} 0 0 : 1 / R {first} 1 0 : 1 / W {second} 0 1 : 2 / R {second} 1 1 : 2 / mem 3 2 / \
+             end"
         )?;
         let case = (changes.as_str(), body.as_str(), said.as_str());
         check(rt, alloc, "step", Status::Ok, &[case])?;

@@ -75,7 +75,8 @@ fn count_all<R: Threads + Wait + Sync>(rt: &R, descs: &mut [Desc<AnyMem>], stm: 
     requires ready { All (IsReady stm.now) descs.old }
     requires words { 2 < stm.now.config.words }
     ensures count { length descs.new ≡ length descs.old }
-    ensures done { (i : ℕ) (d : Handle AnyMem) → i < length descs.old → IsThrough (slice_index_or descs.old i d) (slice_index_or descs.new i d) }
+    ensures done { (i : ℕ) (d : Handle AnyMem) → i < length descs.old
+        → IsThrough (slice_index_or descs.old i d) (slice_index_or descs.new i d) }
 {
     thread::for_each_mut(rt, descs, 4, &|_, desc| { count(rt, desc, stm) });
 }

@@ -10,11 +10,13 @@ use stm_text::parse::{Mode, ParseError, parse};
 
 /// A workload of version 1; ` / ` parts two lines.
 const ONE: &str =
-    "stm 1 / words 8 / callers 1 / records 4 / ring 4 / reads 256 / writes 256 / clock 0 / alg CGL / structs off / tx 0 / add 3 1 / end / done";
+    "stm 1 / words 8 / callers 1 / records 4 / ring 4 / reads 256 / writes 256 / clock 0 / alg CGL / structs off / \
+     tx 0 / add 3 1 / end / done";
 
 /// One of version 2.
 const TWO: &str =
-    "stm 2 / words 100 / callers 2 / records 4 / ring 4 / reads 8 / writes 8 / clock 0 / alg TML / regions 2 / region counter 0 4 / region queue 10 3 / policy fixed / tx 1 / count 0 1 2 / qput 1 5 / end / done";
+    "stm 2 / words 100 / callers 2 / records 4 / ring 4 / reads 8 / writes 8 / clock 0 / alg TML / regions 2 / \
+     region counter 0 4 / region queue 10 3 / policy fixed / tx 1 / count 0 1 2 / qput 1 5 / end / done";
 
 /// A report of the first one.
 const REPORT: &str = "report 1 / W 1 0 0 : 1 / mem 3 1 / end";
@@ -44,7 +46,8 @@ const FAULTS_ONE: [(usize, &str, &str); 23] = [
     (
         8,
         "clock 01",
-        "line 8, `clock 01`: a word is no number: digits alone, no 0 before another, below 2^64; here stands `clock N`, N a number from 0 to 4611686018427387904",
+        "line 8, `clock 01`: a word is no number: digits alone, no 0 before another, below 2^64; here stands `clock \
+         N`, N a number from 0 to 4611686018427387904",
     ),
     (
         9,
@@ -69,7 +72,8 @@ const FAULTS_ONE: [(usize, &str, &str); 23] = [
     (
         12,
         "ad 3 1",
-        "line 12, `ad 3 1`: its first word isn't allowed here; here stands an operation of the transaction or its end: `read A`, `write A V`, `add A V`, `move A B V`, `irrev`, `emit A`, `cancel`, `end`",
+        "line 12, `ad 3 1`: its first word isn't allowed here; here stands an operation of the transaction or its \
+         end: `read A`, `write A V`, `add A V`, `move A B V`, `irrev`, `emit A`, `cancel`, `end`",
     ),
     (
         12,
@@ -84,12 +88,14 @@ const FAULTS_ONE: [(usize, &str, &str); 23] = [
     (
         12,
         "move 1 8 18446744073709551616",
-        "line 12, `move 1 8 18446744073709551616`: a word is no number: digits alone, no 0 before another, below 2^64; here stands `move A B V`, A an address from 0 to 7, B an address from 0 to 7, V a number below 2^64",
+        "line 12, `move 1 8 18446744073709551616`: a word is no number: digits alone, no 0 before another, below \
+         2^64; here stands `move A B V`, A an address from 0 to 7, B an address from 0 to 7, V a number below 2^64",
     ),
     (
         12,
         "",
-        "line 12, ``: the line is empty; here stands an operation of the transaction or its end: `read A`, `write A V`, `add A V`, `move A B V`, `irrev`, `emit A`, `cancel`, `end`",
+        "line 12, ``: the line is empty; here stands an operation of the transaction or its end: `read A`, `write A \
+         V`, `add A V`, `move A B V`, `irrev`, `emit A`, `cancel`, `end`",
     ),
     (
         12,
@@ -109,12 +115,15 @@ const FAULTS_ONE: [(usize, &str, &str); 23] = [
     (
         12,
         "0123456789012345678901234567890123456789012345678901234567890",
-        "line 12, `012345678901234567890123456789012345678901234567890123456789 ..`: its first word isn't allowed here; here stands an operation of the transaction or its end: `read A`, `write A V`, `add A V`, `move A B V`, `irrev`, `emit A`, `cancel`, `end`",
+        "line 12, `012345678901234567890123456789012345678901234567890123456789 ..`: its first word isn't allowed \
+         here; here stands an operation of the transaction or its end: `read A`, `write A V`, `add A V`, `move A B \
+         V`, `irrev`, `emit A`, `cancel`, `end`",
     ),
     (
         13,
         "done",
-        "line 13, `done`: its first word isn't allowed here; here stands an operation of the transaction or its end: `read A`, `write A V`, `add A V`, `move A B V`, `irrev`, `emit A`, `cancel`, `end`",
+        "line 13, `done`: its first word isn't allowed here; here stands an operation of the transaction or its \
+         end: `read A`, `write A V`, `add A V`, `move A B V`, `irrev`, `emit A`, `cancel`, `end`",
     ),
     (
         14,
@@ -148,22 +157,28 @@ const FAULTS_TWO: [(usize, &str, &str); 7] = [
     (
         11,
         "region stack 0 4",
-        "line 11, `region stack 0 4`: it has a word that isn't allowed; here stands `region KIND AT SIZE`, KIND one of counter, list, hash, tree, queue, summap, AT its first word, SIZE a number from 1 to 4096, of a counter to 64",
+        "line 11, `region stack 0 4`: it has a word that isn't allowed; here stands `region KIND AT SIZE`, KIND one \
+         of counter, list, hash, tree, queue, summap, AT its first word, SIZE a number from 1 to 4096, of a counter \
+         to 64",
     ),
     (
         12,
         "region queue 3 3",
-        "line 12, `region queue 3 3`: a region begins where the one above it ends or later, and ends within the 100 words; a counter has SIZE words, a list 1 + 2 SIZE, a hash 16 + 2 SIZE, a tree 1 + 3 SIZE, a queue 2 + SIZE, a summap 1 + 5 SIZE; this one would begin at 3 and end before 8, and the one above it ends before 4",
+        "line 12, `region queue 3 3`: a region begins where the one above it ends or later, and ends within the 100 \
+         words; a counter has SIZE words, a list 1 + 2 SIZE, a hash 16 + 2 SIZE, a tree 1 + 3 SIZE, a queue 2 + \
+         SIZE, a summap 1 + 5 SIZE; this one would begin at 3 and end before 8, and the one above it ends before 4",
     ),
     (
         13,
         "policy round:0",
-        "line 13, `policy round:0`: a number is out of its range; here stands `policy P`, P one of fixed, expert, round:N with N from 1 to 65536, state:N with N from 1 to 16",
+        "line 13, `policy round:0`: a number is out of its range; here stands `policy P`, P one of fixed, expert, \
+         round:N with N from 1 to 65536, state:N with N from 1 to 16",
     ),
     (
         14,
         "reserve 0 1",
-        "line 14, `reserve 0 1`: it has too few words; here stands `reserve C X Y`, C a caller from 0 to 1, X a read log's length from 1 to 4096, Y a write log's length from 1 to 4096",
+        "line 14, `reserve 0 1`: it has too few words; here stands `reserve C X Y`, C a caller from 0 to 1, X a \
+         read log's length from 1 to 4096, Y a write log's length from 1 to 4096",
     ),
     (
         15,
@@ -173,7 +188,8 @@ const FAULTS_TWO: [(usize, &str, &str); 7] = [
     (
         15,
         "read 10",
-        "line 15, `read 10`: the address is one of a structure's words; here stands `read A`, A an address from 0 to 99 that is in no region",
+        "line 15, `read 10`: the address is one of a structure's words; here stands `read A`, A an address from 0 \
+         to 99 that is in no region",
     ),
 ];
 
@@ -187,17 +203,21 @@ const FAULTS_REPORT: [(usize, &str, &str); 6] = [
     (
         2,
         "W 1 0 0 : 1\r",
-        "in the report, after the workload's 14 lines: line 2, `W 1 0 0 : 1<13>`: its byte 12 is 13, a carriage return; a line has the bytes 32 to 126 alone",
+        "in the report, after the workload's 14 lines: line 2, `W 1 0 0 : 1<13>`: its byte 12 is 13, a carriage \
+         return; a line has the bytes 32 to 126 alone",
     ),
     (
         2,
         "W 1 0 : 1",
-        "in the report, after the workload's 14 lines: line 2, `W 1 0 : 1`: the line isn't in its form; here stands a row, `K PLACE CALLER SEQ : REPLIES` with K one of W, R, C, and after it ` ! EMITS` where there are emits; or `mem ADDRESS VALUE`, or `end`",
+        "in the report, after the workload's 14 lines: line 2, `W 1 0 : 1`: the line isn't in its form; here stands \
+         a row, `K PLACE CALLER SEQ : REPLIES` with K one of W, R, C, and after it ` ! EMITS` where there are \
+         emits; or `mem ADDRESS VALUE`, or `end`",
     ),
     (
         3,
         "mem 3 1 / mem 3 1",
-        "in the report, after the workload's 14 lines: line 4, `mem 3 1`: the line isn't in its form; here stands `mem ADDRESS VALUE`, the address above that of the line before and the value not 0, or `end`",
+        "in the report, after the workload's 14 lines: line 4, `mem 3 1`: the line isn't in its form; here stands \
+         `mem ADDRESS VALUE`, the address above that of the line before and the value not 0, or `end`",
     ),
     (
         4,
@@ -207,13 +227,15 @@ const FAULTS_REPORT: [(usize, &str, &str); 6] = [
     (
         4,
         "mem 4 1",
-        "in the report, after the workload's 14 lines: line 5: the report ends before its line `end`; here stands `mem ADDRESS VALUE`, the address above that of the line before and the value not 0, or `end`",
+        "in the report, after the workload's 14 lines: line 5: the report ends before its line `end`; here stands \
+         `mem ADDRESS VALUE`, the address above that of the line before and the value not 0, or `end`",
     ),
 ];
 
 /// A workload of three transactions, of which the second may be cancelled.
 const THREE: &str =
-    "stm 1 / words 8 / callers 2 / records 4 / ring 4 / reads 256 / writes 256 / clock 0 / alg CGL / structs off / tx 0 / add 3 1 / end / tx 0 / read 3 / cancel / end / tx 1 / add 3 1 / irrev / emit 3 / end / done";
+    "stm 1 / words 8 / callers 2 / records 4 / ring 4 / reads 256 / writes 256 / clock 0 / alg CGL / structs off / \
+     tx 0 / add 3 1 / end / tx 0 / read 3 / cancel / end / tx 1 / add 3 1 / irrev / emit 3 / end / done";
 
 /// A report that doesn't replay [`THREE`], and what is said of it. The report `report 1 / W 1 0 0 : 1 / C 1 0 1 : 1 1 /
 /// W 2 1 0 : 2 1 2 ! 2 / mem 3 2 / end` does.
@@ -240,19 +262,25 @@ const WRONG_REPORTS: [(&str, &str); 12] = [
     ),
     (
         "report 1 / W 1 0 0 : 1 / W 0 1 0 : 2 1 2 ! 2 / end",
-        "in the report, after the workload's 23 lines: line 3, which is line 26 of the whole text, `W 0 1 0 : 2 1 2 ! 2`: wanted a row that comes after the one above it: by place, W before R and C, then by caller, then by number",
+        "in the report, after the workload's 23 lines: line 3, which is line 26 of the whole text, `W 0 1 0 : 2 1 2 \
+         ! 2`: wanted a row that comes after the one above it: by place, W before R and C, then by caller, then by \
+         number",
     ),
     (
         "report 1 / W 1 0 0 : 1 / W 1 1 0 : 2 1 2 ! 2 / end",
-        "in the report, after the workload's 23 lines: line 3, which is line 26 of the whole text, `W 1 1 0 : 2 1 2 ! 2`: wanted another place than that of the W row above it",
+        "in the report, after the workload's 23 lines: line 3, which is line 26 of the whole text, `W 1 1 0 : 2 1 2 \
+         ! 2`: wanted another place than that of the W row above it",
     ),
     (
         "report 1 / W 1 0 0 : 1 / C 1 0 2 : 1 1 / end",
-        "in the report, after the workload's 23 lines: line 3, which is line 26 of the whole text, `C 1 0 2 : 1 1`: wanted its caller's transaction 1, which is next, if the workload has it",
+        "in the report, after the workload's 23 lines: line 3, which is line 26 of the whole text, `C 1 0 2 : 1 1`: \
+         wanted its caller's transaction 1, which is next, if the workload has it",
     ),
     (
         "report 1 / W 1 0 0 : 1 / W 2 1 0 : 2 1 2 ! 2 / mem 3 2 / end",
-        "in the report, after the workload's 23 lines: line 4, which is line 27 of the whole text, `mem 3 2`: transaction 1 of caller 0 has no row; transactions count from 0; here stands `R PLACE 0 1 : REPLIES`, with W for R where it wrote, and C where it was cancelled",
+        "in the report, after the workload's 23 lines: line 4, which is line 27 of the whole text, `mem 3 2`: \
+         transaction 1 of caller 0 has no row; transactions count from 0; here stands `R PLACE 0 1 : REPLIES`, with \
+         W for R where it wrote, and C where it was cancelled",
     ),
     (
         "report 1 / W 1 0 0 : 1 / C 1 0 1 : 1 1 / W 2 1 0 : 2 1 2 ! 2 / mem 3 1 / end",
@@ -273,7 +301,8 @@ const FAULTS_TRACE: [(&str, usize, &str); 3] = [
     (
         "0 begin CGL / 0 red 3",
         2,
-        "line 2, `0 red 3`: the line isn't one that `stm_bench step` writes; here stands a turn, as `0 begin CGL` or `1 read 5`, or `finish`, or after the trace a report from `report 1` on, or `clock full C`",
+        "line 2, `0 red 3`: the line isn't one that `stm_bench step` writes; here stands a turn, as `0 begin CGL` \
+         or `1 read 5`, or `finish`, or after the trace a report from `report 1` on, or `clock full C`",
     ),
     (
         "finish / report 1 / end / end",

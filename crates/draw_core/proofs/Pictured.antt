@@ -63,7 +63,8 @@ squeezed-by false = none-more
 squeezed-more : (words : List ℕ) → More (squeezed words)
 squeezed-more words = squeezed-by (ltb 29 (length words))
 
-opening-reads : (tags : List (List ℕ)) (class kind : List ℕ) (x y : ℕ) (more : List ℕ) → Calm class → Calm kind → More more → reads_on (Some (Words tags)) (open_bytes class kind x y more) ≡ Some (Words (codes "text" ∷ tags))
+opening-reads : (tags : List (List ℕ)) (class kind : List ℕ) (x y : ℕ) (more : List ℕ) → Calm class → Calm kind → More more
+    → reads_on (Some (Words tags)) (open_bytes class kind x y more) ≡ Some (Words (codes "text" ∷ tags))
 unfolding open_bytes
 opening-reads tags class kind x y more c k m =
     past-value tags (codes "text") class (codes " " ++ (kind ++ (codes "' x='" ++ (decimal x ++ (codes "' y='" ++ (decimal y ++ (codes "'" ++ (more ++ codes ">")))))))) c
@@ -94,18 +95,27 @@ plain = calm (codes "words") refl
 shape-keeps : (s : Sheet) (shape : Shape) → Keeps (shape_bytes s shape)
 unfolding shape_bytes
 shape-keeps s (Lane lane) =
-    keeps-append (rect_bytes (codes "lane") (codes "shape") (left lane + 2) 36 212 (s.rows * 24 + 16)) (open_bytes (codes "head") (codes "words") (left lane + 108) 28 [] ++ (codes "caller " ++ (decimal lane ++ close_bytes)))
+    keeps-append (rect_bytes (codes "lane") (codes "shape") (left lane + 2) 36 212 (s.rows * 24 + 16))
+    (open_bytes (codes "head") (codes "words") (left lane + 108) 28 [] ++ (codes "caller " ++ (decimal lane ++ close_bytes)))
     (rect-keeps (codes "lane") (codes "shape") (left lane + 2) 36 212 (s.rows * 24 + 16) (calm (codes "lane") refl) (calm (codes "shape") refl))
-    (text-keeps (codes "head") (codes "words") (left lane + 108) 28 [] (codes "caller " ++ decimal lane) (calm (codes "head") refl) plain none-more (calm-append (codes "caller ") (decimal lane) (calm (codes "caller ") refl) (calm-decimal lane)))
+    (text-keeps (codes "head") (codes "words") (left lane + 108) 28 [] (codes "caller " ++ decimal lane) (calm (codes "head") refl) plain
+    none-more (calm-append (codes "caller ") (decimal lane) (calm (codes "caller ") refl) (calm-decimal lane)))
 shape-keeps s (Closed lane from more) =
-    keeps-append (rect_bytes (codes "closed") (codes "shape") 84 (top from) (s.lanes * 216 + 16) (tall more + 2)) (open_bytes (codes "side") (codes "words") (edge s + 14) (top from + 16) [] ++ (codes "gate closed by " ++ (decimal lane ++ close_bytes)))
+    keeps-append (rect_bytes (codes "closed") (codes "shape") 84 (top from) (s.lanes * 216 + 16) (tall more + 2))
+    (open_bytes (codes "side") (codes "words") (edge s + 14) (top from + 16) []
+    ++ (codes "gate closed by " ++ (decimal lane ++ close_bytes)))
     (rect-keeps (codes "closed") (codes "shape") 84 (top from) (s.lanes * 216 + 16) (tall more + 2) (calm (codes "closed") refl) (calm (codes "shape") refl))
-    (text-keeps (codes "side") (codes "words") (edge s + 14) (top from + 16) [] (codes "gate closed by " ++ decimal lane) (calm (codes "side") refl) plain none-more (calm-append (codes "gate closed by ") (decimal lane) (calm (codes "gate closed by ") refl) (calm-decimal lane)))
+    (text-keeps (codes "side") (codes "words") (edge s + 14) (top from + 16) [] (codes "gate closed by " ++ decimal lane)
+    (calm (codes "side") refl) plain none-more
+    (calm-append (codes "gate closed by ") (decimal lane) (calm (codes "gate closed by ") refl) (calm-decimal lane)))
 shape-keeps s (Installed row alg) =
-    keeps-append (rect_bytes (codes "installed") (codes "shape") 84 (top row + 23) (s.lanes * 216 + 16) 2) (open_bytes (codes "side") (codes "words") (edge s + 14) (top row + 28) [] ++ (alg_name alg ++ codes " from here</text>\n"))
+    keeps-append (rect_bytes (codes "installed") (codes "shape") 84 (top row + 23) (s.lanes * 216 + 16) 2)
+    (open_bytes (codes "side") (codes "words") (edge s + 14) (top row + 28) [] ++ (alg_name alg ++ codes " from here</text>\n"))
     (rect-keeps (codes "installed") (codes "shape") 84 (top row + 23) (s.lanes * 216 + 16) 2 (calm (codes "installed") refl) (calm (codes "shape") refl))
     (subst (λ (t : List ℕ). Keeps (open_bytes (codes "side") (codes "words") (edge s + 14) (top row + 28) [] ++ t)) (append_assoc (alg_name alg) (codes " from here") close_bytes)
-    (text-keeps (codes "side") (codes "words") (edge s + 14) (top row + 28) [] (alg_name alg ++ codes " from here") (calm (codes "side") refl) plain none-more (calm-append (alg_name alg) (codes " from here") (alg-calm alg) (calm (codes " from here") refl))))
+    (text-keeps (codes "side") (codes "words") (edge s + 14) (top row + 28) [] (alg_name alg ++ codes " from here")
+    (calm (codes "side") refl) plain none-more
+    (calm-append (alg_name alg) (codes " from here") (alg-calm alg) (calm (codes " from here") refl))))
 shape-keeps s (Attempt lane from more kind) = rect-keeps (codes "attempt") (class_of kind) (left lane + 4) (top from + 1) 208 (tall more) (calm (codes "attempt") refl) (class-calm kind)
 shape-keeps s (Irrevocable lane from more) = rect-keeps (codes "sure") (codes "shape") (left lane + 4) (top from + 1) 6 (tall more) (calm (codes "sure") refl) (calm (codes "shape") refl)
 shape-keeps s (Clock row time) =
@@ -141,7 +151,8 @@ box-keeps : (s : Sheet) (row : ℕ) (b : Box) → Calm b.label → Keeps (box_by
 unfolding box_bytes number_text
 box-keeps s row b c = record {
   keeps = λ tags.
-      onto (Some (Words tags)) (box_rect s row b) (open_bytes (codes "label") (class_of b.kind) (left b.lane + 19) (top row + 16) (squeezed b.label) ++ (b.label ++ (close_bytes ++ number_text row))) (Some (Words tags)) ((box-rect-keeps s row b).keeps tags)
+      onto (Some (Words tags)) (box_rect s row b) (open_bytes (codes "label") (class_of b.kind) (left b.lane + 19) (top row + 16)
+      (squeezed b.label) ++ (b.label ++ (close_bytes ++ number_text row))) (Some (Words tags)) ((box-rect-keeps s row b).keeps tags)
       ∙ (onto (Some (Words tags)) (open_bytes (codes "label") (class_of b.kind) (left b.lane + 19) (top row + 16) (squeezed b.label)) (b.label ++ (close_bytes ++ number_text row)) (Some (Words (codes "text" ∷ tags)))
       (opening-reads tags (codes "label") (class_of b.kind) (left b.lane + 19) (top row + 16) (squeezed b.label) (calm (codes "label") refl) (class-calm b.kind) (squeezed-more b.label))
       ∙ (past-words (codes "text" ∷ tags) b.label (close_bytes ++ number_text row) c
@@ -185,7 +196,9 @@ axis-keeps s =
 head-reads : (s : Sheet) → reads_on (Some (Words [])) (head_bytes s) ≡ Some (Words page)
 unfolding head_bytes
 head-reads s =
-    onto (Some (Words [])) (page_bytes (page_width s) (page_height s)) (style_bytes ++ (rect_bytes (codes "page") (codes "shape") 0 0 (page_width s) (page_height s) ++ axis_bytes s)) (Some (Words page)) (page-reads (page_width s) (page_height s))
+    onto (Some (Words [])) (page_bytes (page_width s) (page_height s))
+    (style_bytes ++ (rect_bytes (codes "page") (codes "shape") 0 0 (page_width s) (page_height s) ++ axis_bytes s)) (Some (Words page))
+    (page-reads (page_width s) (page_height s))
     ∙ (onto (Some (Words page)) style_bytes (rect_bytes (codes "page") (codes "shape") 0 0 (page_width s) (page_height s) ++ axis_bytes s) (Some (Words page)) style-reads
     ∙ (keeps-append (rect_bytes (codes "page") (codes "shape") 0 0 (page_width s) (page_height s)) (axis_bytes s)
     (rect-keeps (codes "page") (codes "shape") 0 0 (page_width s) (page_height s) (calm (codes "page") refl) (calm (codes "shape") refl)) (axis-keeps s)).keeps page)

@@ -18,7 +18,8 @@ title-by told k bytes ls title = rw title refl
 clock-by : (told : List Line) (k : ℕ) (bytes : List ℕ) (ls : List TextLine) → is_title bytes ≡ false → is_full_clock (words_of bytes) ≡ true → read told k (whole_line bytes ∷ ls) ≡ closed told (k + 1) ls
 clock-by told k bytes ls title full = rw (title, full) refl
 
-wrong-by : (told : List Line) (k : ℕ) (bytes : List ℕ) (ls : List TextLine) → is_title bytes ≡ false → is_full_clock (words_of bytes) ≡ false → line_of (words_of bytes) ≡ None → read told k (whole_line bytes ∷ ls) ≡ Err k
+wrong-by : (told : List Line) (k : ℕ) (bytes : List ℕ) (ls : List TextLine) → is_title bytes ≡ false
+    → is_full_clock (words_of bytes) ≡ false → line_of (words_of bytes) ≡ None → read told k (whole_line bytes ∷ ls) ≡ Err k
 wrong-by told k bytes ls title full is = rw (title, full, is) refl
 
 more-by : (told : List Line) (k : ℕ) (bytes : List ℕ) (m : Line) (ls : List TextLine) → is_title bytes ≡ false → is_full_clock (words_of bytes) ≡ false → line_of (words_of bytes) ≡ Some m

@@ -287,39 +287,68 @@ commit-conflict-by ws c x = rw x refl
 pub said-reads : (said : Said) → SaidHasWords said → IsOfMemory said → Reads said
 said-reads (TryBegin (Begun alg)) f of-memory =
     plain (TryBegin (Begun alg)) (codes "begin" ∷ alg_name alg ∷ []) (ap (λ t. codes " begin " ++ t) (sym (append-nil (alg_name alg)))) (seen (codes "begin") refl, (alg-visible alg, tt)) (begin-is alg)
-said-reads (TryBegin (Closed n)) f of-memory = plain (TryBegin (Closed n)) (codes "begin" ∷ codes "closed" ∷ decimal n ∷ []) refl (seen (codes "begin") refl, (seen (codes "closed") refl, (visible-decimal n f, tt))) (begin-closed-by (decimal n) n (num n f))
-said-reads (TryBegin (Held n)) f of-memory = plain (TryBegin (Held n)) (codes "begin" ∷ codes "held" ∷ decimal n ∷ []) refl (seen (codes "begin") refl, (seen (codes "held") refl, (visible-decimal n f, tt))) (begin-held-by (decimal n) n (num n f))
-said-reads (TryBegin (ClockFull n)) f of-memory = plain (TryBegin (ClockFull n)) (codes "begin" ∷ codes "clockfull" ∷ decimal n ∷ []) refl (seen (codes "begin") refl, (seen (codes "clockfull") refl, (visible-decimal n f, tt))) (begin-full-by (decimal n) n (num n f))
+said-reads (TryBegin (Closed n)) f of-memory =
+    plain (TryBegin (Closed n)) (codes "begin" ∷ codes "closed" ∷ decimal n ∷ []) refl
+    (seen (codes "begin") refl, (seen (codes "closed") refl, (visible-decimal n f, tt))) (begin-closed-by (decimal n) n (num n f))
+said-reads (TryBegin (Held n)) f of-memory =
+    plain (TryBegin (Held n)) (codes "begin" ∷ codes "held" ∷ decimal n ∷ []) refl
+    (seen (codes "begin") refl, (seen (codes "held") refl, (visible-decimal n f, tt))) (begin-held-by (decimal n) n (num n f))
+said-reads (TryBegin (ClockFull n)) f of-memory =
+    plain (TryBegin (ClockFull n)) (codes "begin" ∷ codes "clockfull" ∷ decimal n ∷ []) refl
+    (seen (codes "begin") refl, (seen (codes "clockfull") refl, (visible-decimal n f, tt))) (begin-full-by (decimal n) n (num n f))
 said-reads (Reply op n) f of-memory = reply-reads op n f (named op of-memory)
 said-reads (Stopped op stop) f of-memory = stopped-reads op stop (stop-reads stop f) (named op of-memory)
-said-reads (TryCancel (Cancelled n)) f of-memory = plain (TryCancel (Cancelled n)) (codes "cancel" ∷ codes "cancelled" ∷ decimal n ∷ []) refl (seen (codes "cancel") refl, (seen (codes "cancelled") refl, (visible-decimal n f, tt))) (cancelled-by (decimal n) n (num n f))
+said-reads (TryCancel (Cancelled n)) f of-memory =
+    plain (TryCancel (Cancelled n)) (codes "cancel" ∷ codes "cancelled" ∷ decimal n ∷ []) refl
+    (seen (codes "cancel") refl, (seen (codes "cancelled") refl, (visible-decimal n f, tt))) (cancelled-by (decimal n) n (num n f))
 said-reads (TryCancel Irrevocable) f of-memory = plain (TryCancel Irrevocable) (codes "cancel" ∷ codes "irrevocable" ∷ []) refl (seen (codes "cancel") refl, (seen (codes "irrevocable") refl, tt)) refl
 said-reads (TryIrrevocable irrevs.Granted) f of-memory = plain (TryIrrevocable irrevs.Granted) (codes "irrev" ∷ codes "granted" ∷ []) refl (seen (codes "irrev") refl, (seen (codes "granted") refl, tt)) refl
 said-reads (TryIrrevocable (irrevs.Busy a b)) f of-memory =
-    plain (TryIrrevocable (irrevs.Busy a b)) (codes "irrev" ∷ codes "busy" ∷ decimal a ∷ decimal b ∷ []) refl (seen (codes "irrev") refl, (seen (codes "busy") refl, (visible-decimal a f.0, (visible-decimal b f.1, tt)))) (irrev-busy-by (decimal a) (decimal b) a b (num a f.0) (num b f.1))
-said-reads (TryIrrevocable (irrevs.Taken n)) f of-memory = plain (TryIrrevocable (irrevs.Taken n)) (codes "irrev" ∷ codes "taken" ∷ decimal n ∷ []) refl (seen (codes "irrev") refl, (seen (codes "taken") refl, (visible-decimal n f, tt))) (irrev-taken-by (decimal n) n (num n f))
+    plain (TryIrrevocable (irrevs.Busy a b)) (codes "irrev" ∷ codes "busy" ∷ decimal a ∷ decimal b ∷ []) refl
+    (seen (codes "irrev") refl, (seen (codes "busy") refl, (visible-decimal a f.0, (visible-decimal b f.1, tt))))
+    (irrev-busy-by (decimal a) (decimal b) a b (num a f.0) (num b f.1))
+said-reads (TryIrrevocable (irrevs.Taken n)) f of-memory =
+    plain (TryIrrevocable (irrevs.Taken n)) (codes "irrev" ∷ codes "taken" ∷ decimal n ∷ []) refl
+    (seen (codes "irrev") refl, (seen (codes "taken") refl, (visible-decimal n f, tt))) (irrev-taken-by (decimal n) n (num n f))
 said-reads (TryIrrevocable (irrevs.Conflict c)) f of-memory =
     let r = cause-reads c f in
-    plain (TryIrrevocable (irrevs.Conflict c)) (codes "irrev" ∷ codes "conflict" ∷ r.words) (ap (λ t. codes " irrev" ++ t) r.bytes) (seen (codes "irrev") refl, (seen (codes "conflict") refl, r.visible)) (irrev-conflict-by r.words c r.is)
-said-reads (TryIrrevocable (irrevs.ClockFull n)) f of-memory = plain (TryIrrevocable (irrevs.ClockFull n)) (codes "irrev" ∷ codes "clockfull" ∷ decimal n ∷ []) refl (seen (codes "irrev") refl, (seen (codes "clockfull") refl, (visible-decimal n f, tt))) (irrev-full-by (decimal n) n (num n f))
-said-reads (TryCommit (Committed n)) f of-memory = plain (TryCommit (Committed n)) (codes "commit" ∷ codes "committed" ∷ decimal n ∷ []) refl (seen (codes "commit") refl, (seen (codes "committed") refl, (visible-decimal n f, tt))) (committed-by (decimal n) n (num n f))
-said-reads (TryCommit (ReadOnly n)) f of-memory = plain (TryCommit (ReadOnly n)) (codes "commit" ∷ codes "readonly" ∷ decimal n ∷ []) refl (seen (codes "commit") refl, (seen (codes "readonly") refl, (visible-decimal n f, tt))) (readonly-by (decimal n) n (num n f))
+    plain (TryIrrevocable (irrevs.Conflict c)) (codes "irrev" ∷ codes "conflict" ∷ r.words) (ap (λ t. codes " irrev" ++ t) r.bytes)
+    (seen (codes "irrev") refl, (seen (codes "conflict") refl, r.visible)) (irrev-conflict-by r.words c r.is)
+said-reads (TryIrrevocable (irrevs.ClockFull n)) f of-memory =
+    plain (TryIrrevocable (irrevs.ClockFull n)) (codes "irrev" ∷ codes "clockfull" ∷ decimal n ∷ []) refl
+    (seen (codes "irrev") refl, (seen (codes "clockfull") refl, (visible-decimal n f, tt))) (irrev-full-by (decimal n) n (num n f))
+said-reads (TryCommit (Committed n)) f of-memory =
+    plain (TryCommit (Committed n)) (codes "commit" ∷ codes "committed" ∷ decimal n ∷ []) refl
+    (seen (codes "commit") refl, (seen (codes "committed") refl, (visible-decimal n f, tt))) (committed-by (decimal n) n (num n f))
+said-reads (TryCommit (ReadOnly n)) f of-memory =
+    plain (TryCommit (ReadOnly n)) (codes "commit" ∷ codes "readonly" ∷ decimal n ∷ []) refl
+    (seen (codes "commit") refl, (seen (codes "readonly") refl, (visible-decimal n f, tt))) (readonly-by (decimal n) n (num n f))
 said-reads (TryCommit (Conflict c)) f of-memory =
     let r = cause-reads c f in
-    plain (TryCommit (Conflict c)) (codes "commit" ∷ codes "conflict" ∷ r.words) (ap (λ t. codes " commit" ++ t) r.bytes) (seen (codes "commit") refl, (seen (codes "conflict") refl, r.visible)) (commit-conflict-by r.words c r.is)
+    plain (TryCommit (Conflict c)) (codes "commit" ∷ codes "conflict" ∷ r.words) (ap (λ t. codes " commit" ++ t) r.bytes)
+    (seen (codes "commit") refl, (seen (codes "conflict") refl, r.visible)) (commit-conflict-by r.words c r.is)
 said-reads (TryCommit (Again a b c)) f of-memory =
-    plain (TryCommit (Again a b c)) (codes "commit" ∷ codes "again" ∷ decimal a ∷ decimal b ∷ decimal c ∷ []) refl (seen (codes "commit") refl, (seen (codes "again") refl, (visible-decimal a f.0, (visible-decimal b f.1, (visible-decimal c f.2, tt)))))
+    plain (TryCommit (Again a b c)) (codes "commit" ∷ codes "again" ∷ decimal a ∷ decimal b ∷ decimal c ∷ []) refl
+    (seen (codes "commit") refl, (seen (codes "again") refl, (visible-decimal a f.0, (visible-decimal b f.1, (visible-decimal c f.2, tt)))))
     (again-by (decimal a) (decimal b) (decimal c) a b c (num a f.0) (num b f.1) (num c f.2))
-said-reads (TryCommit (ClockFull n)) f of-memory = plain (TryCommit (ClockFull n)) (codes "commit" ∷ codes "clockfull" ∷ decimal n ∷ []) refl (seen (codes "commit") refl, (seen (codes "clockfull") refl, (visible-decimal n f, tt))) (commit-full-by (decimal n) n (num n f))
+said-reads (TryCommit (ClockFull n)) f of-memory =
+    plain (TryCommit (ClockFull n)) (codes "commit" ∷ codes "clockfull" ∷ decimal n ∷ []) refl
+    (seen (codes "commit") refl, (seen (codes "clockfull") refl, (visible-decimal n f, tt))) (commit-full-by (decimal n) n (num n f))
 said-reads (TryClose Closed) f of-memory = plain (TryClose Closed) (codes "close" ∷ codes "closed" ∷ []) refl (seen (codes "close") refl, (seen (codes "closed") refl, tt)) refl
-said-reads (TryClose (Taken n)) f of-memory = plain (TryClose (Taken n)) (codes "close" ∷ codes "taken" ∷ decimal n ∷ []) refl (seen (codes "close") refl, (seen (codes "taken") refl, (visible-decimal n f, tt))) (close-taken-by (decimal n) n (num n f))
+said-reads (TryClose (Taken n)) f of-memory =
+    plain (TryClose (Taken n)) (codes "close" ∷ codes "taken" ∷ decimal n ∷ []) refl
+    (seen (codes "close") refl, (seen (codes "taken") refl, (visible-decimal n f, tt))) (close-taken-by (decimal n) n (num n f))
 said-reads (Looked Quiet) f of-memory = plain (Looked Quiet) (codes "look" ∷ codes "quiet" ∷ []) refl (seen (codes "look") refl, (seen (codes "quiet") refl, tt)) refl
 said-reads (Looked (Busy a b)) f of-memory =
-    plain (Looked (Busy a b)) (codes "look" ∷ codes "busy" ∷ decimal a ∷ decimal b ∷ []) refl (seen (codes "look") refl, (seen (codes "busy") refl, (visible-decimal a f.0, (visible-decimal b f.1, tt)))) (look-busy-by (decimal a) (decimal b) a b (num a f.0) (num b f.1))
+    plain (Looked (Busy a b)) (codes "look" ∷ codes "busy" ∷ decimal a ∷ decimal b ∷ []) refl
+    (seen (codes "look") refl, (seen (codes "busy") refl, (visible-decimal a f.0, (visible-decimal b f.1, tt))))
+    (look-busy-by (decimal a) (decimal b) a b (num a f.0) (num b f.1))
 said-reads (Installed alg) f of-memory =
     plain (Installed alg) (codes "install" ∷ alg_name alg ∷ []) (ap (λ t. codes " install " ++ t) (sym (append-nil (alg_name alg)))) (seen (codes "install") refl, (alg-visible alg, tt)) (install-is alg)
 said-reads (Reserved a b) f of-memory =
-    plain (Reserved a b) (codes "reserve" ∷ decimal a ∷ decimal b ∷ []) refl (seen (codes "reserve") refl, (visible-decimal a f.0, (visible-decimal b f.1, tt))) (reserve-by (decimal a) (decimal b) a b (num a f.0) (num b f.1))
+    plain (Reserved a b) (codes "reserve" ∷ decimal a ∷ decimal b ∷ []) refl
+    (seen (codes "reserve") refl, (visible-decimal a f.0, (visible-decimal b f.1, tt)))
+    (reserve-by (decimal a) (decimal b) a b (num a f.0) (num b f.1))
 said-reads Idle f of-memory = plain Idle (codes "idle" ∷ []) refl (seen (codes "idle") refl, tt) refl
 said-reads Dropped f of-memory = plain Dropped (codes "drop" ∷ []) refl (seen (codes "drop") refl, tt) refl
 said-reads Reopened f of-memory = plain Reopened (codes "reopen" ∷ []) refl (seen (codes "reopen") refl, tt) refl

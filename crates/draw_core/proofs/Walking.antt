@@ -67,7 +67,8 @@ first-within items zero = tt
 first-within items (suc k) = (omega arith, first-within items k)
 
 -- the next operation is done
-pub past-open : (scripts later : List (List Op)) (script : List Op) (done : ℕ) (op : Op) → scripts ≡ script ∷ later → drop done script ≡ op ∷ drop (done + 1) script → opened scripts (Some (done + 1)) ≡ past_next (opened scripts (Some done))
+pub past-open : (scripts later : List (List Op)) (script : List Op) (done : ℕ) (op : Op) → scripts ≡ script ∷ later
+    → drop done script ≡ op ∷ drop (done + 1) script → opened scripts (Some (done + 1)) ≡ past_next (opened scripts (Some done))
 past-open scripts later script done op e cut =
     ap (λ (x : List (List Op)). opened x (Some (done + 1))) e
     ∙ sym (ap (λ (x : List (List Op)). past_next (opened x (Some done))) e ∙ ap (λ (x : List Op). past_next (Some x)) cut)
@@ -93,7 +94,10 @@ module _ (version : Version) (stands : List Stand) (n : ℕ) (said : Said) where
     goes-some turn to op t some told =
         goes-at
         ∙ (ap (turned version stands n said) (ap (after at) (sym t) ∙ some)
-        ∙ ap (λ (o : Option Op). (let p : Option (Step × List Stand) = Some (record { line = Of n said; deed = deed_of version o }, slice_set stands n to) in p)) (sym (told ∙ ap (told_by at) t ∙ ap (λ (x : Stand). told_by x (turn_of said)) (sym is))))
+        ∙ ap
+        (λ (o : Option Op).
+        (let p : Option (Step × List Stand) = Some (record { line = Of n said; deed = deed_of version o }, slice_set stands n to) in p))
+        (sym (told ∙ ap (told_by at) t ∙ ap (λ (x : Stand). told_by x (turn_of said)) (sym is))))
 
 pub step-same : (l : Line) (d e : Option Deed) (xs ys : List Stand) → d ≡ e → xs ≡ ys
     → (let p : Option (Step × List Stand) = Some (record { line = l; deed = d }, xs) in p) ≡ Some (record { line = l; deed = e }, ys)
@@ -102,5 +106,6 @@ step-same l d e xs ys q r = cc
 pub walked-same : (version : Version) (told more : List Step) (k j : ℕ) (xs ys : List Stand) (lines : List Line) → told ≡ more → k ≡ j → xs ≡ ys → walked version told k xs lines ≡ walked version more j ys lines
 walked-same version told more k j xs ys lines p q r = cc
 
-pub none-goes : (o : Option Step) (version : Version) (stands new : List Stand) (line : Line) → o ≡ None → goes version stands line ≡ None → MatchOption o (goes version stands line ≡ None) (λ s. goes version stands line ≡ Some (s, new))
+pub none-goes : (o : Option Step) (version : Version) (stands new : List Stand) (line : Line) → o ≡ None → goes version stands line ≡ None
+    → MatchOption o (goes version stands line ≡ None) (λ s. goes version stands line ≡ Some (s, new))
 none-goes o version stands new line e none = subst (λ (x : Option Step). MatchOption x (goes version stands line ≡ None) (λ s. goes version stands line ≡ Some (s, new))) (sym e) none

@@ -23,8 +23,6 @@ stop_kind (ClockFull clock) = Overflows
 -- THE TABLE: the kind of each answer
 abbrev pub said_kind : Said → Kind
 said_kind (TryBegin (Begun alg)) = Begins alg
-said_kind (TryBegin (Closed gate)) = Waits
-said_kind (TryBegin (Held word)) = Waits
 said_kind (TryBegin (ClockFull clock)) = Overflows
 said_kind (Reply op reply) = Works
 said_kind (Stopped op stop) = stop_kind stop
@@ -38,17 +36,15 @@ said_kind (TryIrrevocable (irrevs.ClockFull clock)) = Overflows
 said_kind (TryCommit (Committed time)) = Commits time
 said_kind (TryCommit (ReadOnly time)) = Reads
 said_kind (TryCommit (Conflict cause)) = Conflicts
-said_kind (TryCommit (Again word had now)) = Waits
 said_kind (TryCommit (ClockFull clock)) = Overflows
 said_kind (TryClose Closed) = Closes
-said_kind (TryClose (Taken gate)) = Waits
 said_kind (Looked Quiet) = Sees
-said_kind (Looked (Busy caller status)) = Waits
 said_kind (Installed alg) = Installs alg
 said_kind (Reserved reads writes) = Works
 said_kind Idle = Idles
 said_kind Dropped = Cancels
 said_kind Reopened = Reopens
+said_kind said = Waits
 
 abbrev pub kind_of : Line → Kind
 kind_of (Of caller said) = said_kind said
@@ -76,18 +72,9 @@ class_of Finishes = codes "finish"
 -- an attempt ends, or its caller's next one begins
 abbrev pub ends_attempt : Kind → Bool
 ends_attempt (Begins alg) = true
-ends_attempt Waits = false
-ends_attempt Holds = false
-ends_attempt Works = false
-ends_attempt Promotes = false
 ends_attempt (Commits time) = true
 ends_attempt Reads = true
 ends_attempt Cancels = true
 ends_attempt Conflicts = true
 ends_attempt Overflows = true
-ends_attempt Closes = false
-ends_attempt Sees = false
-ends_attempt (Installs alg) = false
-ends_attempt Reopens = false
-ends_attempt Idles = false
-ends_attempt Finishes = false
+ends_attempt k = false

@@ -38,10 +38,7 @@ pub record IsDrawn (text said : List ℕ) : Type 0 where
 abbrev pub SaidOf : List ℕ → Status → List ℕ → Type 0
 SaidOf text Done said = IsDrawn text said
 SaidOf text (Refused line) said = (steps_of text ≡ Err line) × (said ≡ refused_line line)
-SaidOf text Usage said = ⊥
-SaidOf text ReadFault said = ⊥
-SaidOf text WriteFault said = ⊥
-SaidOf text Memory said = ⊥
+SaidOf text status said = ⊥
 
 -- how many bytes are read at most: one more than a text may have
 abbrev pub most_read : ℕ

@@ -43,15 +43,12 @@ StopHasWords (Full limit) = IsWord limit
 StopHasWords (ClockFull clock) = IsWord clock
 
 abbrev pub SaidHasWords : Said → Type 0
-SaidHasWords (TryBegin (Begun alg)) = Unit {0}
 SaidHasWords (TryBegin (Closed gate)) = IsWord gate
 SaidHasWords (TryBegin (Held word)) = IsWord word
 SaidHasWords (TryBegin (ClockFull clock)) = IsWord clock
 SaidHasWords (Reply op reply) = IsWord reply
 SaidHasWords (Stopped op stop) = StopHasWords stop
 SaidHasWords (TryCancel (Cancelled time)) = IsWord time
-SaidHasWords (TryCancel Irrevocable) = Unit {0}
-SaidHasWords (TryIrrevocable irrevs.Granted) = Unit {0}
 SaidHasWords (TryIrrevocable (irrevs.Busy caller status)) = IsWord caller × IsWord status
 SaidHasWords (TryIrrevocable (irrevs.Taken gate)) = IsWord gate
 SaidHasWords (TryIrrevocable (irrevs.Conflict cause)) = CauseHasWords cause
@@ -61,15 +58,10 @@ SaidHasWords (TryCommit (ReadOnly time)) = IsWord time
 SaidHasWords (TryCommit (Conflict cause)) = CauseHasWords cause
 SaidHasWords (TryCommit (Again word had now)) = IsWord word × IsWord had × IsWord now
 SaidHasWords (TryCommit (ClockFull clock)) = IsWord clock
-SaidHasWords (TryClose Closed) = Unit {0}
 SaidHasWords (TryClose (Taken gate)) = IsWord gate
-SaidHasWords (Looked Quiet) = Unit {0}
 SaidHasWords (Looked (Busy caller status)) = IsWord caller × IsWord status
-SaidHasWords (Installed alg) = Unit {0}
 SaidHasWords (Reserved reads writes) = IsWord reads × IsWord writes
-SaidHasWords Idle = Unit {0}
-SaidHasWords Dropped = Unit {0}
-SaidHasWords Reopened = Unit {0}
+SaidHasWords said = Unit {0}
 
 abbrev pub LinesHaveWords : List Line → Type 0
 LinesHaveWords [] = Unit {0}

@@ -1,5 +1,5 @@
 -- What a line does to its caller's attempt, and which operation of the script it tells of.
-use Rattle.std.specs.Prelude.{ℕ, Bool, true, false, List, [], ◌∷◌, Option, Some, None, bytes_eq, if◌then◌else◌, is_some}
+use Rattle.std.specs.Prelude.{Bool, true, false, List, [], ◌∷◌, Option, Some, None, bytes_eq, if◌then◌else◌, is_some}
 use Rattle.stm_script.specs.declared.op.Op.{Op}
 use Rattle.stm_script.specs.declared.op.Op.TheVariants.{Cancel, Irrev}
 use Rattle.stm_script.specs.Operations.{op_name}
@@ -15,30 +15,20 @@ use Rattle.draw_core.specs.declared.turn.Turn.TheVariants.{Begins, Does, Stops, 
 -- THE TABLE: what each answer does to its caller's attempt
 abbrev pub turn_of : Said → Turn
 turn_of (TryBegin (Begun alg)) = Begins
-turn_of (TryBegin (Closed gate)) = Stays
-turn_of (TryBegin (Held word)) = Stays
-turn_of (TryBegin (ClockFull clock)) = Stays
 turn_of (Reply op reply) = Does op
 turn_of (Stopped op stop) = Stops op
 turn_of (TryCancel (Cancelled time)) = Cancels
 turn_of (TryCancel Irrevocable) = Does Cancel
 turn_of (TryIrrevocable irrevs.Granted) = Grants
-turn_of (TryIrrevocable (irrevs.Busy caller status)) = Stays
 turn_of (TryIrrevocable (irrevs.Taken gate)) = Fails
 turn_of (TryIrrevocable (irrevs.Conflict cause)) = Fails
 turn_of (TryIrrevocable (irrevs.ClockFull clock)) = Fails
 turn_of (TryCommit (Committed time)) = Commits
 turn_of (TryCommit (ReadOnly time)) = Commits
 turn_of (TryCommit (Conflict cause)) = Fails
-turn_of (TryCommit (Again word had now)) = Stays
 turn_of (TryCommit (ClockFull clock)) = Fails
-turn_of (TryClose c) = Stays
-turn_of (Looked l) = Stays
-turn_of (Installed alg) = Stays
-turn_of (Reserved reads writes) = Stays
-turn_of Idle = Stays
 turn_of Dropped = Fails
-turn_of Reopened = Stays
+turn_of said = Stays
 
 -- where a caller stands: the scripts of its transactions that haven't ended; and of an open attempt, which runs the first of them, the operations still to come
 pub record Stand : Type 0 where
@@ -103,11 +93,6 @@ after at Stays = Some at
 
 -- the operation that the line tells of: its caller's next one
 abbrev pub told_by : Stand → Turn → Option Op
-told_by at Begins = None
 told_by at (Does like) = next_of at.attempt
 told_by at (Stops like) = next_of at.attempt
-told_by at Grants = None
-told_by at Cancels = None
-told_by at Commits = None
-told_by at Fails = None
-told_by at Stays = None
+told_by at t = None

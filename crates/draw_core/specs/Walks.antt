@@ -1,5 +1,5 @@
 -- A TRACE ALONG ITS WORKLOAD: a line of an operation tells of the one that comes next in its caller's script.
-use Rattle.std.specs.Prelude.{ℕ, zero, suc, ◌≡◌, ◌≤◌, ◌+◌, List, [], ◌∷◌, ◌++◌, drop, length, ltb, if◌then◌else◌, Option, Some, None, Result, Ok, Err, slice_index_or, slice_set}
+use Rattle.std.specs.Prelude.{ℕ, zero, suc, ◌≤◌, ◌+◌, List, [], ◌∷◌, ◌++◌, drop, length, ltb, if◌then◌else◌, Option, Some, None, Result, Ok, Err, slice_index_or, slice_set}
 use Rattle.stm_script.specs.declared.op.Op.{Op}
 use Rattle.stm_script.specs.declared.workload.Item.{Item}
 use Rattle.stm_script.specs.declared.workload.Version.{Version}

@@ -21,8 +21,12 @@ pub struct Cursor {
 /// The caller's next operation, and where it stands once that one is done.
 fn next_op(items: &[Item], caller: usize, cursor: Cursor) -> Option<(Op, Cursor)>
     requires { cursor.item ≤ length items.now }
-    ensures op { MatchOption result (next_of (stand_of items.now caller cursor).attempt ≡ None) (λ r. next_of (stand_of items.now caller cursor).attempt ≡ Some r.0) }
-    ensures past { IfSome result (λ r. stand_of items.now caller r.1 ≡ record (stand_of items.now caller cursor) { attempt = past_next (stand_of items.now caller cursor).attempt }) }
+    ensures op { MatchOption result (next_of (stand_of items.now caller cursor).attempt ≡ None)
+        (λ r. next_of (stand_of items.now caller cursor).attempt ≡ Some r.0) }
+    ensures past { IfSome result (λ r.
+        stand_of items.now caller r.1
+        ≡ record (stand_of items.now caller cursor)
+        { attempt = past_next (stand_of items.now caller cursor).attempt }) }
     ensures within { IfSome result (λ r. r.1.item ≤ length items.now) }
 {
     let done = cursor.done?;
@@ -41,8 +45,12 @@ fn next_op(items: &[Item], caller: usize, cursor: Cursor) -> Option<(Op, Cursor)
 /// The same, where that operation has the name of this one.
 fn next_like(items: &[Item], caller: usize, cursor: Cursor, like: Op) -> Option<(Op, Cursor)>
     requires { cursor.item ≤ length items.now }
-    ensures op { MatchOption result (is_next like (next_of (stand_of items.now caller cursor).attempt) ≡ false) (λ r. (is_next like (next_of (stand_of items.now caller cursor).attempt) ≡ true) × (next_of (stand_of items.now caller cursor).attempt ≡ Some r.0)) }
-    ensures past { IfSome result (λ r. stand_of items.now caller r.1 ≡ done (stand_of items.now caller cursor)) }
+    ensures op { MatchOption result
+        (is_next like (next_of (stand_of items.now caller cursor).attempt) ≡ false) (λ r.
+        (is_next like (next_of (stand_of items.now caller cursor).attempt) ≡ true)
+        × (next_of (stand_of items.now caller cursor).attempt ≡ Some r.0)) }
+    ensures past { IfSome result (λ r.
+        stand_of items.now caller r.1 ≡ done (stand_of items.now caller cursor)) }
     ensures within { IfSome result (λ r. r.1.item ≤ length items.now) }
 {
     let (op, past) = next_op(items, caller, cursor)?;
@@ -56,7 +64,10 @@ fn next_like(items: &[Item], caller: usize, cursor: Cursor, like: Op) -> Option<
 /// Where the caller stands in a new attempt: none is open, and a transaction is left.
 fn begin(items: &[Item], caller: usize, cursor: Cursor) -> Option<Cursor>
     requires { cursor.item ≤ length items.now }
-    ensures { MatchOption result (begun (stand_of items.now caller cursor).attempt (stand_of items.now caller cursor).scripts ≡ None) (λ c. (begun (stand_of items.now caller cursor).attempt (stand_of items.now caller cursor).scripts ≡ Some (stand_of items.now caller c)) × (c.item ≡ cursor.item)) }
+    ensures { MatchOption result (begun (stand_of items.now caller cursor).attempt
+        (stand_of items.now caller cursor).scripts ≡ None) (λ c.
+        (begun (stand_of items.now caller cursor).attempt (stand_of items.now caller cursor).scripts
+        ≡ Some (stand_of items.now caller c)) × (c.item ≡ cursor.item)) }
 {
     if cursor.done.is_some() {
         return None;
@@ -109,7 +120,8 @@ pub fn after(
     turn: Turn,
 ) -> Option<(Cursor, Option<Op>)>
     requires { cursor.item ≤ length items.now }
-    ensures is { MatchOption result (after (stand_of items.now caller cursor) turn ≡ None) (λ r. after (stand_of items.now caller cursor) turn ≡ Some (stand_of items.now caller r.0)) }
+    ensures is { MatchOption result (after (stand_of items.now caller cursor) turn ≡ None) (λ r.
+        after (stand_of items.now caller cursor) turn ≡ Some (stand_of items.now caller r.0)) }
     ensures told { IfSome result (λ r. r.1 ≡ told_by (stand_of items.now caller cursor) turn) }
     ensures within { IfSome result (λ r. r.0.item ≤ length items.now) }
 {

@@ -34,7 +34,8 @@ pub fn draw<S: Source, K: Sink>(
     sink: &mut K,
     why: &mut Option<String>,
 ) -> Status
-    ensures { IsOutcome S.left S.faults source.old source.new words K.held K.faults sink.old sink.new result }
+    ensures { IsOutcome S.left S.faults source.old source.new words K.held K.faults sink.old
+        sink.new result }
 {
     let Ok(saying) = drawn_of_source(alloc, words, source) else {
         return Status::Memory;
@@ -59,7 +60,8 @@ pub struct Saying {
 
 /// What is to be written, made whole before any of it is.
 fn drawn_of_source<S: Source>(alloc: Global, words: usize, source: &mut S) -> Result<Saying, Memory>
-    ensures says { IfOk result (λ s. Says S.left S.faults source.old source.new words s.status s.text.items) }
+    ensures says { IfOk result (λ s.
+        Says S.left S.faults source.old source.new words s.status s.text.items) }
     ensures lost { OnErr result (TookSome most_read (S.left source.old) (S.left source.new)) }
     ensures calm { OnErr result (S.faults source.new ≡ S.faults source.old) }
 {

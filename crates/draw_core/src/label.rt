@@ -15,7 +15,8 @@ use stm_trace::text::{put_one, put_said, put_stop, put_three, put_two};
 
 /// The number of a region, which version 1 leaves to the operation's name.
 fn put_region(text: &mut String, deed: Deed) -> Result<(), AllocError>
-    ensures { OnOk result (string_bytes text.new ≡ string_bytes text.old ++ spaced (region_numbers deed.version deed.op)) }
+    ensures { OnOk result (string_bytes text.new
+        ≡ string_bytes text.old ++ spaced (region_numbers deed.version deed.op)) }
 {
     match deed.version {
         Version::One => Ok(()),

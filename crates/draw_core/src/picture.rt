@@ -102,7 +102,8 @@ fn narrowed(time: u64) -> &'static str
 
 /// The words beside an install, and what closes them.
 fn put_install(text: &mut String, alg: Alg) -> Result<(), AllocError>
-    ensures { OnOk result (string_bytes text.new ≡ string_bytes text.old ++ (alg_name alg ++ codes " from here</text>\n")) }
+    ensures { OnOk result (string_bytes text.new
+        ≡ string_bytes text.old ++ (alg_name alg ++ codes " from here</text>\n")) }
 {
     text.push_str(alg.name())?;
     text.push_str(" from here</text>\n")
@@ -112,7 +113,8 @@ fn put_install(text: &mut String, alg: Alg) -> Result<(), AllocError>
 fn put_shape(text: &mut String, sheet: Sheet, shape: Shape) -> Result<(), AllocError>
     requires lanes { sheet.lanes ≤ 2 ^ 64 }
     requires rows { sheet.rows ≤ 2 ^ 64 }
-    ensures { OnOk result (string_bytes text.new ≡ string_bytes text.old ++ shape_bytes sheet shape) }
+    ensures { OnOk result
+        (string_bytes text.new ≡ string_bytes text.old ++ shape_bytes sheet shape) }
 {
     let wide = sheet.lanes * 216 + 16;
     let side = sheet.edge() + 14;
@@ -176,7 +178,9 @@ fn put_at(
     requires lanes { sheet.lanes ≤ 2 ^ 64 }
     requires rows { sheet.rows ≤ 2 ^ 64 }
     requires room { row + length rest.now + 1 < 2 ^ 64 }
-    ensures { OnOk result (string_bytes text.new ≡ string_bytes text.old ++ part_bytes sheet (shape_at sort row (box_of step) (boxes_of rest.now))) }
+    ensures { OnOk result (string_bytes text.new
+        ≡ string_bytes text.old
+        ++ part_bytes sheet (shape_at sort row (box_of step) (boxes_of rest.now))) }
 {
     match shape_at(sort, row, step, rest) {
         None => Ok(()),
@@ -188,7 +192,8 @@ fn put_at(
 fn put_layer(text: &mut String, sheet: Sheet, sort: Layer, lines: &[Step]) -> Result<(), AllocError>
     requires lanes { sheet.lanes ≤ 2 ^ 64 }
     requires rows { sheet.rows ≤ 2 ^ 64 }
-    ensures { OnOk result (string_bytes text.new ≡ string_bytes text.old ++ layer_bytes sheet sort 0 (boxes_of lines.now)) }
+    ensures { OnOk result (string_bytes text.new
+        ≡ string_bytes text.old ++ layer_bytes sheet sort 0 (boxes_of lines.now)) }
 {
     for (row, line) in lines.iter().enumerate() {
         put_at(text, sheet, sort, row, *line, &lines[row + 1..])?;
@@ -211,7 +216,8 @@ fn squeezed(words: &str) -> &'static str
 #[tactic(auto, unfolding(crate::specs::Texts::box_rect))]
 fn put_box_rect(text: &mut String, sheet: Sheet, row: usize, step: Step) -> Result<(), AllocError>
     requires { sheet.lanes ≤ 2 ^ 64 }
-    ensures { OnOk result (string_bytes text.new ≡ string_bytes text.old ++ box_rect sheet row (box_of step)) }
+    ensures { OnOk result
+        (string_bytes text.new ≡ string_bytes text.old ++ box_rect sheet row (box_of step)) }
 {
     let class = line_kind(step.line).class();
     let y = top(row) + 3;
@@ -231,7 +237,8 @@ fn put_box(
     step: Step,
 ) -> Result<(), AllocError>
     requires { sheet.lanes ≤ 2 ^ 64 }
-    ensures { OnOk result (string_bytes text.new ≡ string_bytes text.old ++ box_bytes sheet row (box_of step)) }
+    ensures { OnOk result
+        (string_bytes text.new ≡ string_bytes text.old ++ box_bytes sheet row (box_of step)) }
 {
     let words = label(alloc, step)?;
     let class = line_kind(step.line).class();
@@ -259,7 +266,8 @@ fn put_boxes(
     lines: &[Step],
 ) -> Result<(), AllocError>
     requires { sheet.lanes ≤ 2 ^ 64 }
-    ensures { OnOk result (string_bytes text.new ≡ string_bytes text.old ++ boxes_bytes sheet 0 (boxes_of lines.now)) }
+    ensures { OnOk result (string_bytes text.new
+        ≡ string_bytes text.old ++ boxes_bytes sheet 0 (boxes_of lines.now)) }
 {
     for (row, line) in lines.iter().enumerate() {
         put_box(alloc, text, sheet, row, *line)?;
@@ -270,7 +278,8 @@ fn put_boxes(
 /// What stands over a column.
 #[tactic(auto, unfolding(crate::specs::Texts::name_bytes))]
 fn put_name(text: &mut String, x: u128, words: &str) -> Result<(), AllocError>
-    ensures { OnOk result (string_bytes text.new ≡ string_bytes text.old ++ name_bytes x words.now) }
+    ensures { OnOk result
+        (string_bytes text.new ≡ string_bytes text.old ++ name_bytes x words.now) }
 {
     put_open(text, "name", "words", x, 28, "")?;
     text.push_str(words)?;
@@ -290,7 +299,8 @@ fn put_axis(text: &mut String, sheet: Sheet) -> Result<(), AllocError>
 
 #[tactic(auto, unfolding(crate::specs::Texts::page_bytes))]
 fn put_page(text: &mut String, width: u128, height: u128) -> Result<(), AllocError>
-    ensures { OnOk result (string_bytes text.new ≡ string_bytes text.old ++ page_bytes width height) }
+    ensures { OnOk result
+        (string_bytes text.new ≡ string_bytes text.old ++ page_bytes width height) }
 {
     write!(
         text,

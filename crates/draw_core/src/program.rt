@@ -65,7 +65,8 @@ fn exits<S: Source, K: Sink>(
     sink: &mut K,
     why: &mut Option<String>,
 ) -> (Status, ExitCode)
-    ensures { Exits S.left S.faults source.old source.new words K.held K.faults sink.old sink.new result.0 (exit_status result.1) }
+    ensures { Exits S.left S.faults source.old source.new words K.held K.faults sink.old sink.new
+        result.0 (exit_status result.1) }
 {
     let status = draw(alloc, words, source, sink, why);
     (status, ending(status))

@@ -44,7 +44,8 @@ impl<T: Drop> From<AllocFailed<T>> for ReadError {
 /// `Refused` with the first line at fault, `Memory` where it is refused.
 pub fn read_trace(alloc: Global, text: &[u8]) -> Result<Vec<Line>, ReadError>
     ensures told { IfOk result (λ t. trace_of text.now ≡ Ok t.items) }
-    ensures few { IfOk result (λ t. (length t.items ≤ length text.now) × (length text.now ≤ 134217728)) }
+    ensures few { IfOk result (λ t.
+        (length t.items ≤ length text.now) × (length text.now ≤ 134217728)) }
     ensures fault { IfErr result (λ e. IsFault e (trace_of text.now)) }
 {
     if MOST_DRAWN < text.len() {
@@ -90,9 +91,11 @@ fn reported(
     report: &[u8],
 ) -> Result<Vec<Line>, ReadError>
     requires { 1 ≤ number }
-    ensures told { IfOk result (λ t. reported told.items number (report_of report.now) ≡ Ok t.items) }
+    ensures told { IfOk result (λ t.
+        reported told.items number (report_of report.now) ≡ Ok t.items) }
     ensures same { IfOk result (λ t. t.items ≡ told.items) }
-    ensures fault { IfErr result (λ e. IsFault e (reported told.items number (report_of report.now))) }
+    ensures fault { IfErr result (λ e.
+        IsFault e (reported told.items number (report_of report.now))) }
 {
     match read_report(alloc, report) {
         Ok(_) => Ok(told),

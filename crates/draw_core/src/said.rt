@@ -28,7 +28,8 @@ pub const PLAIN: [Op; 8] = [
 
 /// The next word, where there is one, and the rest after it.
 fn next_word(rest: &[u8]) -> Option<(&[u8], &[u8])>
-    ensures { MatchOption result (words_left rest.now ≡ []) (λ n. words_left rest.now ≡ n.0.now ∷ words_left n.1.now) }
+    ensures { MatchOption result (words_left rest.now ≡ []) (λ n.
+        words_left rest.now ≡ n.0.now ∷ words_left n.1.now) }
 {
     if rest.is_empty() {
         return None;

@@ -53,7 +53,8 @@ impl<T: Drop> From<AllocFailed<T>> for StepsError {
 
 /// Where the callers stand at first.
 fn first_cursors(alloc: Global, callers: usize) -> Result<Vec<Cursor>, AllocError>
-    ensures is { IfOk result (λ c. (items : List Item) → stands_of items 0 c.items ≡ first_stands items callers) }
+    ensures is { IfOk result (λ c.
+        (items : List Item) → stands_of items 0 c.items ≡ first_stands items callers) }
     ensures within { IfOk result (λ c. (items : List Item) → AreWithin items c.items) }
 {
     let first = Cursor {
@@ -66,7 +67,10 @@ fn first_cursors(alloc: Global, callers: usize) -> Result<Vec<Cursor>, AllocErro
 /// The operation that a line tells of, and its caller's cursor after it. None where the line may not come there.
 fn step_of(version: Version, items: &[Item], cursors: &mut [Cursor], line: Line) -> Option<Step>
     requires { AreWithin items.now cursors.old }
-    ensures is { MatchOption result (goes version (stands_of items.now 0 cursors.old) line ≡ None) (λ s. goes version (stands_of items.now 0 cursors.old) line ≡ Some (s, stands_of items.now 0 cursors.new)) }
+    ensures is { MatchOption result (goes version (stands_of items.now 0 cursors.old) line ≡ None)
+        (λ s.
+        goes version (stands_of items.now 0 cursors.old) line
+        ≡ Some (s, stands_of items.now 0 cursors.new)) }
     ensures within { AreWithin items.now cursors.new }
 {
     match line {
@@ -105,8 +109,12 @@ pub fn steps(
     lines: &[Line],
 ) -> Result<Vec<Step>, StepsError>
     requires { above + length lines.now + 1 < 2 ^ 64 }
-    ensures told { IfOk result (λ t. walked workload.now.header.version [] (above + 1) (first_stands workload.now.items workload.now.header.callers) lines.now ≡ Ok t.items) }
-    ensures fault { IfErr result (λ e. IsStepsFault e (walked workload.now.header.version [] (above + 1) (first_stands workload.now.items workload.now.header.callers) lines.now)) }
+    ensures told { IfOk result (λ t.
+        walked workload.now.header.version [] (above + 1)
+        (first_stands workload.now.items workload.now.header.callers) lines.now ≡ Ok t.items) }
+    ensures fault { IfErr result (λ e.
+        IsStepsFault e (walked workload.now.header.version [] (above + 1)
+        (first_stands workload.now.items workload.now.header.callers) lines.now)) }
 {
     let items = workload.items.as_slice();
     let version = workload.header.version;

@@ -53,8 +53,12 @@ fn read_alone(alloc: Global, text: &[u8]) -> Result<Vec<Step>, StepsError>
 
 /// A workload's text, and then that of its trace.
 fn read_both(alloc: Global, head: &[u8], behind: &[u8]) -> Result<Vec<Step>, StepsError>
-    ensures told { IfOk result (λ t. both (workload_of Stepwise head.now) (length (lines_of head.now)) (trace_of behind.now) ≡ Ok t.items) }
-    ensures fault { IfErr result (λ e. IsStepsFault e (both (workload_of Stepwise head.now) (length (lines_of head.now)) (trace_of behind.now))) }
+    ensures told { IfOk result (λ t.
+        both (workload_of Stepwise head.now) (length (lines_of head.now)) (trace_of behind.now)
+        ≡ Ok t.items) }
+    ensures fault { IfErr result (λ e.
+        IsStepsFault e
+        (both (workload_of Stepwise head.now) (length (lines_of head.now)) (trace_of behind.now))) }
 {
     match parse(alloc, head, Mode::Step) {
         Ok(workload) => read_below(alloc, &workload, count_lines(head), behind),
@@ -72,7 +76,8 @@ fn read_below(
 ) -> Result<Vec<Step>, StepsError>
     requires { above < 2 ^ 63 }
     ensures told { IfOk result (λ t. below workload.now above (trace_of text.now) ≡ Ok t.items) }
-    ensures fault { IfErr result (λ e. IsStepsFault e (below workload.now above (trace_of text.now))) }
+    ensures fault { IfErr result (λ e.
+        IsStepsFault e (below workload.now above (trace_of text.now))) }
 {
     match read_trace(alloc, text) {
         Ok(lines) => steps(alloc, workload, above, lines.as_slice()),

@@ -15,7 +15,8 @@ pub fn put_rect(
     width: u128,
     height: u128,
 ) -> Result<(), AllocError>
-    ensures { OnOk result (string_bytes text.new ≡ string_bytes text.old ++ rect_bytes class.now kind.now x y width height) }
+    ensures { OnOk result (string_bytes text.new
+        ≡ string_bytes text.old ++ rect_bytes class.now kind.now x y width height) }
 {
     write!(text, "<rect class='{class} {kind}' x='{x}' y='{y}")?;
     write!(text, "' width='{width}' height='{height}' rx='4'/>\n")
@@ -31,7 +32,8 @@ pub fn put_open(
     y: u128,
     more: &str,
 ) -> Result<(), AllocError>
-    ensures { OnOk result (string_bytes text.new ≡ string_bytes text.old ++ open_bytes class.now kind.now x y more.now) }
+    ensures { OnOk result (string_bytes text.new
+        ≡ string_bytes text.old ++ open_bytes class.now kind.now x y more.now) }
 {
     write!(text, "<text class='{class} {kind}' x='{x}' y='{y}'{more}>")
 }

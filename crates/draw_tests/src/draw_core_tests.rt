@@ -19,11 +19,15 @@ use stm_trace::said::Said;
 use stm_trace::text::trace_text;
 
 const TRACE: &str =
-    "0 begin OrecLazy\n0 read 0\n1 begin OrecLazy\n1 irrev busy 0 1\n0 read conflict record 3 8 2\n1 irrev granted\n1 write 5\n1 commit committed 1\n0 close closed\n1 begin closed 258\n0 look quiet\n0 install TML\nfinish\n";
+    "0 begin OrecLazy\n0 read 0\n1 begin OrecLazy\n1 irrev busy 0 1\n0 read conflict record 3 8 2\n1 irrev granted\n\
+     1 write 5\n1 commit committed 1\n0 close closed\n1 begin closed 258\n0 look quiet\n0 install TML\nfinish\n";
 
 /// A workload of every kind of operation that a caller's label tells apart, in version 2.
 const WORKLOAD: &str =
-    "stm 2\nwords 64\ncallers 2\nrecords 8\nring 8\nreads 16\nwrites 16\nclock 0\nalg CGL\nregions 3\nregion counter 8 2\nregion list 10 2\nregion summap 16 2\npolicy fixed\ntx 1\nread 3\nmove 0 1 2\ntotal 0\nend\nswitch 0 TML\ntx 0\nladd 1 7\nirrev\nemit 4\nmput 2 5 6\nend\ntx 0\ncancel\nadd 1 18446744073709551615\nend\ndone\n";
+    "stm 2\nwords 64\ncallers 2\nrecords 8\nring 8\nreads 16\nwrites 16\nclock 0\nalg CGL\nregions 3\n\
+     region counter 8 2\nregion list 10 2\nregion summap 16 2\npolicy fixed\ntx 1\nread 3\nmove 0 1 2\ntotal 0\n\
+     end\nswitch 0 TML\ntx 0\nladd 1 7\nirrev\nemit 4\nmput 2 5 6\nend\ntx 0\ncancel\nadd 1 18446744073709551615\n\
+     end\ndone\n";
 
 /// The fault of a workload and a trace of it, where it has one.
 fn unfit(read: Result<Vec<Step>, StepsError>) -> Option<usize> {
@@ -191,7 +195,9 @@ fn traces_follow_their_scripts(rt: HostRuntime) -> Result<(), Fail> {
 fn labels_have_the_operation_and_the_reply(rt: HostRuntime) -> Result<(), Fail> {
     let mut text = WORKLOAD.to_string(rt.alloc())?;
     text.push_str(
-        "1 begin TML\n1 read 9\n1 move 1\n1 total conflict clock 1 2\n0 begin TML\n0 ladd 1\n0 irrev granted\n0 emit 8\n0 mput 0\n0 commit committed 2\n0 begin TML\n0 cancel irrevocable\n0 add full 3\nfinish\nclock full 9\n",
+        "1 begin TML\n1 read 9\n1 move 1\n1 total conflict clock 1 2\n0 begin TML\n0 ladd 1\n0 irrev granted\n\
+         0 emit 8\n0 mput 0\n0 commit committed 2\n0 begin TML\n0 cancel irrevocable\n0 add full 3\nfinish\n\
+         clock full 9\n",
     )?;
     let steps = read_steps(rt.alloc(), text.as_bytes())?;
     let told = [

@@ -46,7 +46,8 @@ filled x (a ∷ b ∷ c ∷ d ∷ e ∷ m) len = absurd (omega (arith, len))
 pub filling-good : (x : ℕ) (m : List ℕ) → x ≤ 2 → m ≡ filling x → IsFilling m
 filling-good x m few is = subst IsFilling (sym is) (refl, few)
 
-seen-whole : (when : ℕ → Type 0) (u w : CallerState) (history : List Entry) (sight : Sight) → ((at : ℕ) → u.front ≤ at → at ≤ w.front → when at) → Happened IsFilling CONFIG (Saw sight) u w history → SeenWhole when history sight
+seen-whole : (when : ℕ → Type 0) (u w : CallerState) (history : List Entry) (sight : Sight)
+    → ((at : ℕ) → u.front ≤ at → at ≤ w.front → when at) → Happened IsFilling CONFIG (Saw sight) u w history → SeenWhole when history sight
 seen-whole when u w history sight due h =
     let m : List ℕ = memory_at h.at history (filling 0) in
     let ends = h.told.1 m h.read in

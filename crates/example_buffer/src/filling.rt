@@ -44,7 +44,8 @@ fn take<R: Wait>(rt: &R, desc: &mut Desc<Buffer>, stm: &Stm<Buffer>) -> bool
     ensures same { IsSameCaller desc.old desc.new }
     ensures idle { IsIdle (known desc.new) }
     ensures held { (known desc.new).fenced.held ≡ result }
-    ensures words { result ≡ true → (a : ℕ) → fenced (known desc.new).fenced.number a ≡ is_within 0 4 a }
+    ensures words { result ≡ true → (a : ℕ)
+        → fenced (known desc.new).fenced.number a ≡ is_within 0 4 a }
     ensures unwritten { result ≡ true → (known desc.new).fenced.log.writes ≡ [] }
 {
     close_alone(rt, desc, stm);

@@ -141,7 +141,9 @@ module _ (plan : Plan) (f : ℕ → ℕ) where
       omega (arith, fewer, more, all, part)
 
   -- and who gives all of them gives them all
-  pub all-given : (n : ℕ) (hs : List (Answer Hand)) → plan.producers ≤ n + length hs → ((i : ℕ) (a : Answer Hand) → i < length hs → (get_or hs i a).value.gave ≡ quota plan (n + i)) → worth_in f (given_from plan n hs) ≡ owned n
+  pub all-given : (n : ℕ) (hs : List (Answer Hand)) → plan.producers ≤ n + length hs
+      → ((i : ℕ) (a : Answer Hand) → i < length hs → (get_or hs i a).value.gave ≡ quota plan (n + i))
+      → worth_in f (given_from plan n hs) ≡ owned n
   all-given n [] many full =
       let none : plan.producers - n ≡ 0 = omega (arith, many) in
       let nothing : 0 * plan.each ≡ 0 = omega arith in

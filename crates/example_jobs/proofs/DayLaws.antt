@@ -92,7 +92,10 @@ module _ (alg : Alg) (plan : Plan) (day : ClosedMemory Hand) where
           subst (λ es. AreDeeds (queue_of plan) (plan.room + 2) es (get_or (given_in plan day) n []) (get_or (taken_in day) n [])) (sym none) (gave, took)
 
   -- no job is there twice, in what was taken and what waits
-  once : (job : ℕ) (given taken left : List ℕ) → times job given ≡ times_in job (given_in plan day) → times job taken ≡ times_in job (taken_in day) → given ≡ taken ++ left → ((n : ℕ) (a : Answer Hand) → n < length (hands day) → (get_or (hands day) n a).value.gave ≤ quota plan n) → times_in job (taken_in day) + times job left ≤ 1
+  once : (job : ℕ) (given taken left : List ℕ) → times job given ≡ times_in job (given_in plan day)
+      → times job taken ≡ times_in job (taken_in day) → given ≡ taken ++ left
+      → ((n : ℕ) (a : Answer Hand) → n < length (hands day) → (get_or (hands day) n a).value.gave ≤ quota plan n)
+      → times_in job (taken_in day) + times job left ≤ 1
   once job given taken left gs ts order own =
       let all : times job given ≡ times job taken + times job left = ap (times job) order ∙ worth-append (λ y. one_if (y == job)) taken left in
       let bound = given-owned plan (λ y. one_if (y == job)) 0 (hands day) (λ i a lt. let at : i ≡ 0 + i = omega arith in subst (λ k. (get_or (hands day) i a).value.gave ≤ quota plan k) at (own i a lt)) in
@@ -118,7 +121,10 @@ module _ (alg : Alg) (plan : Plan) (day : ClosedMemory Hand) where
         each_taken = o.each_taken;
         in_order = order;
         own = own;
-        once = λ job. once job o.given o.taken (left_in plan day) (merge-worth (λ y. one_if (y == job)) o.given (given_in plan day) o.each_given) (merge-worth (λ y. one_if (y == job)) o.taken (taken_in day) o.each_taken) order own;
+        once =
+            λ job.
+            once job o.given o.taken (left_in plan day) (merge-worth (λ y. one_if (y == job)) o.given (given_in plan day) o.each_given)
+            (merge-worth (λ y. one_if (y == job)) o.taken (taken_in day) o.each_taken) order own;
       }
 
 module _ (plan : Plan) (day : ClosedMemory Hand) where
@@ -151,7 +157,8 @@ module _ (plan : Plan) (day : ClosedMemory Hand) where
               zero_of ∙ sym here
 
   -- each job was taken once, and their numbers add up
-  pub taken-once : IsDay plan day → IsWhole plan day → count (queue_of plan) day.words.items ≡ 0 → ((i : ℕ) (a : Answer Hand) → i < plan.producers → (get_or (hands day) i a).value.gave ≡ plan.each) → EachTakenOnce plan day
+  pub taken-once : IsDay plan day → IsWhole plan day → count (queue_of plan) day.words.items ≡ 0
+      → ((i : ℕ) (a : Answer Hand) → i < plan.producers → (get_or (hands day) i a).value.gave ≡ plan.each) → EachTakenOnce plan day
   taken-once d whole none full job = taken-all (λ y. one_if (y == job)) d whole none full
 
   pub taken-sum : IsDay plan day → IsWhole plan day → count (queue_of plan) day.words.items ≡ 0 → ((i : ℕ) (a : Answer Hand) → i < plan.producers → (get_or (hands day) i a).value.gave ≡ plan.each)

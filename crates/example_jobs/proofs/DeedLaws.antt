@@ -38,14 +38,20 @@ module _ (q : Queue) (words : ℕ) where
 put-wrote : (q : Queue) (job : ℕ) (m : List ℕ) → ((put_in q job m).reply ≡ Added → (put_in q job m).wrote ≡ true) × ((put_in q job m).reply ≡ NoRoom → (put_in q job m).wrote ≡ false)
 put-wrote q job m = by (leb q.cells (count q m))
   where
-    by : (b : Bool) → ((if b then unchanged NoRoom m else changed Added (enqueued q job m)).reply ≡ Added → (if b then unchanged NoRoom m else changed Added (enqueued q job m)).wrote ≡ true) × ((if b then unchanged NoRoom m else changed Added (enqueued q job m)).reply ≡ NoRoom → (if b then unchanged NoRoom m else changed Added (enqueued q job m)).wrote ≡ false)
+    by : (b : Bool)
+        → ((if b then unchanged NoRoom m else changed Added (enqueued q job m)).reply ≡ Added
+        → (if b then unchanged NoRoom m else changed Added (enqueued q job m)).wrote ≡ true)
+        × ((if b then unchanged NoRoom m else changed Added (enqueued q job m)).reply ≡ NoRoom
+        → (if b then unchanged NoRoom m else changed Added (enqueued q job m)).wrote ≡ false)
     by true = ((λ e. absurd cc), (λ e. refl))
     by false = ((λ e. refl), (λ e. absurd cc))
 
 got-wrote : (q : Queue) (job : ℕ) (m : List ℕ) → ((got_in q m).reply ≡ Some job → (got_in q m).wrote ≡ true) × ((got_in q m).reply ≡ None → (got_in q m).wrote ≡ false)
 got-wrote q job m = by (count q m == 0)
   where
-    by : (b : Bool) → ((if b then unchanged None m else changed (Some (cell q m (front q m))) (dequeued q m)).reply ≡ Some job → (if b then unchanged None m else changed (Some (cell q m (front q m))) (dequeued q m)).wrote ≡ true)
+    by : (b : Bool)
+        → ((if b then unchanged None m else changed (Some (cell q m (front q m))) (dequeued q m)).reply ≡ Some job
+        → (if b then unchanged None m else changed (Some (cell q m (front q m))) (dequeued q m)).wrote ≡ true)
         × ((if b then unchanged None m else changed (Some (cell q m (front q m))) (dequeued q m)).reply ≡ None → (if b then unchanged None m else changed (Some (cell q m (front q m))) (dequeued q m)).wrote ≡ false)
     by true = ((λ e. absurd cc), (λ e. refl))
     by false = ((λ e. refl), (λ e. absurd cc))

@@ -26,9 +26,14 @@ later floor [] k d asc lt = absurd (omega arith)
 later floor (x ∷ es) zero d asc lt = asc.0
 later floor (x ∷ es) (suc k) d asc lt = let a = asc.0 in let h = later x.time es k d asc.1 (omega arith) in omega arith
 
-pub legal-steps : (good : List ℕ → Type 0) (es : List Entry) (floor : ℕ) (m : List ℕ) → Ascending floor es → All (λ e. Explains (memory_at (e.time - 1) es m) e.reads) es → ((s : ℕ) → good (memory_at s es m)) → Steps good m es
+pub legal-steps : (good : List ℕ → Type 0) (es : List Entry) (floor : ℕ) (m : List ℕ) → Ascending floor es
+    → All (λ e. Explains (memory_at (e.time - 1) es m) e.reads) es → ((s : ℕ) → good (memory_at s es m)) → Steps good m es
 legal-steps good [] floor m asc reads goods = tt
-legal-steps good (e ∷ es) floor m asc reads goods = (subst good same (goods (e.time - 1)), subst (λ k. Explains k e.reads) same (reads 0 e (omega arith)), legal-steps good es e.time (overlay m e.writes) asc.1 more_reads more_goods)
+legal-steps good (e ∷ es) floor m asc reads goods = (
+  subst good same (goods (e.time - 1)),
+  subst (λ k. Explains k e.reads) same (reads 0 e (omega arith)),
+  legal-steps good es e.time (overlay m e.writes) asc.1 more_reads more_goods,
+)
   where
     same : memory_at (e.time - 1) (e ∷ es) m ≡ m
     same = memory_at-early (e.time - 1) (e.time - 1) (e ∷ es) m (omega arith) ((let a = asc.0 in omega arith), asc.1)
@@ -103,10 +108,14 @@ module _ (q : Queue) (words : ℕ) (fits : QueueFits q words) (puts : PutsLast) 
           is ∙ (ap (λ x. x ∷ vs) (sym same) ∙ ap (λ l. job ∷ l) (sym left))
 
   -- the first entry is a caller's first deed, and the others are the others
-  others-give : (e : Entry) (es : List Entry) (gs ts : List (List ℕ)) (job : ℕ) (rest : List ℕ) → Deeds q words (e ∷ es) gs ts → get_or gs e.caller [] ≡ job ∷ rest → AreDeeds q words (made_by e.caller es) rest (get_or ts e.caller []) → Deeds q words es (set gs e.caller rest) ts
+  others-give : (e : Entry) (es : List Entry) (gs ts : List (List ℕ)) (job : ℕ) (rest : List ℕ) → Deeds q words (e ∷ es) gs ts
+      → get_or gs e.caller [] ≡ job ∷ rest → AreDeeds q words (made_by e.caller es) rest (get_or ts e.caller [])
+      → Deeds q words es (set gs e.caller rest) ts
   others-give e es gs ts job rest deeds is more k = by (e.caller == k) refl (deeds k)
     where
-      by : (b : Bool) → e.caller == k ≡ b → AreDeeds q words (if b then e ∷ made_by k es else made_by k es) (get_or gs k []) (get_or ts k []) → AreDeeds q words (made_by k es) (get_or (set gs e.caller rest) k []) (get_or ts k [])
+      by : (b : Bool) → e.caller == k ≡ b
+          → AreDeeds q words (if b then e ∷ made_by k es else made_by k es) (get_or gs k []) (get_or ts k [])
+          → AreDeeds q words (made_by k es) (get_or (set gs e.caller rest) k []) (get_or ts k [])
       by true same d =
           let here : e.caller ≡ k = grind (arith, nat_tests) in
           let at : get_or (set gs e.caller rest) e.caller [] ≡ rest = get_or-set_same gs e.caller rest [] (in-bounds gs e.caller job rest is) in
@@ -115,10 +124,14 @@ module _ (q : Queue) (words : ℕ) (fits : QueueFits q words) (puts : PutsLast) 
           let elsewhere : k ≢ e.caller = grind (arith, nat_tests) in
           subst (λ l. AreDeeds q words (made_by k es) l (get_or ts k [])) (sym (get_or-set_other gs e.caller k rest [] elsewhere)) d
 
-  others-take : (e : Entry) (es : List Entry) (gs ts : List (List ℕ)) (job : ℕ) (rest : List ℕ) → Deeds q words (e ∷ es) gs ts → get_or ts e.caller [] ≡ job ∷ rest → AreDeeds q words (made_by e.caller es) (get_or gs e.caller []) rest → Deeds q words es gs (set ts e.caller rest)
+  others-take : (e : Entry) (es : List Entry) (gs ts : List (List ℕ)) (job : ℕ) (rest : List ℕ) → Deeds q words (e ∷ es) gs ts
+      → get_or ts e.caller [] ≡ job ∷ rest → AreDeeds q words (made_by e.caller es) (get_or gs e.caller []) rest
+      → Deeds q words es gs (set ts e.caller rest)
   others-take e es gs ts job rest deeds is more k = by (e.caller == k) refl (deeds k)
     where
-      by : (b : Bool) → e.caller == k ≡ b → AreDeeds q words (if b then e ∷ made_by k es else made_by k es) (get_or gs k []) (get_or ts k []) → AreDeeds q words (made_by k es) (get_or gs k []) (get_or (set ts e.caller rest) k [])
+      by : (b : Bool) → e.caller == k ≡ b
+          → AreDeeds q words (if b then e ∷ made_by k es else made_by k es) (get_or gs k []) (get_or ts k [])
+          → AreDeeds q words (made_by k es) (get_or gs k []) (get_or (set ts e.caller rest) k [])
       by true same d =
           let here : e.caller ≡ k = grind (arith, nat_tests) in
           let at : get_or (set ts e.caller rest) e.caller [] ≡ rest = get_or-set_same ts e.caller rest [] (in-bounds ts e.caller job rest is) in
@@ -128,8 +141,13 @@ module _ (q : Queue) (words : ℕ) (fits : QueueFits q words) (puts : PutsLast) 
           subst (λ l. AreDeeds q words (made_by k es) (get_or gs k []) l) (sym (get_or-set_other ts e.caller k rest [] elsewhere)) d
 
   -- one entry more, before those that are in order
-  order-more : (e : Entry) (es : List Entry) (m : List ℕ) (gs ts : List (List ℕ)) → length m ≡ words → Steps (IsQueue q) m (e ∷ es) → Deeds q words (e ∷ es) gs ts → ((fs us : List (List ℕ)) → Deeds q words es fs us → Orders q (overlay m e.writes) es fs us) → Orders q m (e ∷ es) gs ts
-  order-more e es m gs ts long steps deeds go = by (subst (λ b. AreDeeds q words (if b then e ∷ made_by e.caller es else made_by e.caller es) (get_or gs e.caller []) (get_or ts e.caller [])) (equal e.caller) (deeds e.caller))
+  order-more : (e : Entry) (es : List Entry) (m : List ℕ) (gs ts : List (List ℕ)) → length m ≡ words → Steps (IsQueue q) m (e ∷ es)
+      → Deeds q words (e ∷ es) gs ts → ((fs us : List (List ℕ)) → Deeds q words es fs us → Orders q (overlay m e.writes) es fs us)
+      → Orders q m (e ∷ es) gs ts
+  order-more e es m gs ts long steps deeds go =
+      by (subst
+      (λ b. AreDeeds q words (if b then e ∷ made_by e.caller es else made_by e.caller es) (get_or gs e.caller []) (get_or ts e.caller []))
+      (equal e.caller) (deeds e.caller))
     where
       by : AreDeeds q words (e ∷ made_by e.caller es) (get_or gs e.caller []) (get_or ts e.caller []) → Orders q m (e ∷ es) gs ts
       by (inl p) =

@@ -68,7 +68,8 @@ times x xs = count_by (λ y. y == x) xs
 abbrev pub times_in : ℕ → List (List ℕ) → ℕ
 times_in x lists = sum_by (λ xs. times x xs) lists
 
--- The jobs were given in one order, in which each producer's stand in its own, and taken in one order, in which each worker's stand in its own. Those that were taken are the first of those that were given; the others wait. No job was taken twice, or taken and waits.
+-- The jobs were given in one order, in which each producer's stand in its own, and taken in one order, in which each worker's stand in its
+-- own. Those that were taken are the first of those that were given; the others wait. No job was taken twice, or taken and waits.
 pub record IsDay (plan : Plan) (day : ClosedMemory Hand) : Type 0 where
   pub given : List ℕ
   pub each_given : IsMerge given (given_in plan day)

@@ -45,7 +45,9 @@ pub fn is_done(plan: &Plan, day: &ClosedMemory<Hand>) -> bool
     requires whole { IsWhole plan.now day.now }
     requires day { IsDay plan.now day.now }
     ensures once { result ≡ true → EachTakenOnce plan.now day.now }
-    ensures sum { result ≡ true → sum_taken day.now.answers.items ≡ sum (range_with_len 1 (plan.now.producers * plan.now.each)) }
+    ensures sum { result ≡ true
+        → sum_taken day.now.answers.items
+        ≡ sum (range_with_len 1 (plan.now.producers * plan.now.each)) }
 {
     let mut done = day.words[1] == 0;
     for i in 0..plan.producers {

@@ -60,11 +60,13 @@ impl<R: Wait> Job<R, Jobs> for Shift {
 
 /// Gives so many jobs from `first` on. Answers how many it gave.
 fn give_all<R: Wait>(caller: &mut Caller<'_, R, Jobs>, first: u32, count: u32) -> u32
-    requires precondition { QueueFits caller.old.stm.now.rule.waiting caller.old.stm.now.config.words }
+    requires precondition { QueueFits caller.old.stm.now.rule.waiting
+        caller.old.stm.now.config.words }
     requires numbers { first + count < 2 ^ 32 }
     ensures worked { HasWorked caller.old.desc caller.new.desc }
     ensures count { result ≤ count }
-    ensures gave { HasDone caller.old.stm.now.rule.waiting caller.old.stm.now.config.words (range_with_len first result) [] (known caller.old.desc).made (known caller.new.desc).made }
+    ensures gave { HasDone caller.old.stm.now.rule.waiting caller.old.stm.now.config.words
+        (range_with_len first result) [] (known caller.old.desc).made (known caller.new.desc).made }
 {
     for i in 0..count {
         if !give(caller, first + i) {
@@ -76,10 +78,13 @@ fn give_all<R: Wait>(caller: &mut Caller<'_, R, Jobs>, first: u32, count: u32) -
 
 /// Gives a job, as soon as there is room. Answers whether it did.
 fn give<R: Wait>(caller: &mut Caller<'_, R, Jobs>, job: u32) -> bool
-    requires precondition { QueueFits caller.old.stm.now.rule.waiting caller.old.stm.now.config.words }
+    requires precondition { QueueFits caller.old.stm.now.rule.waiting
+        caller.old.stm.now.config.words }
     ensures worked { HasWorked caller.old.desc caller.new.desc }
     ensures same { caller.new.stm ≡ caller.old.stm }
-    ensures gave { HasDone caller.old.stm.now.rule.waiting caller.old.stm.now.config.words (if result then job ∷ [] else []) [] (known caller.old.desc).made (known caller.new.desc).made }
+    ensures gave { HasDone caller.old.stm.now.rule.waiting caller.old.stm.now.config.words
+        (if result then job ∷ [] else []) [] (known caller.old.desc).made
+        (known caller.new.desc).made }
 {
     let mut backoff = Backoff::new();
     for _ in 0..PATIENCE {
@@ -95,9 +100,11 @@ fn give<R: Wait>(caller: &mut Caller<'_, R, Jobs>, job: u32) -> bool
 /// Takes so many jobs, whichever come, and lists them. It takes none where it is refused memory for the list: then not all
 /// jobs are taken, and producers may lose their patience.
 fn take_share<R: Wait>(caller: &mut Caller<'_, R, Jobs>, alloc: Global, share: usize) -> Vec<u32>
-    requires precondition { QueueFits caller.old.stm.now.rule.waiting caller.old.stm.now.config.words }
+    requires precondition { QueueFits caller.old.stm.now.rule.waiting
+        caller.old.stm.now.config.words }
     ensures worked { HasWorked caller.old.desc caller.new.desc }
-    ensures took { HasDone caller.old.stm.now.rule.waiting caller.old.stm.now.config.words [] result.items (known caller.old.desc).made (known caller.new.desc).made }
+    ensures took { HasDone caller.old.stm.now.rule.waiting caller.old.stm.now.config.words []
+        result.items (known caller.old.desc).made (known caller.new.desc).made }
 {
     let Ok(mut took) = Vec::with_capacity(alloc, share) else {
         return Vec::new(alloc);
@@ -113,10 +120,12 @@ fn take_share<R: Wait>(caller: &mut Caller<'_, R, Jobs>, alloc: Global, share: u
 
 /// Takes a job, as soon as there is one.
 fn take<R: Wait>(caller: &mut Caller<'_, R, Jobs>) -> Option<u32>
-    requires precondition { QueueFits caller.old.stm.now.rule.waiting caller.old.stm.now.config.words }
+    requires precondition { QueueFits caller.old.stm.now.rule.waiting
+        caller.old.stm.now.config.words }
     ensures worked { HasWorked caller.old.desc caller.new.desc }
     ensures same { caller.new.stm ≡ caller.old.stm }
-    ensures took { HasDone caller.old.stm.now.rule.waiting caller.old.stm.now.config.words [] (listed result) (known caller.old.desc).made (known caller.new.desc).made }
+    ensures took { HasDone caller.old.stm.now.rule.waiting caller.old.stm.now.config.words []
+        (listed result) (known caller.old.desc).made (known caller.new.desc).made }
 {
     let mut backoff = Backoff::new();
     for _ in 0..PATIENCE {

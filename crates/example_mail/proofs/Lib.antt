@@ -1,0 +1,3 @@
+pub mod DeedLaws
+pub mod CountLaws
+pub mod DayLaws

@@ -1,8 +1,12 @@
 //! What callers do: the first two post, and the others receive.
 ghost use Rattle.nekchhaul.specs.Callers.{HasWorked};
-ghost use Rattle.std.specs.Prelude.{◌≡◌, ◌<◌, ◌≤◌, ◌+◌, ◌^◌};
+ghost use Rattle.nekchhaul.specs.Descs.{known};
+ghost use Rattle.std.specs.Prelude.{◌≡◌, ◌<◌, ◌≤◌, ◌+◌, ◌^◌, [], ◌∷◌, if◌then◌else◌};
 ghost use Rattle.mailbox.specs.Mail.{Fits};
+ghost use Rattle.mailbox.specs.Deeds.{HasDone, Posted, receipts};
+ghost use Rattle.example_mail.specs.Shares.{posts, listed};
 
+use mailbox::laws::messages_come_in_order;
 use mailbox::mail::{Mailbox, Post, Take};
 use nekchhaul::parts::or_else::OrElse;
 use nekchhaul::parts::whole::{Awaited, Whole};
@@ -16,6 +20,13 @@ const EACH: u32 = 300;
 /// They are numbered from 0 on, those of producer 0 first.
 pub const MESSAGES: u32 = 2 * EACH;
 
+/// What a caller posted and received: so many of its messages, from its first on, and these, in its order.
+#[derive(Drop)]
+pub struct Share {
+    pub posted: u32,
+    pub received: Vec<u32>,
+}
+
 /// Callers 0 and 1 post, and callers 2 and 3 receive.
 #[derive(Clone, Copy, Drop)]
 pub struct Clerks {
@@ -23,39 +34,64 @@ pub struct Clerks {
 }
 
 impl<R: Wait> Job<R, Mailbox> for Clerks {
+    ghost use Rattle.std.specs.Prelude.{◌≤◌};
     ghost use Rattle.mailbox.specs.Mail.{Fits};
+    ghost use Rattle.mailbox.specs.Deeds.{HasDone};
+    ghost use Rattle.example_mail.specs.Shares.{quota, done_by};
 
-    /// The messages that the caller received, in its order.
-    type Output = Vec<u32>;
+    type Output = Share;
 
     ghost precondition = { λ job mailbox words. Fits mailbox words };
 
-    fn work(&self, caller: &mut Caller<'_, R, Mailbox>) -> Vec<u32> {
-        match caller.number() {
-            0 => post_all(caller, self.alloc, 0),
-            1 => post_all(caller, self.alloc, EACH),
-            _ => receive_all(caller, self.alloc),
+    // it posted the first of its messages, no more than there are, and received the messages that it lists
+    ghost postcondition = { λ job mailbox words caller share before after. (share.posted ≤ quota caller) × HasDone mailbox words (done_by caller share) before.made after.made };
+
+    fn work(&self, caller: &mut Caller<'_, R, Mailbox>) -> Share {
+        let number = caller.number();
+        if number < 2 {
+            let posted = post_all(caller, self.alloc, number as u32 * EACH);
+            let received = Vec::new(self.alloc);
+            Share { posted, received }
+        } else {
+            let received = receive_all(caller, self.alloc);
+            Share {
+                posted: 0,
+                received,
+            }
         }
     }
 }
 
-/// Posts the messages from `first` on, of which each third is urgent.
-fn post_all<R: Wait>(caller: &mut Caller<'_, R, Mailbox>, alloc: Global, first: u32) -> Vec<u32>
+/// Posts the messages from `first` on, of which each third is urgent. Answers how many it posted.
+fn post_all<R: Wait>(caller: &mut Caller<'_, R, Mailbox>, alloc: Global, first: u32) -> u32
     requires precondition { Fits caller.old.stm.now.rule caller.old.stm.now.config.words }
     requires numbers { first ≤ 300 }
     ensures worked { HasWorked caller.old.desc caller.new.desc }
+    ensures count { result ≤ 300 }
+    ensures posted { HasDone caller.old.stm.now.rule caller.old.stm.now.config.words
+        (posts first result) (known caller.old.desc).made (known caller.new.desc).made }
 {
     for i in 0..EACH {
-        post(caller, alloc, i % 3 == 0, first + i);
+        if !post(caller, alloc, i % 3 == 0, first + i) {
+            return i;
+        }
     }
-    Vec::new(alloc)
+    EACH
 }
 
-/// Posts a message, as soon as there is room.
-fn post<R: Wait>(caller: &mut Caller<'_, R, Mailbox>, alloc: Global, urgent: bool, message: u32)
+/// Posts a message, as soon as there is room. Answers whether it did.
+fn post<R: Wait>(
+    caller: &mut Caller<'_, R, Mailbox>,
+    alloc: Global,
+    urgent: bool,
+    message: u32,
+) -> bool
     requires precondition { Fits caller.old.stm.now.rule caller.old.stm.now.config.words }
     ensures worked { HasWorked caller.old.desc caller.new.desc }
     ensures same { caller.new.stm ≡ caller.old.stm }
+    ensures posted { HasDone caller.old.stm.now.rule caller.old.stm.now.config.words
+        (if result then Posted urgent message ∷ [] else []) (known caller.old.desc).made
+        (known caller.new.desc).made }
 {
     let part = Post { urgent, message };
     let whole = Whole {
@@ -64,13 +100,19 @@ fn post<R: Wait>(caller: &mut Caller<'_, R, Mailbox>, alloc: Global, urgent: boo
         room: 8,
         alloc,
     };
-    caller.until_some(&Awaited { whole });
+    match caller.until_some(&Awaited { whole }) {
+        Some(Ok(())) => true,
+        Some(Err(_)) => false,
+        None => false,
+    }
 }
 
 /// Receives so many messages, and lists them. It receives none where it is refused memory for the list.
 fn receive_all<R: Wait>(caller: &mut Caller<'_, R, Mailbox>, alloc: Global) -> Vec<u32>
     requires precondition { Fits caller.old.stm.now.rule caller.old.stm.now.config.words }
     ensures worked { HasWorked caller.old.desc caller.new.desc }
+    ensures received { HasDone caller.old.stm.now.rule caller.old.stm.now.config.words
+        (receipts result.items) (known caller.old.desc).made (known caller.new.desc).made }
 {
     let Ok(mut received) = Vec::with_capacity(alloc, EACH as usize) else {
         return Vec::new(alloc);
@@ -89,7 +131,11 @@ fn receive<R: Wait>(caller: &mut Caller<'_, R, Mailbox>, alloc: Global) -> Optio
     requires precondition { Fits caller.old.stm.now.rule caller.old.stm.now.config.words }
     ensures worked { HasWorked caller.old.desc caller.new.desc }
     ensures same { caller.new.stm ≡ caller.old.stm }
+    ensures received { HasDone caller.old.stm.now.rule caller.old.stm.now.config.words
+        (receipts (listed result)) (known caller.old.desc).made (known caller.new.desc).made }
 {
+    // such a transaction receives
+    messages_come_in_order();
     let part = OrElse {
         first: Take { urgent: true },
         second: Take { urgent: false },
@@ -102,6 +148,7 @@ fn receive<R: Wait>(caller: &mut Caller<'_, R, Mailbox>, alloc: Global) -> Optio
     };
     match caller.until_some(&Awaited { whole }) {
         Some(Ok(message)) => Some(message),
-        _ => None,
+        Some(Err(_)) => None,
+        None => None,
     }
 }

@@ -2,8 +2,9 @@
 ghost use Rattle.std.specs.Prelude.{◌≡◌, IfOk, length};
 ghost use Rattle.mailbox.specs.Mail.{IsMailbox};
 ghost use Rattle.example_mail.specs.declared.day.TheConstants.{MAILBOX};
+ghost use Rattle.example_mail.specs.Days.{IsDay};
 
-use crate::clerks::{Clerks, MESSAGES};
+use crate::clerks::{Clerks, MESSAGES, Share};
 use mailbox::laws::messages_come_in_order;
 use mailbox::mail::Mailbox;
 use nekchhaul::queue::queues_are_apart;
@@ -15,7 +16,7 @@ use std::thread::Threads;
 /// Two queues with eight cells each, in 20 words.
 const MAILBOX: Mailbox = Mailbox { cells: 8 };
 
-/// A day of mail under this algorithm. Each caller answers what it received.
+/// A day of mail under this algorithm. Each caller answers what it posted and received.
 ///
 /// # Errors
 /// Memory, where it is refused.
@@ -23,9 +24,10 @@ pub fn run<R: Threads + Wait + Sync>(
     rt: &R,
     alloc: Global,
     alg: Alg,
-) -> Result<ClosedMemory<Vec<u32>>, NewError>
+) -> Result<ClosedMemory<Share>, NewError>
     ensures mailbox { IfOk result (λ came. IsMailbox MAILBOX came.words.items) }
     ensures count { IfOk result (λ came. length came.words.items ≡ 20) }
+    ensures day { IfOk result IsDay }
 {
     // a memory of zeros has two empty queues, and at each moment an urgent message goes before the others
     queues_are_apart();
@@ -34,10 +36,10 @@ pub fn run<R: Threads + Wait + Sync>(
 }
 
 /// Whether each message that was posted was received once, and nothing else.
-pub fn each_came_once(came: &ClosedMemory<Vec<u32>>) -> bool {
+pub fn each_came_once(came: &ClosedMemory<Share>) -> bool {
     let mut seen = [false; MESSAGES as usize];
     for answer in &came.answers {
-        if !mark(&mut seen, &answer.value) {
+        if !mark(&mut seen, &answer.value.received) {
             return false;
         }
     }

@@ -35,7 +35,9 @@ wrote-added key m e = wrote-by key m (has key (keys HALL m)) (free_from (tag HAL
 abbrev pub Tells : ℕ → Insert → Log → Type 0
 Tells seat came log = DoesOver (IsTree HALL) 31 (inserted_in HALL seat) no_log came log
 
-answered : (when : ℕ → Type 0) (seat : ℕ) (u w : CallerState) (history : List Entry) (came : Insert) → ((at : ℕ) → u.front ≤ at → at ≤ w.front → when at) → Happened (IsTree HALL) CONFIG (Tells seat came) u w history → Answered when history seat came
+answered : (when : ℕ → Type 0) (seat : ℕ) (u w : CallerState) (history : List Entry) (came : Insert)
+    → ((at : ℕ) → u.front ≤ at → at ≤ w.front → when at) → Happened (IsTree HALL) CONFIG (Tells seat came) u w history
+    → Answered when history seat came
 answered when seat u w history came due h =
     let m : List ℕ = hall_at h.at history in
     let long = length-memory_at h.at history free_hall ∙ length-replicate {A = ℕ} 31 0 in
@@ -51,14 +53,18 @@ answered when seat u w history came due h =
 
 -- a wish that took effect has its moment
 moment : (config : Config) (rule : Seats) (n seat : ℕ) (came : Insert) (u w k : CallerState) (history : List Entry) → config ≡ CONFIG → rule ≡ record { taken = HALL }
-    → TookEffect (IsTree rule.taken) config n (λ log. DoesOver (IsTree rule.taken) config.words (inserted_in rule.taken seat) no_log came log) u.front u w → Grows w k → BeginsHistory k.seen k.front history → Happened (IsTree HALL) CONFIG (Tells seat came) u w history
+    → TookEffect (IsTree rule.taken) config n
+    (λ log. DoesOver (IsTree rule.taken) config.words (inserted_in rule.taken seat) no_log came log) u.front u w → Grows w k
+    → BeginsHistory k.seen k.front history → Happened (IsTree HALL) CONFIG (Tells seat came) u w history
 moment config rule n seat came u w k history of under took grows begun =
     let here = subst (λ (r : Seats). TookEffect (IsTree r.taken) config n (λ log. DoesOver (IsTree r.taken) config.words (inserted_in r.taken seat) no_log came log) u.front u w) under took in
     let there = subst (λ (c : Config). TookEffect (IsTree HALL) c n (λ log. DoesOver (IsTree HALL) c.words (inserted_in HALL seat) no_log came log) u.front u w) of here in
     happened (IsTree HALL) CONFIG n (Tells seat came) u w history k there grows begun
 
 -- whether an insertion wrote is whether it took the seat
-takes-by : (key : ℕ) (m : List ℕ) (b : Bool) (o : Option ℕ) (e : Bool) → not e ≡ (if b then unchanged Present m else inserted_by HALL key m o).wrote → (if e then 0 else 1) ≡ seats_taken (Some (if b then unchanged Present m else inserted_by HALL key m o).reply)
+takes-by : (key : ℕ) (m : List ℕ) (b : Bool) (o : Option ℕ) (e : Bool)
+    → not e ≡ (if b then unchanged Present m else inserted_by HALL key m o).wrote
+    → (if e then 0 else 1) ≡ seats_taken (Some (if b then unchanged Present m else inserted_by HALL key m o).reply)
 takes-by key m true o true w = refl
 takes-by key m true o false w = absurd cc
 takes-by key m false None true w = refl
@@ -75,8 +81,11 @@ counted seat u w history came h =
     h.made ∙ ap (λ k. length u.made + k) (takes ∙ ap (λ r. seats_taken (Some r)) (sym does.replied))
 
 -- what came of a wish, and how many entries its caller made by it
-pub wished : (when : ℕ → Type 0) (config : Config) (rule : Seats) (n seat : ℕ) (o : Option Insert) (u w k : CallerState) (history : List Entry) → config ≡ CONFIG → rule ≡ record { taken = HALL } → ((at : ℕ) → u.front ≤ at → at ≤ w.front → when at)
-    → IfSome o (λ came. TookEffect (IsTree rule.taken) config n (λ log. DoesOver (IsTree rule.taken) config.words (inserted_in rule.taken seat) no_log came log) u.front u w) → IfNone o (w.made ≡ u.made) → Grows w k → BeginsHistory k.seen k.front history
+pub wished : (when : ℕ → Type 0) (config : Config) (rule : Seats) (n seat : ℕ) (o : Option Insert) (u w k : CallerState)
+    (history : List Entry) → config ≡ CONFIG → rule ≡ record { taken = HALL } → ((at : ℕ) → u.front ≤ at → at ≤ w.front → when at)
+    → IfSome o (λ came.
+    TookEffect (IsTree rule.taken) config n (λ log. DoesOver (IsTree rule.taken) config.words (inserted_in rule.taken seat) no_log came log)
+    u.front u w) → IfNone o (w.made ≡ u.made) → Grows w k → BeginsHistory k.seen k.front history
     → IfSome o (Answered when history seat) × (length w.made ≡ length u.made + seats_taken o)
 wished when config rule n seat None u w k history of under due took none grows begun = (tt, ap length none ∙ (omega arith))
 wished when config rule n seat (Some came) u w k history of under due took none grows begun =
@@ -90,7 +99,9 @@ none-behind : (e : Entry) (es : List Entry) (n : ℕ) (b : Bool) → (if b then 
 none-behind e es n true is = absurd cc
 none-behind e es n false is = is
 
-split-by : (e : Entry) (es : List Entry) (k : ℕ) → e.caller ≡ k → ((n : ℕ) → 2 ≤ n → made_by n (e ∷ es) ≡ []) → length es ≡ length (made_by 0 es) + length (made_by 1 es) → length (e ∷ es) ≡ length (made_by 0 (e ∷ es)) + length (made_by 1 (e ∷ es))
+split-by : (e : Entry) (es : List Entry) (k : ℕ) → e.caller ≡ k → ((n : ℕ) → 2 ≤ n → made_by n (e ∷ es) ≡ [])
+    → length es ≡ length (made_by 0 es) + length (made_by 1 es)
+    → length (e ∷ es) ≡ length (made_by 0 (e ∷ es)) + length (made_by 1 (e ∷ es))
 split-by e es zero is none later = rw is (omega (arith, later))
 split-by e es (suc zero) is none later = rw is (omega (arith, later))
 split-by e es (suc (suc k)) is none later =

@@ -77,7 +77,8 @@ landed shelf s m n high pile before h =
     let room = subst (λ (c : ℕ). c < room_on (suc shelf)) (beside m shelf (get_or m 0 0 - 1)) h.1 in
     subst (λ (q : ℕ). IsStored (On q) m n) (sym h.0) (pile, omega arith, high, room, before, h.2)
 
-tried-on : (words : ℕ) (l j : Log) (s : ℕ) → Tried words (Some s) l j → (m : List ℕ) → length m ≡ words → Explains m j.reads → 0 < get_or (overlay m l.writes) 0 0 → IsStored (On s) (overlay m l.writes) (overlay m j.writes)
+tried-on : (words : ℕ) (l j : Log) (s : ℕ) → Tried words (Some s) l j → (m : List ℕ) → length m ≡ words → Explains m j.reads
+    → 0 < get_or (overlay m l.writes) 0 0 → IsStored (On s) (overlay m l.writes) (overlay m j.writes)
 tried-on words l j s (inl (some, inl h)) m len ex pile = landed 0 s (overlay m l.writes) (overlay m j.writes) (omega arith) pile (λ b low high. absurd (omega arith)) (h.1 m len ex)
 tried-on words l j s (inl (some, inr h)) m len ex pile =
     landed 1 s (overlay m l.writes) (overlay m j.writes) (omega arith) pile (full-one (overlay m l.writes) (h.1 m len (more-explains m h.0 j h.3 ex))) (h.4 m len ex)

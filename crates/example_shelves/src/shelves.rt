@@ -90,7 +90,7 @@ impl Transaction<AnyMem> for Store {
         if memory.read(0)? == 0 {
             return Ok(Stored::NoPiece);
         }
-        let Ok(room) = WriteLog::new(self.alloc, 2) else {
+        let Ok(mut room) = WriteLog::new(self.alloc, 2) else {
             return Ok(Stored::Refused);
         };
         let shelves = OrElse {
@@ -100,7 +100,7 @@ impl Transaction<AnyMem> for Store {
             },
             second: OnShelf { shelf: 3, room: 1 },
         };
-        match wholly(&shelves, rule, memory, room)? {
+        match wholly(&shelves, rule, memory, &mut room)? {
             PartOutcome::Done(shelf) => Ok(Stored::On(shelf)),
             PartOutcome::GaveWay => Ok(Stored::Nowhere),
             PartOutcome::NoRoom { .. } | PartOutcome::NoMemory => Ok(Stored::Refused),

@@ -19,7 +19,17 @@ use tx_answers::answers::{Begin, CloseGate, Commit, Look, TxState};
 
 /// A memory for so many callers.
 fn memory(callers: usize) -> Config
-    ensures { result ≡ record { words = 8; records = 4; ring = 4; callers = callers; reads = 256; writes = 256; clock = 0; fence = false } }
+    ensures { result
+        ≡ record {
+          words = 8;
+          records = 4;
+          ring = 4;
+          callers = callers;
+          reads = 256;
+          writes = 256;
+          clock = 0;
+          fence = false;
+        } }
 {
     Config {
         words: 8,

@@ -30,7 +30,9 @@ fn begin(desc: &mut Desc<Shelf>, stm: &Stm<Shelf>, irrevocable: bool) -> bool
     requires idle { IsIdle (known desc.old) }
     requires plain { stm.now.config.fence ≡ false }
     ensures same { IsSameCaller desc.old desc.new }
-    ensures runs { result ≡ true → IsRunning (known desc.new) × ((known desc.new).log ≡ no_log) × ((known desc.new).fence ≡ 0) }
+    ensures runs { result ≡ true
+        → IsRunning (known desc.new) × ((known desc.new).log ≡ no_log)
+        × ((known desc.new).fence ≡ 0) }
     ensures over { result ≡ false → IsIdle (known desc.new) }
 {
     let Begin::Begun(_) = try_begin(desc, stm) else {

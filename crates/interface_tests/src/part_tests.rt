@@ -18,7 +18,10 @@ fn add(desc: &mut Desc<AnyMem>, stm: &Stm<AnyMem>, a: usize, n: u64) -> Option<u
     requires words { a < stm.now.config.words }
     requires unfenced { (known desc.old).fence ≡ 0 }
     ensures same { IsSameCaller desc.old desc.new }
-    ensures runs { IsSome result → IsRunning (known desc.new) × ((known desc.new).fence ≡ 0) × ((known desc.new).alg ≡ (known desc.old).alg) × ((known desc.new).depth ≡ (known desc.old).depth) }
+    ensures runs { IsSome result
+        → IsRunning (known desc.new) × ((known desc.new).fence ≡ 0)
+        × ((known desc.new).alg ≡ (known desc.old).alg)
+        × ((known desc.new).depth ≡ (known desc.old).depth) }
 {
     let Read::Value(old) = read(desc, stm, a) else {
         return None;

@@ -25,7 +25,8 @@ fn begins_and_writes(desc: &mut Desc<AnyMem>, stm: &Stm<AnyMem>, a: usize, x: u6
     requires plain { stm.now.config.fence ≡ false }
     ensures same { IsSameCaller desc.old desc.new }
     ensures runs { result ≡ true → IsRunning (known desc.new) × ((known desc.new).alg ≡ RingSw) }
-    ensures wrote { result ≡ true → (is_irrevocable (known desc.new) ≡ false) × (wrote (known desc.new) ≡ true) }
+    ensures wrote { result ≡ true
+        → (is_irrevocable (known desc.new) ≡ false) × (wrote (known desc.new) ≡ true) }
 {
     let Begin::Begun(Alg::RingSw) = try_begin(desc, stm) else {
         return false;

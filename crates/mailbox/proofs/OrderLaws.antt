@@ -11,16 +11,20 @@ use Rattle.tx_parts.specs.Laying.{EitherTells}
 use Rattle.tx_parts.specs.ToldLaws.{Told, either-told, awaited-told}
 use Rattle.mailbox.specs.declared.mail.Mailbox.{Mailbox}
 use Rattle.mailbox.specs.Mail.{IsMailbox, mail_in, Takes, Receives}
-use Rattle.mailbox.specs.Deeds.{Deed, Posted, Received, Step, Did, AreDeeds, AreDone, StandsAt, Runs, times, TakesReceive, ComeInOrder, ComeInHistory, ComeOnce}
+use Rattle.mailbox.specs.Deeds.{Deed, Posted, Received, Step, Did, AreDeeds, deeds_by, StandsAt, Runs, times, TakesReceive, ComeInOrder, ComeInHistory, ComeOnce}
 
-receives : (mailbox : Mailbox) (o : Option ℕ) (m n : List ℕ) → Takes mailbox true o m n ⊎ ((gone : List ℕ) × Takes mailbox true None m gone × Takes mailbox false o m n) → (message : ℕ) → o ≡ Some message → Receives mailbox message m n
+receives : (mailbox : Mailbox) (o : Option ℕ) (m n : List ℕ)
+    → Takes mailbox true o m n ⊎ ((gone : List ℕ) × Takes mailbox true None m gone × Takes mailbox false o m n) → (message : ℕ)
+    → o ≡ Some message → Receives mailbox message m n
 receives mailbox o m n (inl h) message is = inl (subst (λ (p : Option ℕ). Takes mailbox true p m n) is h)
 receives mailbox o m n (inr h) message is = inr (h.1, subst (λ (p : Option ℕ). Takes mailbox false p m n) is h.2)
 
 pub takes-receive : TakesReceive
 takes-receive mailbox words first room message log came =
     let good = IsMailbox mailbox in
-    let told = awaited-told good words (EitherTells (λ o. Told good words (Takes mailbox true o)) (λ o. Told good words (Takes mailbox false o))) (λ o m n. Takes mailbox true o m n ⊎ ((gone : List ℕ) × Takes mailbox true None m gone × Takes mailbox false o m n))
+    let told = awaited-told good words
+    (EitherTells (λ o. Told good words (Takes mailbox true o)) (λ o. Told good words (Takes mailbox false o))) (λ o m n.
+    Takes mailbox true o m n ⊎ ((gone : List ℕ) × Takes mailbox true None m gone × Takes mailbox false o m n))
     (either-told good words (λ o. Takes mailbox true o) (λ o. Takes mailbox false o)) first room message log came in
     λ m g len ex. receives mailbox (Some message) m (overlay m log.writes) (told m g len ex) message refl
 
@@ -33,15 +37,28 @@ one-more mailbox ds m n end more (Posted true message) s =
 one-more mailbox ds m n end more (Posted false message) s =
     subst (λ (ns : List ℕ). Runs ds (mail_in mailbox true m) ns (mail_in mailbox true end) (mail_in mailbox false end)) s.0
     (subst (λ (us : List ℕ). Runs ds us (mail_in mailbox false n) (mail_in mailbox true end) (mail_in mailbox false end)) s.1 more)
-one-more mailbox ds m n end more (Received message) (inl t) = inl (mail_in mailbox true n, t.0, subst (λ (ns : List ℕ). Runs ds (mail_in mailbox true n) ns (mail_in mailbox true end) (mail_in mailbox false end)) t.1 more)
-one-more mailbox ds m n end more (Received message) (inr t) = inr (mail_in mailbox false n, t.0, t.1.0, subst (λ (us : List ℕ). Runs ds us (mail_in mailbox false n) (mail_in mailbox true end) (mail_in mailbox false end)) t.1.1 more)
+one-more mailbox ds m n end more (Received message) (inl t) =
+    inl (
+      mail_in mailbox true n,
+      t.0,
+      subst (λ (ns : List ℕ). Runs ds (mail_in mailbox true n) ns (mail_in mailbox true end) (mail_in mailbox false end)) t.1 more,
+    )
+one-more mailbox ds m n end more (Received message) (inr t) =
+    inr (
+      mail_in mailbox false n,
+      t.0,
+      t.1.0,
+      subst (λ (us : List ℕ). Runs ds us (mail_in mailbox false n) (mail_in mailbox true end) (mail_in mailbox false end)) t.1.1 more,
+    )
 
 pub come-in-order : ComeInOrder
 come-in-order mailbox words [] [] m long stands deeds = (refl, refl)
 come-in-order mailbox words [] (d ∷ ds) m long stands deeds = absurd deeds
 come-in-order mailbox words (e ∷ es) [] m long stands deeds = absurd deeds
 come-in-order mailbox words (e ∷ es) (d ∷ ds) m long stands deeds =
-    one-more mailbox ds m (overlay m e.writes) (memory_after es (overlay m e.writes)) (come-in-order mailbox words es ds (overlay m e.writes) (overlay-length m e.writes ∙ long) stands.2 deeds.1) d (deeds.0 m stands.0 long stands.1)
+    one-more mailbox ds m (overlay m e.writes) (memory_after es (overlay m e.writes))
+    (come-in-order mailbox words es ds (overlay m e.writes) (overlay-length m e.writes ∙ long) stands.2 deeds.1) d
+    (deeds.0 m stands.0 long stands.1)
 
 later : (floor : ℕ) (es : List Entry) (k : ℕ) (d : Entry) → Ascending floor es → k < length es → floor < (get_or es k d).time
 later floor [] k d asc lt = absurd (omega arith)
@@ -49,9 +66,15 @@ later floor (x ∷ es) zero d asc lt = asc.0
 later floor (x ∷ es) (suc k) d asc lt = let a = asc.0 in let h = later x.time es k d asc.1 (omega arith) in omega arith
 
 -- in a legal history each entry stands at its moment
-stands : (mailbox : Mailbox) (es : List Entry) (floor : ℕ) (m : List ℕ) → Ascending floor es → All (λ e. Explains (memory_at (e.time - 1) es m) e.reads) es → ((s : ℕ) → IsMailbox mailbox (memory_at s es m)) → StandsAt mailbox m es
+stands : (mailbox : Mailbox) (es : List Entry) (floor : ℕ) (m : List ℕ) → Ascending floor es
+    → All (λ e. Explains (memory_at (e.time - 1) es m) e.reads) es → ((s : ℕ) → IsMailbox mailbox (memory_at s es m))
+    → StandsAt mailbox m es
 stands mailbox [] floor m asc reads goods = tt
-stands mailbox (e ∷ es) floor m asc reads goods = (subst (IsMailbox mailbox) same (goods (e.time - 1)), subst (λ k. Explains k e.reads) same (reads 0 e (omega arith)), stands mailbox es e.time (overlay m e.writes) asc.1 more_reads more_goods)
+stands mailbox (e ∷ es) floor m asc reads goods = (
+  subst (IsMailbox mailbox) same (goods (e.time - 1)),
+  subst (λ k. Explains k e.reads) same (reads 0 e (omega arith)),
+  stands mailbox es e.time (overlay m e.writes) asc.1 more_reads more_goods,
+)
   where
     same : memory_at (e.time - 1) (e ∷ es) m ≡ m
     same = memory_at-early (e.time - 1) (e.time - 1) (e ∷ es) m (omega arith) ((let a = asc.0 in omega arith), asc.1)
@@ -71,30 +94,56 @@ stands mailbox (e ∷ es) floor m asc reads goods = (subst (IsMailbox mailbox) s
             subst (IsMailbox mailbox) (memory_at-first e es m asc.1 ∙ sym (memory_at-early s e.time es (overlay m e.writes) le asc.1)) (goods e.time)
 
 module _ (mailbox : Mailbox) (words : ℕ) where
-  -- where each caller's entries are deeds, all are
-  all-done : (es : List Entry) → ((n : ℕ) → AreDone mailbox words (made_by n es)) → AreDone mailbox words es
-  all-done [] done = tt
-  all-done (e ∷ es) done = ((own (e.caller == e.caller) (grind (arith, nat_tests)) (done e.caller)), all-done es (λ n. rest (e.caller == n) (made_by n es) (done n)))
+  -- no entries, no deeds; and of one more the first is the deed
+  none-left : (ds : List Deed) → AreDeeds mailbox words [] ds → [] ≡ ds
+  none-left [] are = refl
+  none-left (d ∷ ds) are = absurd are
+
+  first-of : (b : Bool) → b ≡ true → (e : Entry) (es : List Entry) (ds : List Deed) → AreDeeds mailbox words (if b then e ∷ es else es) ds
+      → (d : Deed) × (rest : List Deed) × (ds ≡ d ∷ rest) × Did mailbox words d e × AreDeeds mailbox words es rest
+  first-of true is e es [] are = absurd are
+  first-of true is e es (d ∷ ds) are = (d, ds, refl, are.0, are.1)
+  first-of false is e es ds are = absurd (let no : false ≡ true = is in cc)
+
+  -- what each caller did but for the first deed of one
+  abbrev others : ℕ → List Deed → (ℕ → List Deed) → ℕ → List Deed
+  others caller rest own n = if caller == n then rest else own n
+
+  others-are : (e : Entry) (es : List Entry) (own : ℕ → List Deed) (rest : List Deed) → AreDeeds mailbox words (made_by e.caller es) rest
+      → ((n : ℕ) → AreDeeds mailbox words (made_by n (e ∷ es)) (own n)) → (n : ℕ)
+      → AreDeeds mailbox words (made_by n es) (others e.caller rest own n)
+  others-are e es own rest here are n = by (e.caller == n) refl (are n)
     where
-      own : (b : Bool) → b ≡ true → AreDone mailbox words (if b then e ∷ made_by e.caller es else made_by e.caller es) → (d : Deed) × Did mailbox words d e
-      own true is done = done.0
-      own false is done = absurd (let no : false ≡ true = is in cc)
+      by : (b : Bool) → (e.caller == n) ≡ b → AreDeeds mailbox words (if b then e ∷ made_by n es else made_by n es) (own n) → AreDeeds mailbox words (made_by n es) (if b then rest else own n)
+      by true is all = let same : e.caller ≡ n = grind (arith, nat_tests) in subst (λ (k : ℕ). AreDeeds mailbox words (made_by k es) rest) same here
+      by false is all = all
 
-      rest : (b : Bool) (xs : List Entry) → AreDone mailbox words (if b then e ∷ xs else xs) → AreDone mailbox words xs
-      rest true xs done = done.1
-      rest false xs done = done
+  joined : (e : Entry) (es : List Entry) (own : ℕ → List Deed) (d : Deed) (rest ds : List Deed) → own e.caller ≡ d ∷ rest
+      → ((n : ℕ) → deeds_by n es ds ≡ others e.caller rest own n) → (n : ℕ) → deeds_by n (e ∷ es) (d ∷ ds) ≡ own n
+  joined e es own d rest ds first more n = by (e.caller == n) refl (more n)
+    where
+      by : (b : Bool) → (e.caller == n) ≡ b → deeds_by n es ds ≡ (if b then rest else own n) → (if b then d ∷ deeds_by n es ds else deeds_by n es ds) ≡ own n
+      by true is rests = let same : e.caller ≡ n = grind (arith, nat_tests) in ap (λ (l : List Deed). d ∷ l) rests ∙ (sym first ∙ ap own same)
+      by false is rests = rests
 
-  deeds-of : (es : List Entry) → AreDone mailbox words es → (ds : List Deed) × AreDeeds mailbox words es ds
-  deeds-of [] done = ([], tt)
-  deeds-of (e ∷ es) done = let more = deeds-of es done.1 in (done.0.0 ∷ more.0, (done.0.1, more.1))
+  -- each caller's deeds, put together as the entries stand
+  together : (es : List Entry) (own : ℕ → List Deed) → ((n : ℕ) → AreDeeds mailbox words (made_by n es) (own n)) → (ds : List Deed) × AreDeeds mailbox words es ds × ((n : ℕ) → deeds_by n es ds ≡ own n)
+  together [] own are = ([], tt, λ n. none-left (own n) (are n))
+  together (e ∷ es) own are =
+      let here : (d : Deed) × (rest : List Deed) × (own e.caller ≡ d ∷ rest) × Did mailbox words d e × AreDeeds mailbox words
+      (made_by e.caller es) rest = first-of (e.caller == e.caller) (grind (arith, nat_tests)) e (made_by e.caller es) (own e.caller)
+      (are e.caller) in
+      let more = together es (others e.caller here.1 own) (others-are e es own here.1 here.4 are) in
+      (here.0 ∷ more.0, (here.3, more.1), joined e es own here.0 here.1 more.0 here.2 more.2)
 
 pub come-in-history : ComeInHistory
-come-in-history mailbox opening floor history legal done none-urgent none-other =
-    let deeds = deeds-of mailbox (length opening) history (all-done mailbox (length opening) history done) in
+come-in-history mailbox opening floor history legal own none-urgent none-other =
+    let deeds = together mailbox (length opening) history (λ n. (own n).0) (λ n. (own n).1) in
     let runs = come-in-order mailbox (length opening) history deeds.0 opening refl (stands mailbox history floor opening legal.ascending legal.reads legal.good_always) deeds.1 in
     let end = memory_after history opening in (
       deeds.0,
       deeds.1,
+      deeds.2,
       subst (λ (us : List ℕ). Runs deeds.0 us [] (mail_in mailbox true end) (mail_in mailbox false end)) none-urgent
           (subst (λ (ns : List ℕ). Runs deeds.0 (mail_in mailbox true opening) ns (mail_in mailbox true end) (mail_in mailbox false end)) none-other runs),
     )

@@ -33,17 +33,32 @@ AreDeeds mailbox words [] (d ∷ ds) = ⊥
 AreDeeds mailbox words (e ∷ es) [] = ⊥
 AreDeeds mailbox words (e ∷ es) (d ∷ ds) = Did mailbox words d e × AreDeeds mailbox words es ds
 
--- each of them is a deed
-abbrev pub AreDone : Mailbox → ℕ → List Entry → Type 0
-AreDone mailbox words [] = Unit {0}
-AreDone mailbox words (e ∷ es) = ((d : Deed) × Did mailbox words d e) × AreDone mailbox words es
+-- the deeds of one caller, of which there is one for each entry
+abbrev pub deeds_by : ℕ → List Entry → List Deed → List Deed
+deeds_by n [] ds = []
+deeds_by n (e ∷ es) [] = []
+deeds_by n (e ∷ es) (d ∷ ds) = if e.caller == n then d ∷ deeds_by n es ds else deeds_by n es ds
+
+-- each caller's entries are these deeds of it
+abbrev pub EachDid : Mailbox → ℕ → List Entry → Type 0
+EachDid mailbox words es = (n : ℕ) → (ds : List Deed) × AreDeeds mailbox words (made_by n es) ds
+
+-- a caller did this, by the entries that it has made since
+abbrev pub HasDone : Mailbox → ℕ → List Deed → List Entry → List Entry → Type 0
+HasDone mailbox words ds before after = (es : List Entry) × (after ≡ before ++ es) × AreDeeds mailbox words es ds
+
+-- these messages were received
+abbrev pub receipts : List ℕ → List Deed
+receipts [] = []
+receipts (message ∷ more) = Received message ∷ receipts more
 
 -- at each entry the memory is under the rule and explains what was read
 abbrev pub StandsAt : Mailbox → List ℕ → List Entry → Type 0
 StandsAt mailbox m [] = Unit {0}
 StandsAt mailbox m (e ∷ es) = IsMailbox mailbox m × Explains m e.reads × StandsAt mailbox (overlay m e.writes) es
 
--- THE MEANING: from these urgent messages and these others, the oldest first, the deeds lead to those. A posted message joins those of its kind; a received one was the first of the urgent, or there was none of them and it was the first of the others
+-- THE MEANING: from these urgent messages and these others, the oldest first, the deeds lead to those. A posted message joins those of its
+-- kind; a received one was the first of the urgent, or there was none of them and it was the first of the others
 abbrev pub Runs : List Deed → List ℕ → List ℕ → List ℕ → List ℕ → Type 0
 Runs [] us ns vs os = (us ≡ vs) × (ns ≡ os)
 Runs (Posted true message ∷ ds) us ns vs os = Runs ds (us ++ message ∷ []) ns vs os
@@ -80,10 +95,10 @@ abbrev pub ComeOnce : Type 0
 ComeOnce = (message : ℕ) (ds : List Deed) (us ns vs os : List ℕ) → Runs ds us ns vs os
     → times message us + times message ns + posted_in message ds ≡ received_in message ds + times message vs + times message os
 
--- so it is of a memory that was opened with no message, where each caller's entries are deeds: these lead from no message to those that wait
-abbrev pub RunsFromNone : Mailbox → ℕ → List Entry → List ℕ → Type 0
-RunsFromNone mailbox words history end = (ds : List Deed) × AreDeeds mailbox words history ds × Runs ds [] [] (mail_in mailbox true end) (mail_in mailbox false end)
+-- so it is of a memory that was opened with no message, where each caller's entries are deeds: put together as the history has them these lead from no message to those that wait
+abbrev pub RunsFromNone : (mailbox : Mailbox) (words : ℕ) (history : List Entry) → EachDid mailbox words history → List ℕ → Type 0
+RunsFromNone mailbox words history own end = (ds : List Deed) × AreDeeds mailbox words history ds × ((n : ℕ) → deeds_by n history ds ≡ (own n).0) × Runs ds [] [] (mail_in mailbox true end) (mail_in mailbox false end)
 
 abbrev pub ComeInHistory : Type 0
-ComeInHistory = (mailbox : Mailbox) (opening : List ℕ) (floor : ℕ) (history : List Entry) → IsLegal (IsMailbox mailbox) opening floor history → ((n : ℕ) → AreDone mailbox (length opening) (made_by n history))
-    → mail_in mailbox true opening ≡ [] → mail_in mailbox false opening ≡ [] → RunsFromNone mailbox (length opening) history (memory_after history opening)
+ComeInHistory = (mailbox : Mailbox) (opening : List ℕ) (floor : ℕ) (history : List Entry) → IsLegal (IsMailbox mailbox) opening floor history → (own : EachDid mailbox (length opening) history)
+    → mail_in mailbox true opening ≡ [] → mail_in mailbox false opening ≡ [] → RunsFromNone mailbox (length opening) history own (memory_after history opening)

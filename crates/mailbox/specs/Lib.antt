@@ -1,3 +1,4 @@
 pub mod Mail
 pub mod MailLaws
 pub mod Deeds
+pub mod DeedLaws

@@ -60,10 +60,17 @@ module _ (mailbox : Mailbox) (words : ℕ) (fits : Fits mailbox words) where
       put-own = λ x low high. (changes (queue_of mailbox urgent) m message x (well urgent) here (apart mailbox urgent x low high)).0
 
       pub put-keeps : IsMailbox mailbox (put_in (queue_of mailbox urgent) message m).memory
-      put-keeps = both mailbox urgent (put_in (queue_of mailbox urgent) message m).memory (puts (queue_of mailbox urgent) m message (well urgent) here small).0 (depends (queue_of mailbox (not urgent)) m (put_in (queue_of mailbox urgent) message m).memory (well (not urgent)) put-own)
+      put-keeps =
+          both mailbox urgent (put_in (queue_of mailbox urgent) message m).memory
+          (puts (queue_of mailbox urgent) m message (well urgent) here small).0
+          (depends (queue_of mailbox (not urgent)) m (put_in (queue_of mailbox urgent) message m).memory (well (not urgent)) put-own)
 
       pub put-added : Added ≡ (put_in (queue_of mailbox urgent) message m).reply → Posts mailbox urgent message (Some tt) m (put_in (queue_of mailbox urgent) message m).memory
-      put-added is = (by (leb mailbox.cells (length (mail_in mailbox urgent m))) refl, contents-stay (queue_of mailbox (not urgent)) m (put_in (queue_of mailbox urgent) message m).memory fits.0 (well (not urgent)) put-own)
+      put-added is = (
+        by (leb mailbox.cells (length (mail_in mailbox urgent m))) refl,
+        contents-stay (queue_of mailbox (not urgent)) m (put_in (queue_of mailbox urgent) message m).memory fits.0 (well (not urgent))
+            put-own,
+      )
         where
           by : (b : Bool) → leb mailbox.cells (length (mail_in mailbox urgent m)) ≡ b → mail_in mailbox urgent (put_in (queue_of mailbox urgent) message m).memory ≡ mail_in mailbox urgent m ++ message ∷ []
           by true full =
@@ -90,7 +97,9 @@ module _ (mailbox : Mailbox) (words : ℕ) (fits : Fits mailbox words) where
       get-own = λ x low high. (changes (queue_of mailbox urgent) m 0 x (well urgent) here (apart mailbox urgent x low high)).1
 
       pub get-keeps : IsMailbox mailbox (got_in (queue_of mailbox urgent) m).memory
-      get-keeps = both mailbox urgent (got_in (queue_of mailbox urgent) m).memory (gets (queue_of mailbox urgent) m (well urgent) here).0 (depends (queue_of mailbox (not urgent)) m (got_in (queue_of mailbox urgent) m).memory (well (not urgent)) get-own)
+      get-keeps =
+          both mailbox urgent (got_in (queue_of mailbox urgent) m).memory (gets (queue_of mailbox urgent) m (well urgent) here).0
+          (depends (queue_of mailbox (not urgent)) m (got_in (queue_of mailbox urgent) m).memory (well (not urgent)) get-own)
 
       pub get-takes : (came : Option ℕ) → came ≡ (got_in (queue_of mailbox urgent) m).reply → Takes mailbox urgent came m (got_in (queue_of mailbox urgent) m).memory
       get-takes came is = by came is (mail_in mailbox urgent m) refl
@@ -106,8 +115,11 @@ module _ (mailbox : Mailbox) (words : ℕ) (fits : Fits mailbox words) where
           by (Some message) is (v ∷ vs) some =
               let law = (gets (queue_of mailbox urgent) m (well urgent) here).2 v vs some in
               let both : Some message ≡ Some v = is ∙ law.0 in
-              let same : message ≡ v = cc in
-              (some ∙ (ap (λ (x : ℕ). x ∷ vs) (sym same) ∙ ap (λ (l : List ℕ). message ∷ l) (sym law.1)), contents-stay (queue_of mailbox (not urgent)) m (got_in (queue_of mailbox urgent) m).memory fits.0 (well (not urgent)) get-own)
+              let same : message ≡ v = cc in (
+                some ∙ (ap (λ (x : ℕ). x ∷ vs) (sym same) ∙ ap (λ (l : List ℕ). message ∷ l) (sym law.1)),
+                contents-stay (queue_of mailbox (not urgent)) m (got_in (queue_of mailbox urgent) m).memory fits.0 (well (not urgent))
+                    get-own,
+              )
 
 -- what is so whatever an answer holds
 pub if-some : {T : Type 0} (o : Option T) (P : Type 0) → P → IfSome o (λ r. P)

@@ -34,6 +34,7 @@ pub use Rattle.tx_parts.specs.LayingLaws
 pub use Rattle.tx_parts.specs.ToldLaws
 pub use Rattle.tx_parts.specs.declared.wholly.PartOutcome
 pub use Rattle.tx_places.specs.Codes
+pub use Rattle.tx_places.specs.Fits
 pub use Rattle.tx_queue.specs.Queues
 pub use Rattle.tx_queue.specs.Statements as QueueStatements
 pub use Rattle.tx_queue.specs.declared.queue.Put

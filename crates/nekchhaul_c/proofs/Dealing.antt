@@ -29,7 +29,9 @@ dealt-more P n [] x low p rest k d le lt = absurd (omega (arith, low))
 dealt-more P zero (y ∷ ys) x low p rest zero d le lt = p
 dealt-more P zero (y ∷ ys) x low p rest (suc k) d le lt = rest (suc k) d (omega arith) (omega (arith, lt))
 dealt-more P (suc n) (y ∷ ys) x low p rest zero d le lt = absurd (omega (arith, le))
-dealt-more P (suc n) (y ∷ ys) x low p rest (suc k) d le lt = dealt-more (λ j. P (suc j)) n ys x (omega (arith, low)) p (λ j e h l. rest (suc j) e (omega (arith, h)) (omega (arith, l))) k d (omega (arith, le)) (omega (arith, lt))
+dealt-more P (suc n) (y ∷ ys) x low p rest (suc k) d le lt =
+    dealt-more (λ j. P (suc j)) n ys x (omega (arith, low)) p (λ j e h l. rest (suc j) e (omega (arith, h)) (omega (arith, l))) k d
+    (omega (arith, le)) (omega (arith, lt))
 
 abbrev inside-of : Handle → Option CheckedCaller
 inside-of h = h.inside

@@ -16,7 +16,8 @@ one-more [] (y ∷ xs) a x m k n wrong h = absurd wrong
 one-more (b ∷ at) [] a x m k n wrong h = absurd wrong
 one-more (b ∷ at) (y ∷ xs) a x m k n r h = (r.0, r.1, one-more at xs a x r.0 k n r.2 h)
 
-pub write-more : (n : ℕ) (at xs : List ℕ) (m k o : CheckedCaller) → n < length at → n < length xs → WritesInTurn (take n at) (take n xs) m k → WriteTells (get_or at n 0) (get_or xs n 0) (Ok Done) k o → WritesInTurn (take (n + 1) at) (take (n + 1) xs) m o
+pub write-more : (n : ℕ) (at xs : List ℕ) (m k o : CheckedCaller) → n < length at → n < length xs → WritesInTurn (take n at) (take n xs) m k
+    → WriteTells (get_or at n 0) (get_or xs n 0) (Ok Done) k o → WritesInTurn (take (n + 1) at) (take (n + 1) xs) m o
 write-more n at xs m k o low enough r h =
     let next : suc n ≡ n + 1 = omega arith in
     subst (λ j. WritesInTurn (take j at) (take j xs) m o) next

@@ -42,7 +42,14 @@ LetsGo k (Some m) (Some n) = (e : Misuse) × (k ≡ misuse_code e) × (outside m
 
 -- algorithms by their number
 abbrev pub algorithm_numbered : ℕ → Option Alg
-algorithm_numbered n = if n == 0 then Some Cgl else (if n == 1 then Some Tml else (if n == 2 then Some OrecLazy else (if n == 3 then Some OrecEager else (if n == 4 then Some RingSw else (if n == 5 then Some Serial else None)))))
+algorithm_numbered n =
+    if n
+    == 0 then Some Cgl else
+    (if n
+    == 1 then Some Tml else
+    (if n
+    == 2 then Some OrecLazy else
+    (if n == 3 then Some OrecEager else (if n == 4 then Some RingSw else (if n == 5 then Some Serial else None)))))
 
 -- there is no such algorithm, and nothing has changed; or what a switch to it tells
 abbrev pub SwitchSays : Option Alg → ℕ → CheckedCaller → CheckedCaller → Type 0

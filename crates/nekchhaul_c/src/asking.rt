@@ -30,7 +30,9 @@ pub extern "C" fn nekchhaul_reserve(
     reads: usize,
     writes: usize,
 ) -> u32
-    ensures { Holds (result ≡ 16) (Says reserved_code (reserving reads writes) (HasReserved reads writes) result) caller.old.inside caller.new.inside }
+    ensures { Holds (result ≡ 16)
+        (Says reserved_code (reserving reads writes) (HasReserved reads writes) result)
+        caller.old.inside caller.new.inside }
 {
     if !caller.is_held() {
         return status::NO_CALLER;
@@ -57,7 +59,8 @@ pub struct State {
 /// Where the caller stands. `state` is written only where the answer is 0.
 #[unsafe(no_mangle)]
 pub extern "C" fn nekchhaul_state(caller: &mut Handle, state: &mut State) -> u32
-    ensures { Holds ((result ≡ 16) × (state.new ≡ state.old)) (Shows result (λ m. state.new ≡ state_shown m)) caller.old.inside caller.new.inside }
+    ensures { Holds ((result ≡ 16) × (state.new ≡ state.old))
+        (Shows result (λ m. state.new ≡ state_shown m)) caller.old.inside caller.new.inside }
 {
     if !caller.is_held() {
         return status::NO_CALLER;
@@ -117,7 +120,8 @@ pub struct Why {
 /// What came in the way of the caller last. `why` is written only where the answer is 0.
 #[unsafe(no_mangle)]
 pub extern "C" fn nekchhaul_why(caller: &mut Handle, why: &mut Why) -> u32
-    ensures { Holds ((result ≡ 16) × (why.new ≡ why.old)) (Shows result (λ m. why.new ≡ why_of m.refusal)) caller.old.inside caller.new.inside }
+    ensures { Holds ((result ≡ 16) × (why.new ≡ why.old))
+        (Shows result (λ m. why.new ≡ why_of m.refusal)) caller.old.inside caller.new.inside }
 {
     if !caller.is_held() {
         return status::NO_CALLER;

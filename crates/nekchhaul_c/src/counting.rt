@@ -10,7 +10,8 @@ use tx_checked::counts::Counts;
 /// What the caller's calls came to, counted. `counts` is written only where the answer is 0.
 #[unsafe(no_mangle)]
 pub extern "C" fn nekchhaul_counts(caller: &mut Handle, counts: &mut Counts) -> u32
-    ensures { Holds ((result ≡ 16) × (counts.new ≡ counts.old)) (Shows result (λ m. counts.new ≡ m.counts)) caller.old.inside caller.new.inside }
+    ensures { Holds ((result ≡ 16) × (counts.new ≡ counts.old))
+        (Shows result (λ m. counts.new ≡ m.counts)) caller.old.inside caller.new.inside }
 {
     if !caller.is_held() {
         return status::NO_CALLER;

@@ -2,6 +2,7 @@
 ghost use Rattle.std.specs.Prelude.{◌≡◌};
 ghost use Rattle.nekchhaul_c.specs.Codes.{begin_code, commit_code, cancel_code, grant_code, done_code};
 ghost use Rattle.nekchhaul_c.specs.Says.{BeginSays, Holds, LetsGo, Says, SwitchSays, algorithm_numbered};
+ghost use Rattle.tx_checked.specs.CheckedCallers.{IsServed, known_to};
 ghost use Rattle.tx_checked.specs.Misuses.{outside, reopening, inside, running};
 ghost use Rattle.tx_checked.specs.Tells.{HasBegun, HasCommitted, HasCancelled, IsIrrevocable, HasReopened};
 
@@ -9,25 +10,26 @@ use crate::handle::Handle;
 use crate::status;
 use std::alloc::Global;
 use stm_model::alg::Alg;
+use stm_tx::serving::{Calls, Under};
+use stm_tx::{Cgl, OrecEager, OrecLazy, RingSw, Serial, Tml};
 use tx_checked::checked_caller::CheckedCaller;
 
 /// Tries to begin an attempt.
 #[unsafe(no_mangle)]
 pub extern "C" fn nekchhaul_begin(caller: &mut Handle) -> u32
-    ensures { Holds (result ≡ 16) (Says begin_code outside HasBegun result) caller.old.inside caller.new.inside }
+    ensures { Holds (result ≡ 16) (Says begin_code outside HasBegun result) caller.old.inside
+        caller.new.inside }
 {
-    if !caller.is_held() {
-        return status::NO_CALLER;
-    }
     let mut under = 0;
-    begin(caller.checked_caller(), &mut under)
+    nekchhaul_begin_under(caller, &mut under)
 }
 
 /// Tries to begin an attempt, and tells under which algorithm, and whether a range was out of the transactions. `under` is
 /// written only where the answer is 0.
 #[unsafe(no_mangle)]
 pub extern "C" fn nekchhaul_begin_under(caller: &mut Handle, under: &mut u32) -> u32
-    ensures { Holds ((result ≡ 16) × (under.new ≡ under.old)) (BeginSays under.old under.new result) caller.old.inside caller.new.inside }
+    ensures { Holds ((result ≡ 16) × (under.new ≡ under.old)) (BeginSays under.old under.new result)
+        caller.old.inside caller.new.inside }
 {
     if !caller.is_held() {
         return status::NO_CALLER;
@@ -35,8 +37,7 @@ pub extern "C" fn nekchhaul_begin_under(caller: &mut Handle, under: &mut u32) ->
     begin(caller.checked_caller(), under)
 }
 
-/// Apart, so that it stands once.
-#[inline(never)]
+#[inline(always)]
 fn begin(checked_caller: &mut CheckedCaller, under: &mut u32) -> u32
     ensures { BeginSays under.old under.new result checked_caller.old checked_caller.new }
 {
@@ -48,18 +49,45 @@ fn begin(checked_caller: &mut CheckedCaller, under: &mut u32) -> u32
 /// Commits the attempt.
 #[unsafe(no_mangle)]
 pub extern "C" fn nekchhaul_commit(caller: &mut Handle) -> u32
-    ensures { Holds (result ≡ 16) (Says commit_code inside HasCommitted result) caller.old.inside caller.new.inside }
+    ensures { Holds (result ≡ 16) (Says commit_code inside HasCommitted result) caller.old.inside
+        caller.new.inside }
 {
     if !caller.is_held() {
         return status::NO_CALLER;
     }
-    status::of_commit(caller.checked_caller().commit())
+    let checked_caller = caller.checked_caller();
+    match checked_caller.algorithm() {
+        Alg::Cgl => commit(Under::<Cgl>::new(), checked_caller),
+        Alg::Tml => commit_apart(Under::<Tml>::new(), checked_caller),
+        Alg::OrecLazy => commit_apart(Under::<OrecLazy>::new(), checked_caller),
+        Alg::OrecEager => commit_apart(Under::<OrecEager>::new(), checked_caller),
+        Alg::RingSw => commit_apart(Under::<RingSw>::new(), checked_caller),
+        Alg::Serial => commit_apart(Under::<Serial>::new(), checked_caller),
+    }
+}
+
+#[inline(always)]
+fn commit<C: Calls + Drop>(calls: C, checked_caller: &mut CheckedCaller) -> u32
+    requires served { IsServed C.acts_as (known_to checked_caller.old) }
+    ensures { Says commit_code inside HasCommitted result checked_caller.old checked_caller.new }
+{
+    status::of_commit(checked_caller.commit_by(&calls))
+}
+
+/// Apart, so that CGL's commit saves no registers.
+#[inline(never)]
+fn commit_apart<C: Calls + Drop>(calls: C, checked_caller: &mut CheckedCaller) -> u32
+    requires served { IsServed C.acts_as (known_to checked_caller.old) }
+    ensures { Says commit_code inside HasCommitted result checked_caller.old checked_caller.new }
+{
+    commit(calls, checked_caller)
 }
 
 /// Cancels the attempt.
 #[unsafe(no_mangle)]
 pub extern "C" fn nekchhaul_cancel(caller: &mut Handle) -> u32
-    ensures { Holds (result ≡ 16) (Says cancel_code inside HasCancelled result) caller.old.inside caller.new.inside }
+    ensures { Holds (result ≡ 16) (Says cancel_code inside HasCancelled result) caller.old.inside
+        caller.new.inside }
 {
     if !caller.is_held() {
         return status::NO_CALLER;
@@ -70,7 +98,8 @@ pub extern "C" fn nekchhaul_cancel(caller: &mut Handle) -> u32
 /// Tries to make the attempt irrevocable.
 #[unsafe(no_mangle)]
 pub extern "C" fn nekchhaul_become_irrevocable(caller: &mut Handle) -> u32
-    ensures { Holds (result ≡ 16) (Says grant_code running IsIrrevocable result) caller.old.inside caller.new.inside }
+    ensures { Holds (result ≡ 16) (Says grant_code running IsIrrevocable result) caller.old.inside
+        caller.new.inside }
 {
     if !caller.is_held() {
         return status::NO_CALLER;
@@ -81,7 +110,8 @@ pub extern "C" fn nekchhaul_become_irrevocable(caller: &mut Handle) -> u32
 /// Installs an algorithm, by its number, once no other caller is in an attempt.
 #[unsafe(no_mangle)]
 pub extern "C" fn nekchhaul_switch(caller: &mut Handle, algorithm: u32) -> u32
-    ensures { Holds (result ≡ 16) (SwitchSays (algorithm_numbered algorithm) result) caller.old.inside caller.new.inside }
+    ensures { Holds (result ≡ 16) (SwitchSays (algorithm_numbered algorithm) result)
+        caller.old.inside caller.new.inside }
 {
     if !caller.is_held() {
         return status::NO_CALLER;
@@ -95,7 +125,8 @@ pub extern "C" fn nekchhaul_switch(caller: &mut Handle, algorithm: u32) -> u32
 /// Gives up the call for which the caller has closed the gate.
 #[unsafe(no_mangle)]
 pub extern "C" fn nekchhaul_reopen(caller: &mut Handle) -> u32
-    ensures { Holds (result ≡ 16) (Says done_code reopening HasReopened result) caller.old.inside caller.new.inside }
+    ensures { Holds (result ≡ 16) (Says done_code reopening HasReopened result) caller.old.inside
+        caller.new.inside }
 {
     if !caller.is_held() {
         return status::NO_CALLER;

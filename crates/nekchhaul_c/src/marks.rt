@@ -11,7 +11,9 @@ use crate::status;
 /// Marks what the attempt has written. `depth` is written only where the answer is 0.
 #[unsafe(no_mangle)]
 pub extern "C" fn nekchhaul_checkpoint(caller: &mut Handle, depth: &mut usize) -> u32
-    ensures { Holds ((result ≡ 16) × (depth.new ≡ depth.old)) (SaysWord mark_code mark_value depth.old depth.new running HasMarked result) caller.old.inside caller.new.inside }
+    ensures { Holds ((result ≡ 16) × (depth.new ≡ depth.old))
+        (SaysWord mark_code mark_value depth.old depth.new running HasMarked result)
+        caller.old.inside caller.new.inside }
 {
     if !caller.is_held() {
         return status::NO_CALLER;
@@ -24,7 +26,8 @@ pub extern "C" fn nekchhaul_checkpoint(caller: &mut Handle, depth: &mut usize) -
 /// Rolls the attempt back to a mark.
 #[unsafe(no_mangle)]
 pub extern "C" fn nekchhaul_roll_to(caller: &mut Handle, depth: usize) -> u32
-    ensures { Holds (result ≡ 16) (Says roll_code (at_mark depth) (HasRolled depth) result) caller.old.inside caller.new.inside }
+    ensures { Holds (result ≡ 16) (Says roll_code (at_mark depth) (HasRolled depth) result)
+        caller.old.inside caller.new.inside }
 {
     if !caller.is_held() {
         return status::NO_CALLER;
@@ -35,7 +38,8 @@ pub extern "C" fn nekchhaul_roll_to(caller: &mut Handle, depth: usize) -> u32
 /// Drops the marks from one on.
 #[unsafe(no_mangle)]
 pub extern "C" fn nekchhaul_drop_marks(caller: &mut Handle, depth: usize) -> u32
-    ensures { Holds (result ≡ 16) (Says done_code (at_mark depth) (HasDropped depth) result) caller.old.inside caller.new.inside }
+    ensures { Holds (result ≡ 16) (Says done_code (at_mark depth) (HasDropped depth) result)
+        caller.old.inside caller.new.inside }
 {
     if !caller.is_held() {
         return status::NO_CALLER;

@@ -34,8 +34,11 @@ pub extern "C" fn nekchhaul_open(
     callers: &mut [Handle],
 ) -> u32
     ensures empty { result ≡ 0 → NoneHeld callers.old }
-    ensures new { result ≡ 0 → EachNewUnder (algorithm_numbered algorithm) (config_for sizes.now (length callers.old)) callers.new }
-    ensures refused { result ≢ 0 → IsOpenRefusal algorithm (config_for sizes.now (length callers.old)) callers.old result }
+    ensures new { result ≡ 0
+        → EachNewUnder (algorithm_numbered algorithm) (config_for sizes.now (length callers.old))
+        callers.new }
+    ensures refused { result ≢ 0
+        → IsOpenRefusal algorithm (config_for sizes.now (length callers.old)) callers.old result }
     ensures kept { result ≢ 0 → insides callers.new ≡ insides callers.old }
 {
     let Some(alg) = algorithm_by_number(algorithm) else {

@@ -11,7 +11,8 @@ use crate::status;
 /// Takes a range of words out of the transactions.
 #[unsafe(no_mangle)]
 pub extern "C" fn nekchhaul_fence(caller: &mut Handle, from: usize, count: usize) -> u32
-    ensures { Holds (result ≡ 16) (Says taken_code (taking from count) (HasTaken from count) result) caller.old.inside caller.new.inside }
+    ensures { Holds (result ≡ 16) (Says taken_code (taking from count) (HasTaken from count) result)
+        caller.old.inside caller.new.inside }
 {
     if !caller.is_held() {
         return status::NO_CALLER;
@@ -22,7 +23,9 @@ pub extern "C" fn nekchhaul_fence(caller: &mut Handle, from: usize, count: usize
 /// Reads a word of the caller's range. `value` is written only where the answer is 0.
 #[unsafe(no_mangle)]
 pub extern "C" fn nekchhaul_direct_read(caller: &mut Handle, address: usize, value: &mut u64) -> u32
-    ensures { Holds ((result ≡ 16) × (value.new ≡ value.old)) (SaysWord word_code word_value value.old value.new (in_range address) (HasReadDirect address) result) caller.old.inside caller.new.inside }
+    ensures { Holds ((result ≡ 16) × (value.new ≡ value.old))
+        (SaysWord word_code word_value value.old value.new (in_range address)
+        (HasReadDirect address) result) caller.old.inside caller.new.inside }
 {
     if !caller.is_held() {
         return status::NO_CALLER;
@@ -35,7 +38,9 @@ pub extern "C" fn nekchhaul_direct_read(caller: &mut Handle, address: usize, val
 /// Writes a word of the caller's range.
 #[unsafe(no_mangle)]
 pub extern "C" fn nekchhaul_direct_write(caller: &mut Handle, address: usize, value: u64) -> u32
-    ensures { Holds (result ≡ 16) (Says done_code (in_range address) (HasWrittenDirect address value) result) caller.old.inside caller.new.inside }
+    ensures { Holds (result ≡ 16)
+        (Says done_code (in_range address) (HasWrittenDirect address value) result)
+        caller.old.inside caller.new.inside }
 {
     if !caller.is_held() {
         return status::NO_CALLER;
@@ -46,7 +51,8 @@ pub extern "C" fn nekchhaul_direct_write(caller: &mut Handle, address: usize, va
 /// Gives the caller's range back.
 #[unsafe(no_mangle)]
 pub extern "C" fn nekchhaul_give_back(caller: &mut Handle) -> u32
-    ensures { Holds (result ≡ 16) (Says given_code giving HasGiven result) caller.old.inside caller.new.inside }
+    ensures { Holds (result ≡ 16) (Says given_code giving HasGiven result) caller.old.inside
+        caller.new.inside }
 {
     if !caller.is_held() {
         return status::NO_CALLER;
@@ -57,7 +63,8 @@ pub extern "C" fn nekchhaul_give_back(caller: &mut Handle) -> u32
 /// Takes all words out of the transactions for good, and hands them out.
 #[unsafe(no_mangle)]
 pub extern "C" fn nekchhaul_close(caller: &mut Handle, words: &mut [u64]) -> u32
-    ensures { Holds ((result ≡ 16) × (words.new ≡ words.old)) (EndSays words.old words.new result) caller.old.inside caller.new.inside }
+    ensures { Holds ((result ≡ 16) × (words.new ≡ words.old)) (EndSays words.old words.new result)
+        caller.old.inside caller.new.inside }
 {
     if !caller.is_held() {
         return status::NO_CALLER;

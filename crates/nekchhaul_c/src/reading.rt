@@ -2,10 +2,13 @@
 ghost use Rattle.std.specs.Prelude.{◌≡◌, ◌≤◌, length, take};
 ghost use Rattle.nekchhaul_c.specs.Reads.{ReadManySays, ReadsInTurn};
 ghost use Rattle.nekchhaul_c.specs.Says.{Holds};
-ghost use Rattle.tx_checked.specs.CheckedCallers.{IsSameCheckedCaller};
+ghost use Rattle.tx_checked.specs.CheckedCallers.{IsSameCheckedCaller, IsServed, known_to};
 
 use crate::handle::Handle;
 use crate::status;
+use stm_model::alg::Alg;
+use stm_tx::serving::{Calls, Under};
+use stm_tx::{Cgl, OrecEager, OrecLazy, RingSw, Serial, Tml};
 use tx_answers::answers::Read;
 use tx_checked::checked_caller::CheckedCaller;
 
@@ -16,7 +19,9 @@ pub extern "C" fn nekchhaul_read_many(
     addresses: &[usize],
     values: &mut [u64],
 ) -> u32
-    ensures { Holds ((result ≡ 16) × (values.new ≡ values.old)) (ReadManySays addresses.now values.old values.new result) caller.old.inside caller.new.inside }
+    ensures { Holds ((result ≡ 16) × (values.new ≡ values.old))
+        (ReadManySays addresses.now values.old values.new result) caller.old.inside
+        caller.new.inside }
 {
     if !caller.is_held() {
         return status::NO_CALLER;
@@ -29,20 +34,37 @@ fn read_or_no_room(
     addresses: &[usize],
     values: &mut [u64],
 ) -> u32
-    ensures { ReadManySays addresses.now values.old values.new result checked_caller.old checked_caller.new }
+    ensures { ReadManySays addresses.now values.old values.new result checked_caller.old
+        checked_caller.new }
 {
     if values.len() < addresses.len() {
         return status::ROOM;
     }
-    read_each(checked_caller, addresses, values)
+    match checked_caller.algorithm() {
+        Alg::Cgl => read_each(Under::<Cgl>::new(), checked_caller, addresses, values),
+        Alg::Tml => read_each(Under::<Tml>::new(), checked_caller, addresses, values),
+        Alg::OrecLazy => read_each(Under::<OrecLazy>::new(), checked_caller, addresses, values),
+        Alg::OrecEager => read_each(Under::<OrecEager>::new(), checked_caller, addresses, values),
+        Alg::RingSw => read_each(Under::<RingSw>::new(), checked_caller, addresses, values),
+        Alg::Serial => read_each(Under::<Serial>::new(), checked_caller, addresses, values),
+    }
 }
 
-fn read_each(checked_caller: &mut CheckedCaller, addresses: &[usize], values: &mut [u64]) -> u32
+/// It is compiled once for each algorithm, which so is looked up once, and not at each word.
+#[inline(never)]
+fn read_each<C: Calls + Drop>(
+    calls: C,
+    checked_caller: &mut CheckedCaller,
+    addresses: &[usize],
+    values: &mut [u64],
+) -> u32
+    requires served { IsServed C.acts_as (known_to checked_caller.old) }
     requires room { length addresses.now ≤ length values.old }
-    ensures { ReadManySays addresses.now values.old values.new result checked_caller.old checked_caller.new }
+    ensures { ReadManySays addresses.now values.old values.new result checked_caller.old
+        checked_caller.new }
 {
     for i in 0..addresses.len() {
-        match checked_caller.read(addresses[i]) {
+        match checked_caller.read_by(&calls, addresses[i]) {
             Ok(Read::Value(word)) => values[i] = word,
             Ok(Read::Conflict(_)) => return status::CONFLICT,
             Ok(Read::Full { .. }) => return status::LOG_FULL,

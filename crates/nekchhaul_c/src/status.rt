@@ -137,7 +137,12 @@ pub(crate) fn put_under(answer: Result<Begin, Misuse>, beside: bool, under: &mut
     ensures { under.new ≡ begin_value answer beside under.old }
 {
     if let Ok(Begin::Begun(alg)) = answer {
-        *under = alg.number() as u32 + if beside { 8 } else { 0 };
+        let number = alg.number() as u32;
+        if beside {
+            *under = number + 8;
+        } else {
+            *under = number;
+        }
     }
 }
 

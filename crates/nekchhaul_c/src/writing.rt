@@ -17,7 +17,9 @@ pub extern "C" fn nekchhaul_write_many(
     values: &[u64],
     taken: &mut usize,
 ) -> u32
-    ensures { Holds ((result ≡ 16) × (taken.new ≡ taken.old)) (WriteManySays addresses.now values.now taken.new result) caller.old.inside caller.new.inside }
+    ensures { Holds ((result ≡ 16) × (taken.new ≡ taken.old))
+        (WriteManySays addresses.now values.now taken.new result) caller.old.inside
+        caller.new.inside }
 {
     if !caller.is_held() {
         return status::NO_CALLER;
@@ -31,7 +33,8 @@ fn write_or_too_few(
     values: &[u64],
     taken: &mut usize,
 ) -> u32
-    ensures { WriteManySays addresses.now values.now taken.new result checked_caller.old checked_caller.new }
+    ensures { WriteManySays addresses.now values.now taken.new result checked_caller.old
+        checked_caller.new }
 {
     if values.len() < addresses.len() {
         *taken = 0;
@@ -47,7 +50,8 @@ fn write_each(
     taken: &mut usize,
 ) -> u32
     requires enough { length addresses.now ≤ length values.now }
-    ensures { WriteManySays addresses.now values.now taken.new result checked_caller.old checked_caller.new }
+    ensures { WriteManySays addresses.now values.now taken.new result checked_caller.old
+        checked_caller.new }
 {
     for i in 0..addresses.len() {
         let number = status::of_write(checked_caller.write(addresses[i], values[i]));

@@ -32,7 +32,9 @@ module _ (stm : Stm WorkRegion) where
       ready-each stm 0 (descs_in (c ∷ cs)) (descs_in es) ready (left ∙ (count ∙ sym many)) (λ i x lt.
       let here : i < length (c ∷ cs) = omega (arith, lt) in
       let there : i < length es = omega (arith, here) in
-      subst (λ (d : Handle WorkRegion). IsThrough d (get_or (descs_in es) i x)) (sym (get_or-map desc_in (c ∷ cs) i c x here)) (subst (λ (e : Handle WorkRegion). IsThrough (desc_in (get_or (c ∷ cs) i c)) e) (sym (get_or-map desc_in es i c x there)) (each i c here)))
+      subst (λ (d : Handle WorkRegion). IsThrough d (get_or (descs_in es) i x)) (sym (get_or-map desc_in (c ∷ cs) i c x here))
+      (subst (λ (e : Handle WorkRegion). IsThrough (desc_in (get_or (c ∷ cs) i c)) e) (sym (get_or-map desc_in es i c x there))
+      (each i c here)))
 
 -- what a slice that was lent whole left
 written : {A : Type 0} (n : ℕ) (xs ys : List A) → length xs ≡ n → length ys ≡ n → take n (xs ++ drop (length xs) ys) ≡ xs

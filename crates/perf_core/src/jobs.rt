@@ -67,8 +67,10 @@ fn perform<A: Access>(work_region: WorkRegion, memory: &mut A, job: Job) -> Resu
     requires going { A.stopped memory.old ≡ None }
     requires region { RegionFits work_region.region (A.words memory.old) }
     requires job { JobFits (A.words memory.old) job }
-    requires well { Under (A.good memory.old) (A.words memory.old) (A.log memory.old) (WellFormed work_region.region) }
-    ensures well { OnOk result (Under (A.good memory.new) (A.words memory.new) (A.log memory.new) (WellFormed work_region.region)) }
+    requires well { Under (A.good memory.old) (A.words memory.old) (A.log memory.old)
+        (WellFormed work_region.region) }
+    ensures well { OnOk result (Under (A.good memory.new) (A.words memory.new) (A.log memory.new)
+        (WellFormed work_region.region)) }
     ensures goes { OnOk result (A.stopped memory.new ≡ None) }
     ensures stops { IfErr result (λ s. A.stopped memory.new ≡ Some s) }
     ensures good { SameMemories (A.good memory.old) (A.good memory.new) }
@@ -165,8 +167,10 @@ fn summed(sum: u64, accounts: usize) -> Came {
 fn on_list<A: Access>(list: List, memory: &mut A, job: Job) -> Result<Came, Stop>
     requires going { A.stopped memory.old ≡ None }
     requires within { ChainsFit (list_of list) (A.words memory.old) }
-    requires well { Under (A.good memory.old) (A.words memory.old) (A.log memory.old) (IsChains (list_of list)) }
-    ensures well { OnOk result (Under (A.good memory.new) (A.words memory.new) (A.log memory.new) (IsChains (list_of list))) }
+    requires well { Under (A.good memory.old) (A.words memory.old) (A.log memory.old)
+        (IsChains (list_of list)) }
+    ensures well { OnOk result (Under (A.good memory.new) (A.words memory.new) (A.log memory.new)
+        (IsChains (list_of list))) }
     ensures goes { OnOk result (A.stopped memory.new ≡ None) }
     ensures stops { IfErr result (λ s. A.stopped memory.new ≡ Some s) }
     ensures good { SameMemories (A.good memory.old) (A.good memory.new) }
@@ -188,8 +192,10 @@ fn on_list<A: Access>(list: List, memory: &mut A, job: Job) -> Result<Came, Stop
 fn on_hash<A: Access>(hash: Hash, memory: &mut A, job: Job) -> Result<Came, Stop>
     requires going { A.stopped memory.old ≡ None }
     requires within { ChainsFit (hash_of hash) (A.words memory.old) }
-    requires well { Under (A.good memory.old) (A.words memory.old) (A.log memory.old) (IsChains (hash_of hash)) }
-    ensures well { OnOk result (Under (A.good memory.new) (A.words memory.new) (A.log memory.new) (IsChains (hash_of hash))) }
+    requires well { Under (A.good memory.old) (A.words memory.old) (A.log memory.old)
+        (IsChains (hash_of hash)) }
+    ensures well { OnOk result (Under (A.good memory.new) (A.words memory.new) (A.log memory.new)
+        (IsChains (hash_of hash))) }
     ensures goes { OnOk result (A.stopped memory.new ≡ None) }
     ensures stops { IfErr result (λ s. A.stopped memory.new ≡ Some s) }
     ensures good { SameMemories (A.good memory.old) (A.good memory.new) }

@@ -90,7 +90,9 @@ fn work_all<R: Threads + Wait + Sync>(
     requires ready { All (λ caller. IsReady stm.now (desc_in caller)) callers.old }
     requires work_region { FitsWorkRegion stm.now }
     ensures count { length callers.new ≡ length callers.old }
-    ensures done { (i : ℕ) (d : CachePadded Caller) → i < length callers.old → IsThrough (desc_in (slice_index_or callers.old i d)) (desc_in (slice_index_or callers.new i d)) }
+    ensures done { (i : ℕ) (d : CachePadded Caller) → i < length callers.old
+        → IsThrough (desc_in (slice_index_or callers.old i d))
+        (desc_in (slice_index_or callers.new i d)) }
 {
     let threads = callers.len();
     thread::for_each_mut(

@@ -3,7 +3,6 @@
 -- Without `mine` and `owner` two callers could have a range. Without `stored`, `still` and `sees` the entry of a
 -- give-back needn't be legal. Without `apart` an attempt that aborts or writes back could store in the range.
 use Rattle.std.specs.Prelude.{ℕ, ◌≡◌, ◌+◌, ◌<◌, ◌≤◌, ◌||◌, ◌&&◌, if◌then◌else◌, Bool, true, false, List}
-use Rattle.rule_base.specs.declared.entries.Cell.{Cell}
 use Rattle.rule_base.specs.declared.entries.Entry.{Entry}
 use Rattle.stm_model.specs.declared.config.Config.{Config}
 use Rattle.rule_base.specs.declared.views.FenceView.{FenceView}

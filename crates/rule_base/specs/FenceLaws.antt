@@ -1,23 +1,20 @@
 -- Each step keeps the clauses of the fence: those of others by leaving the range alone.
-use Rattle.std.proofs.Common.{◌≡◌, ◌≢◌, ℕ, ◌+◌, ◌<◌, ◌≤◌, List, [], ◌∷◌, Bool, true, false, eqb, arith, refl, sym, subst, ap, ◌∙◌, le_refl}
-use Rattle.std.specs.Prelude.{if◌then◌else◌, ◌==◌, ◌||◌, ◌^◌}
+use Rattle.std.proofs.Common.{◌≡◌, ℕ, ◌+◌, ◌<◌, ◌≤◌, List, [], ◌∷◌, Bool, true, false, eqb, arith, refl, sym, subst, ap, ◌∙◌, le_refl}
+use Rattle.std.specs.Prelude.{if◌then◌else◌}
 use Rattle.std.proofs.lemmas.Bool.{eqb-true, eqb-false}
 use Rattle.std.proofs.Math.Path.{fun_ext}
-use Rattle.stm_model.specs.declared.alg.Alg.{Alg}
 use Rattle.stm_model.specs.declared.config.Config.{Config}
-use Rattle.rule_base.specs.declared.entries.Cell.{Cell}
 use Rattle.rule_base.specs.declared.entries.Entry.{Entry}
 use Rattle.rule_base.specs.declared.views.FenceView.{FenceView}
-use Rattle.rule_base.specs.declared.views.Phase.{Phase}
 use Rattle.rule_base.specs.declared.views.Phase.TheVariants.{In}
 use Rattle.rule_base.specs.declared.views.View.{View}
 use Rattle.rule_base.specs.Encodings.{fence_of, fence_owner, fence_number, fenced}
 use Rattle.rule_base.specs.Lemmas.EncodingLemmas.{fence_owner-number, fenced-inside, fenced-none}
-use Rattle.rule_base.specs.Fence.{heap_without_fence, without_fence, owes, FenceProjection, fence_projection, KnowsPast, FenceHolder, FenceRule}
+use Rattle.rule_base.specs.Fence.{heap_without_fence, owes, FenceProjection, fence_projection, KnowsPast, FenceHolder, FenceRule}
 use Rattle.rule_base.specs.FenceSteps.{no_fence}
-use Rattle.rule_base.specs.History.{over, touches, word_now, upto, Small, Explains, Below}
-use Rattle.rule_base.specs.Lemmas.HistoryLemmas.{over-miss, upto-all, small-more}
-use Rattle.rule_base.specs.Lemmas.PutLemmas.{put-all, put-else, parts-put, parts-kept}
+use Rattle.rule_base.specs.History.{over, touches, word_now, upto, Below}
+use Rattle.rule_base.specs.Lemmas.HistoryLemmas.{over-miss, upto-all}
+use Rattle.rule_base.specs.Lemmas.PutLemmas.{put-all, put-else, parts-put}
 use Rattle.rule_base.specs.World.{World, put, parts}
 
 -- leaving the fence out hides nothing outside the range
@@ -46,7 +43,9 @@ heap_without_fence-put fence heap h a x out = fun_ext (put-all (heap_without_fen
     here = grind arith
 
 -- an entry that writes nothing in the range
-pub heap_without_fence-entry : (fence : ℕ) (heap : ℕ → ℕ) (h : List Entry) (e : Entry) → ((a : ℕ) → touches e.writes a ≡ true → fenced fence a ≡ false) → heap_without_fence fence heap h ≡ heap_without_fence fence heap (e ∷ h)
+pub heap_without_fence-entry : (fence : ℕ) (heap : ℕ → ℕ) (h : List Entry) (e : Entry)
+    → ((a : ℕ) → touches e.writes a ≡ true → fenced fence a ≡ false)
+    → heap_without_fence fence heap h ≡ heap_without_fence fence heap (e ∷ h)
 heap_without_fence-entry fence heap h e apart = fun_ext (λ a. go a (fenced fence a) refl)
   where
     clear : (a : ℕ) (b : Bool) → touches e.writes a ≡ b → fenced fence a ≡ true → touches e.writes a ≡ false
@@ -66,7 +65,8 @@ entry-apart fence h e apart a f = over-miss e.writes a (word_now h a) (clear (to
     clear false t = refl
 
 -- what stands of the holder, where the range and what lies there stay
-pub holder-stays : (s t : FenceProjection) (v : FenceView) → t.fence ≡ s.fence → ((a : ℕ) → fenced s.fence a ≡ true → t.heap a ≡ s.heap a) → ((a : ℕ) → fenced s.fence a ≡ true → word_now t.history a ≡ word_now s.history a) → FenceHolder s v → FenceHolder t v
+pub holder-stays : (s t : FenceProjection) (v : FenceView) → t.fence ≡ s.fence → ((a : ℕ) → fenced s.fence a ≡ true → t.heap a ≡ s.heap a)
+    → ((a : ℕ) → fenced s.fence a ≡ true → word_now t.history a ≡ word_now s.history a) → FenceHolder s v → FenceHolder t v
 holder-stays s t v fence heap word h = record {
   stored = λ a e. let f : fenced s.fence a ≡ true = ap (λ k. fenced k a) (sym fence) ∙ e in heap a f ∙ (h.stored a f ∙ ap (over v.stores a) (sym (word a f)));
   still = λ a e. let f : fenced s.fence a ≡ true = ap (λ k. fenced k a) (sym fence) ∙ e in word a f ∙ h.still a f;
@@ -85,7 +85,17 @@ pub past-stays : (s t : FenceProjection) (v : FenceView) → s.clock ≤ t.clock
 past-stays s t v up seen p = record { seen = p.seen ∙ sym (seen v.past.front p.front); front = (let l = p.front in omega arith) }
 
 module _ (c : Config) where
-  fence_projection-put : (w x : World) (n : ℕ) (v : View) → x.views ≡ put w.views n v → fence_projection x ≡ record { clock = x.clock; fence = fence_of x.gate; heap = x.heap; history = x.history; views = put (fence_projection w).views n v.fence; phases = put (fence_projection w).phases n v.gate.phase; owed = put (fence_projection w).owed n (owes v) }
+  fence_projection-put : (w x : World) (n : ℕ) (v : View) → x.views ≡ put w.views n v
+      → fence_projection x
+      ≡ record {
+        clock = x.clock;
+        fence = fence_of x.gate;
+        heap = x.heap;
+        history = x.history;
+        views = put (fence_projection w).views n v.fence;
+        phases = put (fence_projection w).phases n v.gate.phase;
+        owed = put (fence_projection w).owed n (owes v);
+      }
   fence_projection-put w x n v is = λ i. record {
     clock = x.clock;
     fence = fence_of x.gate;
@@ -98,7 +108,9 @@ module _ (c : Config) where
 
   -- A STEP OF ANY OTHER KIND: it leaves the fence, what lies there, and what its caller knows of it, and owes nothing there afterwards
   pub fence-stays : (w x : World) (n : ℕ) (v : View) → x.views ≡ put w.views n v → fence_of x.gate ≡ fence_of w.gate → w.clock ≤ x.clock
-      → ((a : ℕ) → fenced (fence_of w.gate) a ≡ true → x.heap a ≡ w.heap a) → ((a : ℕ) → fenced (fence_of w.gate) a ≡ true → word_now x.history a ≡ word_now w.history a) → ((f : ℕ) → f ≤ w.clock → upto x.history f ≡ upto w.history f)
+      → ((a : ℕ) → fenced (fence_of w.gate) a ≡ true → x.heap a ≡ w.heap a)
+      → ((a : ℕ) → fenced (fence_of w.gate) a ≡ true → word_now x.history a ≡ word_now w.history a)
+      → ((f : ℕ) → f ≤ w.clock → upto x.history f ≡ upto w.history f)
       → v.fence ≡ (w.views n).fence → ((a : ℕ) → v.gate.phase ≡ In → owes v a ≡ true → fenced (fence_of w.gate) a ≡ false)
       → FenceRule c (fence_projection w) → FenceRule c (fence_projection x)
   fence-stays w x n v is fence up heap word seen own apart r = subst (FenceRule c) (sym (fence_projection-put w x n v is)) (record {
@@ -122,7 +134,16 @@ module _ (c : Config) where
   })
     where
       after : FenceProjection
-      after = record { clock = x.clock; fence = fence_of x.gate; heap = x.heap; history = x.history; views = put (fence_projection w).views n v.fence; phases = put (fence_projection w).phases n v.gate.phase; owed = put (fence_projection w).owed n (owes v) }
+      after =
+          record {
+            clock = x.clock;
+            fence = fence_of x.gate;
+            heap = x.heap;
+            history = x.history;
+            views = put (fence_projection w).views n v.fence;
+            phases = put (fence_projection w).phases n v.gate.phase;
+            owed = put (fence_projection w).owed n (owes v);
+          }
 
       kept : (u : FenceView) → FenceHolder (fence_projection w) u → FenceHolder after u
       kept u h = holder-stays (fence_projection w) after u fence heap word h
@@ -130,7 +151,8 @@ module _ (c : Config) where
       here : (m : ℕ) → m ≡ n → {A : Type 0} (f : ℕ → A) (y : A) → put f n y m ≡ y
       here m e f y = grind (arith, e)
 
-      other : (m a : ℕ) (b : Bool) → (b ≡ true → m ≡ n) → (b ≡ false → m ≡ n → ⊥) → put (fence_projection w).phases n v.gate.phase m ≡ In → put (fence_projection w).owed n (owes v) m a ≡ true → fenced (fence_of w.gate) a ≡ false
+      other : (m a : ℕ) (b : Bool) → (b ≡ true → m ≡ n) → (b ≡ false → m ≡ n → ⊥) → put (fence_projection w).phases n v.gate.phase m ≡ In
+          → put (fence_projection w).owed n (owes v) m a ≡ true → fenced (fence_of w.gate) a ≡ false
       other m a true e d p o = apart a (sym (here m (e refl) (fence_projection w).phases v.gate.phase) ∙ p) (ap (λ (f : ℕ → Bool). f a) (sym (here m (e refl) (fence_projection w).owed (owes v))) ∙ o)
       other m a false e d p o = r.apart m a (sym (put-else (fence_projection w).phases n m v.gate.phase (d refl)) ∙ p) (ap (λ (f : ℕ → Bool). f a) (sym (put-else (fence_projection w).owed n m (owes v) (d refl))) ∙ o)
 
@@ -139,9 +161,27 @@ module _ (c : Config) where
   one-holder s m n r hm hn = let a = (r.mine m hm).0 in let b = (r.mine n hn).0 in omega arith
 
   -- A STEP OF THE HOLDER, which keeps its fence: what is said of it is made anew
-  pub fence-held : (w x : World) (n : ℕ) (v : View) → x.views ≡ put w.views n v → fence_of x.gate ≡ fence_of w.gate → w.clock ≤ x.clock → ((f : ℕ) → f ≤ w.clock → upto x.history f ≡ upto w.history f) → (w.views n).fence.holds ≡ true → v.fence.holds ≡ true → v.fence.number ≡ (w.views n).fence.number
-      → FenceHolder (record { clock = x.clock; fence = fence_of x.gate; heap = x.heap; history = x.history; views = put (fence_projection w).views n v.fence; phases = put (fence_projection w).phases n v.gate.phase; owed = put (fence_projection w).owed n (owes v) }) v.fence
-      → KnowsPast (record { clock = x.clock; fence = fence_of x.gate; heap = x.heap; history = x.history; views = put (fence_projection w).views n v.fence; phases = put (fence_projection w).phases n v.gate.phase; owed = put (fence_projection w).owed n (owes v) }) v.fence
+  pub fence-held : (w x : World) (n : ℕ) (v : View) → x.views ≡ put w.views n v → fence_of x.gate ≡ fence_of w.gate → w.clock ≤ x.clock
+      → ((f : ℕ) → f ≤ w.clock → upto x.history f ≡ upto w.history f) → (w.views n).fence.holds ≡ true → v.fence.holds ≡ true
+      → v.fence.number ≡ (w.views n).fence.number
+      → FenceHolder (record {
+        clock = x.clock;
+        fence = fence_of x.gate;
+        heap = x.heap;
+        history = x.history;
+        views = put (fence_projection w).views n v.fence;
+        phases = put (fence_projection w).phases n v.gate.phase;
+        owed = put (fence_projection w).owed n (owes v);
+      }) v.fence
+      → KnowsPast (record {
+        clock = x.clock;
+        fence = fence_of x.gate;
+        heap = x.heap;
+        history = x.history;
+        views = put (fence_projection w).views n v.fence;
+        phases = put (fence_projection w).phases n v.gate.phase;
+        owed = put (fence_projection w).owed n (owes v);
+      }) v.fence
       → v.gate.phase ≡ (w.views n).gate.phase → owes v ≡ owes (w.views n)
       → FenceRule c (fence_projection w) → FenceRule c (fence_projection x)
   fence-held w x n v is fence up seen has holds number holder past phase owed r = subst (FenceRule c) (sym (fence_projection-put w x n v is)) (record {
@@ -160,18 +200,34 @@ module _ (c : Config) where
         (λ m d t. absurd (d (one-holder (fence_projection w) m n r t has)));
     past = put-all (fence_projection w).views n v.fence (λ m u. KnowsPast after u) past (λ m d. past-stays (fence_projection w) after (w.views m).fence up seen (r.past m));
     apart = put-all (fence_projection w).views n v.fence (λ m u. (a : ℕ) → after.phases m ≡ In → after.owed m a ≡ true → fenced (fence_of x.gate) a ≡ false)
-        (λ a p o. ap (λ k. fenced k a) fence ∙ r.apart n a (sym (here n refl (fence_projection w).phases v.gate.phase ∙ phase) ∙ p) (ap (λ (f : ℕ → Bool). f a) (sym (here n refl (fence_projection w).owed (owes v) ∙ owed)) ∙ o))
-        (λ m d a p o. ap (λ k. fenced k a) fence ∙ r.apart m a (sym (put-else (fence_projection w).phases n m v.gate.phase d) ∙ p) (ap (λ (f : ℕ → Bool). f a) (sym (put-else (fence_projection w).owed n m (owes v) d)) ∙ o));
+        (λ a p o.
+        ap (λ k. fenced k a) fence
+        ∙ r.apart n a (sym (here n refl (fence_projection w).phases v.gate.phase ∙ phase) ∙ p)
+        (ap (λ (f : ℕ → Bool). f a) (sym (here n refl (fence_projection w).owed (owes v) ∙ owed)) ∙ o))
+        (λ m d a p o.
+        ap (λ k. fenced k a) fence
+        ∙ r.apart m a (sym (put-else (fence_projection w).phases n m v.gate.phase d) ∙ p)
+        (ap (λ (f : ℕ → Bool). f a) (sym (put-else (fence_projection w).owed n m (owes v) d)) ∙ o));
   })
     where
       after : FenceProjection
-      after = record { clock = x.clock; fence = fence_of x.gate; heap = x.heap; history = x.history; views = put (fence_projection w).views n v.fence; phases = put (fence_projection w).phases n v.gate.phase; owed = put (fence_projection w).owed n (owes v) }
+      after =
+          record {
+            clock = x.clock;
+            fence = fence_of x.gate;
+            heap = x.heap;
+            history = x.history;
+            views = put (fence_projection w).views n v.fence;
+            phases = put (fence_projection w).phases n v.gate.phase;
+            owed = put (fence_projection w).owed n (owes v);
+          }
 
       here : (m : ℕ) → m ≡ n → {A : Type 0} (f : ℕ → A) (y : A) → put f n y m ≡ y
       here m e f y = grind (arith, e)
 
   -- A FENCE COMES, where there was none, nobody is in an attempt, and the memory lies in the heap
-  pub fence-comes : (w x : World) (n from count : ℕ) (v : View) → x.views ≡ put w.views n v → x.clock ≡ w.clock → x.heap ≡ w.heap → x.history ≡ w.history → c.fence ≡ true → n < c.callers → fence_of w.gate ≡ 0 → fence_of x.gate ≡ fence_number n from count
+  pub fence-comes : (w x : World) (n from count : ℕ) (v : View) → x.views ≡ put w.views n v → x.clock ≡ w.clock → x.heap ≡ w.heap
+      → x.history ≡ w.history → c.fence ≡ true → n < c.callers → fence_of w.gate ≡ 0 → fence_of x.gate ≡ fence_number n from count
       → from < 1048576 → count < 2097152 → from + count ≤ c.words → Below w.history (w.clock + 1)
       → v.fence ≡ record { holds = true; number = fence_number n from count; past = record { seen = w.history; front = w.clock }; reads = []; stores = [] }
       → ((a : ℕ) → w.heap a ≡ word_now w.history a) → ((m : ℕ) → (put (fence_projection w).phases n v.gate.phase m) ≡ In → ⊥)
@@ -207,7 +263,16 @@ module _ (c : Config) where
   })
     where
       after : FenceProjection
-      after = record { clock = x.clock; fence = fence_of x.gate; heap = x.heap; history = x.history; views = put (fence_projection w).views n v.fence; phases = put (fence_projection w).phases n v.gate.phase; owed = put (fence_projection w).owed n (owes v) }
+      after =
+          record {
+            clock = x.clock;
+            fence = fence_of x.gate;
+            heap = x.heap;
+            history = x.history;
+            views = put (fence_projection w).views n v.fence;
+            phases = put (fence_projection w).phases n v.gate.phase;
+            owed = put (fence_projection w).owed n (owes v);
+          }
 
       owner_now : fence_owner (fence_of x.gate) ≡ 1 + n
       owner_now = ap fence_owner fence ∙ fence_owner-number n from count low few
@@ -216,7 +281,9 @@ module _ (c : Config) where
       nobody m t = let k : fence_owner (fence_of w.gate) ≡ 1 + m = (r.mine m t).0 in let z : fence_owner (fence_of w.gate) ≡ fence_owner 0 = ap fence_owner was in let y : fence_owner 0 ≡ 0 = refl in omega arith
 
   -- THE FENCE GOES: the memory lies in its range
-  pub fence-goes : (w x : World) (n : ℕ) (v : View) → x.views ≡ put w.views n v → fence_of x.gate ≡ 0 → x.clock ≡ w.clock → x.history ≡ w.history → (w.views n).fence.holds ≡ true → v.fence ≡ no_fence (w.views n).fence → FenceRule c (fence_projection w) → FenceRule c (fence_projection x)
+  pub fence-goes : (w x : World) (n : ℕ) (v : View) → x.views ≡ put w.views n v → fence_of x.gate ≡ 0 → x.clock ≡ w.clock
+      → x.history ≡ w.history → (w.views n).fence.holds ≡ true → v.fence ≡ no_fence (w.views n).fence → FenceRule c (fence_projection w)
+      → FenceRule c (fence_projection x)
   fence-goes w x n v is fence clock history has own r = subst (FenceRule c) (sym (fence_projection-put w x n v is)) (record {
     mine = put-all (fence_projection w).views n v.fence (λ m u. u.holds ≡ true → (fence_owner (fence_of x.gate) ≡ 1 + m) × (fence_of x.gate ≡ u.number))
         (λ t. absurd (let f : true ≡ false = sym t ∙ gone in cc))
@@ -239,7 +306,16 @@ module _ (c : Config) where
       gone = ap (λ (u : FenceView). u.holds) own
 
       after : FenceProjection
-      after = record { clock = x.clock; fence = fence_of x.gate; heap = x.heap; history = x.history; views = put (fence_projection w).views n v.fence; phases = put (fence_projection w).phases n v.gate.phase; owed = put (fence_projection w).owed n (owes v) }
+      after =
+          record {
+            clock = x.clock;
+            fence = fence_of x.gate;
+            heap = x.heap;
+            history = x.history;
+            views = put (fence_projection w).views n v.fence;
+            phases = put (fence_projection w).phases n v.gate.phase;
+            owed = put (fence_projection w).owed n (owes v);
+          }
 
       kept : (m : ℕ) → KnowsPast after (w.views m).fence
       kept m = past-stays (fence_projection w) after (w.views m).fence (let k = clock in omega arith) (λ f l. ap (λ (h : List Entry). upto h f) history) (r.past m)

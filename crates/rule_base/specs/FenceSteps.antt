@@ -1,8 +1,7 @@
 -- The kinds of step of a fence: a caller that holds the quiet gate takes a range out of the transactions, loads and stores there, and gives it back.
-use Rattle.std.specs.Prelude.{ℕ, ◌≡◌, ◌≢◌, ◌+◌, ◌<◌, ◌≤◌, ◌^◌, if◌then◌else◌, List, [], ◌∷◌, length, true, false}
+use Rattle.std.specs.Prelude.{ℕ, ◌≡◌, ◌≢◌, ◌+◌, ◌<◌, ◌≤◌, ◌^◌, if◌then◌else◌, [], ◌∷◌, length, true, false}
 use Rattle.stm_model.specs.Algorithms.{entry_rise}
 use Rattle.stm_model.specs.declared.alg.Alg.{Alg}
-use Rattle.rule_base.specs.declared.entries.Cell.{Cell}
 use Rattle.rule_base.specs.declared.entries.Entry.{Entry}
 use Rattle.rule_base.specs.declared.layout.At.TheVariants.{Clock, Gate, Heap}
 use Rattle.stm_model.specs.declared.config.Config.{Config}
@@ -10,7 +9,7 @@ use Rattle.stm_model.specs.declared.config.TheConstants.{CLOCK_LIMIT}
 use Rattle.rule_base.specs.declared.views.FenceView.{FenceView}
 use Rattle.rule_base.specs.declared.views.Phase.TheVariants.{Closing}
 use Rattle.rule_base.specs.declared.views.View.{View}
-use Rattle.rule_base.specs.Encodings.{gate_word, fence_number, fenced}
+use Rattle.rule_base.specs.Encodings.{gate_word, fenced}
 use Rattle.rule_base.specs.History.{over, touches, word_now, upto, AreWords, Below, Legal}
 use Rattle.rule_base.specs.InstallSteps.{HasChecked}
 use Rattle.rule_base.specs.StepKinds.{StepKind, same_history}

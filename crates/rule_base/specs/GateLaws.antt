@@ -51,7 +51,9 @@ is-caller-at callers s r n busy = go (ltb n callers) refl
     go false q = absurd (busy (r.far n (grind (arith, nat_tests))))
 
 -- who was seen idle rests still, where the caller that stepped rests or was seen by nobody
-seen-put : (views : ℕ → GateView) (n : ℕ) (v : GateView) → v.checked ≡ (views n).checked → ((m : ℕ) → member (views m).checked n ≡ true → rests v.phase ≡ true) → ((m k : ℕ) → member (views m).checked k ≡ true → rests (views k).phase ≡ true)
+seen-put : (views : ℕ → GateView) (n : ℕ) (v : GateView) → v.checked ≡ (views n).checked
+    → ((m : ℕ) → member (views m).checked n ≡ true → rests v.phase ≡ true)
+    → ((m k : ℕ) → member (views m).checked k ≡ true → rests (views k).phase ≡ true)
     → (m k : ℕ) → member (put views n v m).checked k ≡ true → rests (put views n v k).phase ≡ true
 seen-put views n v same own seen m k e = put-all views n v (λ j u. member (views m).checked j ≡ true → rests u.phase ≡ true) (own m) (λ j d. seen m j) k
     (subst (λ l. member l k ≡ true) (put-all views n v (λ j u. u.checked ≡ (views j).checked) same (λ j d. refl) m) e)
@@ -67,7 +69,9 @@ module _ (callers : ℕ) where
   pub announce-gate : (w : World) (n : ℕ) → n < callers → CanAnnounce (w.views n) → GateRule callers (gate_projection w) → GateRule callers (gate_projection (world_after (announce n) n w))
   announce-gate w n low idle g = subst (GateRule callers) (sym (gate_projection-put w (world_after (announce n) n w) n (view_after (announce n) w (w.views n) 1) refl)) (law (gate_projection w) g idle)
     where
-      law : (s : GateProjection) → GateRule callers s → (s.views n).phase ≡ Idle → GateRule callers (record s { status = put s.status n 1; views = put s.views n (record (s.views n) { phase = Announced; present = true }) })
+      law : (s : GateProjection) → GateRule callers s → (s.views n).phase ≡ Idle
+          → GateRule callers
+          (record s { status = put s.status n 1; views = put s.views n (record (s.views n) { phase = Announced; present = true }) })
       law s r idle = record {
         quiet = λ m e. grind (arith, r.quiet m, e);
         status = λ m. grind (arith, r.status m);
@@ -92,7 +96,11 @@ module _ (callers : ℕ) where
   pub load_gate-gate : (w : World) (n : ℕ) → CanLoadGate (w.views n) → GateRule callers (gate_projection w) → GateRule callers (gate_projection (world_after load_gate n w))
   load_gate-gate w n announced g = subst (GateRule callers) (sym (gate_projection-put w (world_after load_gate n w) n (view_after load_gate w (w.views n) w.gate) refl)) (law (gate_projection w) g announced)
     where
-      law : (s : GateProjection) → GateRule callers s → (s.views n).phase ≡ Announced → GateRule callers (record s { views = put s.views n (record (s.views n) { phase = if holder_of s.gate == 0 then In else Turned; algorithm = alg_of s.gate; fence = fence_of s.gate }) })
+      law : (s : GateProjection) → GateRule callers s → (s.views n).phase ≡ Announced
+          → GateRule callers (record s {
+            views = put s.views n (record (s.views n)
+                { phase = if holder_of s.gate == 0 then In else Turned; algorithm = alg_of s.gate; fence = fence_of s.gate });
+          })
       law s r announced = record {
         quiet = λ m e. grind (arith, r.quiet m, e, announced);
         status = λ m. grind (arith, r.status m);
@@ -115,10 +123,14 @@ module _ (callers : ℕ) where
       }
 
   pub depart-gate : (w : World) (n : ℕ) → CanDepart (w.views n) → GateRule callers (gate_projection w) → GateRule callers (gate_projection (world_after (depart n) n w))
-  depart-gate w n may g = subst (GateRule callers) (sym (gate_projection-put w (world_after (depart n) n w) n (view_after (depart n) w (w.views n) 0) refl)) (by (gate_projection w) (w.views n).gate.phase refl may.phase may.reopened g)
+  depart-gate w n may g =
+      subst (GateRule callers) (sym (gate_projection-put w (world_after (depart n) n w) n (view_after (depart n) w (w.views n) 0) refl))
+      (by (gate_projection w) (w.views n).gate.phase refl may.phase may.reopened g)
     where
       -- the phase after is p
-      law : (s : GateProjection) (p : Phase) → is_silent p ≡ true → ((s.views n).holds ≡ true → may_hold p ≡ true) → (p ≡ Closing → (s.views n).holds ≡ true) → ((k : ℕ) → member (s.views k).checked n ≡ true → rests p ≡ true) → (p ≡ In → ⊥) → (p ≡ Aiming → ⊥) → (callers ≤ n → p ≡ Idle) → GateRule callers s
+      law : (s : GateProjection) (p : Phase) → is_silent p ≡ true → ((s.views n).holds ≡ true → may_hold p ≡ true)
+          → (p ≡ Closing → (s.views n).holds ≡ true) → ((k : ℕ) → member (s.views k).checked n ≡ true → rests p ≡ true) → (p ≡ In → ⊥)
+          → (p ≡ Aiming → ⊥) → (callers ≤ n → p ≡ Idle) → GateRule callers s
           → GateRule callers (record s { status = put s.status n 0; views = put s.views n (record (s.views n) { phase = p; present = false }) })
       law s p silent hold closing seen out unaimed far r = record {
         quiet = λ m e. grind (arith, r.quiet m, e, silent);
@@ -160,7 +172,11 @@ module _ (callers : ℕ) where
       open_word : (s : GateProjection) → GateRule callers s → holder_of s.gate ≡ 0 → s.gate ≡ gate_word (fence_of s.gate) 0 (alg_of s.gate)
       open_word s r e = r.formed ∙ ap (λ h. gate_word (fence_of s.gate) h (alg_of s.gate)) e
 
-      law : (s : GateProjection) → GateRule callers s → (s.views n).phase ≡ Announced → GateRule callers (record s { views = put s.views n (record (s.views n) { phase = if holder_of s.gate == 0 then Aiming else Turned; algorithm = alg_of s.gate; fence = fence_of s.gate; aim = s.gate }) })
+      law : (s : GateProjection) → GateRule callers s → (s.views n).phase ≡ Announced
+          → GateRule callers (record s {
+            views = put s.views n (record (s.views n)
+                { phase = if holder_of s.gate == 0 then Aiming else Turned; algorithm = alg_of s.gate; fence = fence_of s.gate; aim = s.gate });
+          })
       law s r announced = record {
         quiet = λ m e. grind (arith, r.quiet m, e, announced);
         status = λ m. grind (arith, r.status m);
@@ -251,7 +267,10 @@ module _ (callers : ℕ) where
       go false e = subst (GateRule callers) (sym (gate_projection-put w (at false) n (next false) refl)) (refused (gate_projection w) g may.phase)
 
   pub check-gate : (k : ℕ) (w : World) (n : ℕ) → CanCheck n k (w.views n) → GateRule callers (gate_projection w) → GateRule callers (gate_projection (world_after (check k) n w))
-  check-gate k w n may g = subst (GateRule callers) (sym (gate_projection-put w (world_after (check k) n w) n (view_after (check k) w (w.views n) (w.status k)) refl)) (go (gate_projection w) (eqb (w.status k) 0) (λ e. eqb-true (w.status k) 0 e) g may.holds)
+  check-gate k w n may g =
+      subst (GateRule callers)
+      (sym (gate_projection-put w (world_after (check k) n w) n (view_after (check k) w (w.views n) (w.status k)) refl))
+      (go (gate_projection w) (eqb (w.status k) 0) (λ e. eqb-true (w.status k) 0 e) g may.holds)
     where
       -- another caller whose status is 0 isn't closing, since it would hold the gate
       idle : (s : GateProjection) → GateRule callers s → (s.views n).holds ≡ true → s.status k ≡ 0 → rests (s.views k).phase ≡ true
@@ -265,7 +284,9 @@ module _ (callers : ℕ) where
           by In is q = absurd (let e : false ≡ true = sym (ap is_silent is) ∙ q in cc)
           by Closing is q = absurd (may.other (let a = r.mine k (r.closing k is) in let b = r.mine n holds in omega arith))
 
-      law : (s : GateProjection) (seen : List ℕ) → GateRule callers s → (s.views n).holds ≡ true → ((j : ℕ) → member seen j ≡ true → rests (s.views j).phase ≡ true) → GateRule callers (record s { views = put s.views n (record (s.views n) { checked = seen }) })
+      law : (s : GateProjection) (seen : List ℕ) → GateRule callers s → (s.views n).holds ≡ true
+          → ((j : ℕ) → member seen j ≡ true → rests (s.views j).phase ≡ true)
+          → GateRule callers (record s { views = put s.views n (record (s.views n) { checked = seen }) })
       law s seen r holds rest = record {
         quiet = λ m e. grind (arith, r.quiet m, e);
         status = λ m. grind (arith, r.status m);
@@ -275,7 +296,11 @@ module _ (callers : ℕ) where
         holding = λ m e. grind (arith, r.holding m, e);
         closing = λ m e. grind (arith, r.closing m, e);
         checked = λ m j e. grind (arith, r.checked m j, e, holds);
-        seen = λ m j e. put-all s.views n (record (s.views n) { checked = seen }) (λ i u. rests (s.views i).phase ≡ true → rests u.phase ≡ true) (λ h. h) (λ i d h. h) j (put-all s.views n (record (s.views n) { checked = seen }) (λ i u. member u.checked j ≡ true → rests (s.views j).phase ≡ true) (rest j) (λ i d. r.seen i j) m e);
+        seen =
+            λ m j e.
+            put-all s.views n (record (s.views n) { checked = seen }) (λ i u. rests (s.views i).phase ≡ true → rests u.phase ≡ true)
+            (λ h. h) (λ i d h. h) j (put-all s.views n (record (s.views n) { checked = seen })
+            (λ i u. member u.checked j ≡ true → rests (s.views j).phase ≡ true) (rest j) (λ i d. r.seen i j) m e);
         named = λ m e. grind (arith, r.named m, e);
         spared = λ m e. grind (arith, r.spared m, e);
         held = λ m e. grind (arith, r.held m, e);
@@ -303,7 +328,9 @@ module _ (callers : ℕ) where
   reopen-gate fence alg w n may g = subst (GateRule callers) (sym (gate_projection-put w (world_after (reopen fence alg) n w) n (view_after (reopen fence alg) w (w.views n) (gate_word fence 0 alg)) refl))
       (law (gate_projection w) g (g.closing n may.phase) (g.held n (g.closing n may.phase) ∙ may.named) (g.guarded n (g.closing n may.phase) ∙ may.guarded) may.absent)
     where
-      law : (s : GateProjection) → GateRule callers s → (s.views n).holds ≡ true → alg_of s.gate ≡ alg → fence_of s.gate ≡ fence → (s.views n).present ≡ false → GateRule callers (record s { gate = gate_word fence 0 alg; views = put s.views n (opened (s.views n)) })
+      law : (s : GateProjection) → GateRule callers s → (s.views n).holds ≡ true → alg_of s.gate ≡ alg → fence_of s.gate ≡ fence
+          → (s.views n).present ≡ false
+          → GateRule callers (record s { gate = gate_word fence 0 alg; views = put s.views n (opened (s.views n)) })
       law s r holds same kept gone =
           let h : holder_of (gate_word fence 0 alg) ≡ 0 = holder_of-open fence alg in
           let a : alg_of (gate_word fence 0 alg) ≡ alg = alg_of-gate fence 0 alg in
@@ -329,8 +356,12 @@ module _ (callers : ℕ) where
             far = λ m e. grind (arith, r.far m, e);
           }
 
-  pub install-gate : (fence : ℕ) (alg : Alg) (w : World) (n : ℕ) → (w.views n).gate.fence ≡ fence → (w.views n).gate.phase ≡ Closing → HasChecked callers n (w.views n) → GateRule callers (gate_projection w) → GateRule callers (gate_projection (world_after (install n fence alg) n w))
-  install-gate fence alg w n guards closing quiet g = subst (GateRule callers) (sym (gate_projection-put w (world_after (install n fence alg) n w) n (view_after (install n fence alg) w (w.views n) (gate_word fence (1 + n) alg)) refl))
+  pub install-gate : (fence : ℕ) (alg : Alg) (w : World) (n : ℕ) → (w.views n).gate.fence ≡ fence → (w.views n).gate.phase ≡ Closing
+      → HasChecked callers n (w.views n) → GateRule callers (gate_projection w)
+      → GateRule callers (gate_projection (world_after (install n fence alg) n w))
+  install-gate fence alg w n guards closing quiet g =
+      subst (GateRule callers) (sym (gate_projection-put w (world_after (install n fence alg) n w) n
+      (view_after (install n fence alg) w (w.views n) (gate_word fence (1 + n) alg)) refl))
       (law (gate_projection w) g closing (g.guarded n (g.closing n closing) ∙ guards) (g.closing n closing) (others-rest w n quiet g))
     where
       law : (s : GateProjection) → GateRule callers s → (s.views n).phase ≡ Closing → fence_of s.gate ≡ fence → (s.views n).holds ≡ true → ((k : ℕ) → k ≢ n → rests (s.views k).phase ≡ true)
@@ -362,8 +393,13 @@ module _ (callers : ℕ) where
           }
 
   -- who is alone changes the fence
-  pub fence-gate : (number : ℕ) (giving : Bool) (alg : Alg) (w x : World) (n : ℕ) (v : View) → x.views ≡ put w.views n v → x.status ≡ w.status → x.gate ≡ gate_word number (1 + n) alg → v.gate ≡ record (w.views n).gate { fence = number; giving = giving } → (w.views n).gate.algorithm ≡ alg → (w.views n).gate.phase ≡ Closing → HasChecked callers n (w.views n) → GateRule callers (gate_projection w) → GateRule callers (gate_projection x)
-  fence-gate number giving alg w x n v is status gate own named closing quiet g = subst (GateRule callers) (sym path) (law (gate_projection w) g closing (g.held n (g.closing n closing) ∙ named) named (g.closing n closing) (others-rest w n quiet g))
+  pub fence-gate : (number : ℕ) (giving : Bool) (alg : Alg) (w x : World) (n : ℕ) (v : View) → x.views ≡ put w.views n v
+      → x.status ≡ w.status → x.gate ≡ gate_word number (1 + n) alg → v.gate ≡ record (w.views n).gate { fence = number; giving = giving }
+      → (w.views n).gate.algorithm ≡ alg → (w.views n).gate.phase ≡ Closing → HasChecked callers n (w.views n)
+      → GateRule callers (gate_projection w) → GateRule callers (gate_projection x)
+  fence-gate number giving alg w x n v is status gate own named closing quiet g =
+      subst (GateRule callers) (sym path)
+      (law (gate_projection w) g closing (g.held n (g.closing n closing) ∙ named) named (g.closing n closing) (others-rest w n quiet g))
     where
       path : gate_projection x ≡ record { status = w.status; gate = gate_word number (1 + n) alg; views = put (gate_projection w).views n (record (w.views n).gate { fence = number; giving = giving }) }
       path = λ i. record { status = status i; gate = gate i; views = (ap (parts (λ (u : View). u.gate)) is ∙ (parts-put (λ (u : View). u.gate) w.views n v ∙ ap (put (gate_projection w).views n) own)) i }
@@ -446,7 +482,9 @@ module _ (callers : ℕ) where
   return_gate-gate fence alg w n may g = subst (GateRule callers) (sym (gate_projection-put w (world_after (return_gate fence alg) n w) n (view_after (return_gate fence alg) w (w.views n) (gate_word fence 0 alg)) refl))
       (law (gate_projection w) g may.holds (g.held n may.holds ∙ may.named) (g.guarded n may.holds ∙ may.spared) may.phase)
     where
-      law : (s : GateProjection) → GateRule callers s → (s.views n).holds ≡ true → alg_of s.gate ≡ alg → fence_of s.gate ≡ fence → (s.views n).phase ≡ In → GateRule callers (record s { gate = gate_word fence 0 alg; views = put s.views n (returned (s.views n)) })
+      law : (s : GateProjection) → GateRule callers s → (s.views n).holds ≡ true → alg_of s.gate ≡ alg → fence_of s.gate ≡ fence
+          → (s.views n).phase ≡ In
+          → GateRule callers (record s { gate = gate_word fence 0 alg; views = put s.views n (returned (s.views n)) })
       law s r holds same kept inside =
           let h : holder_of (gate_word fence 0 alg) ≡ 0 = holder_of-open fence alg in
           let a : alg_of (gate_word fence 0 alg) ≡ alg = alg_of-gate fence 0 alg in
@@ -474,14 +512,18 @@ module _ (callers : ℕ) where
 
   -- a step that changes what its caller knows as the gate's holder, and nothing else at the gate
   pub gate-marked : (w x : World) (n : ℕ) (v : View) → x.views ≡ put w.views n v → x.status ≡ w.status → x.gate ≡ w.gate
-      → v.gate.phase ≡ (w.views n).gate.phase → v.gate.present ≡ (w.views n).gate.present → v.gate.algorithm ≡ (w.views n).gate.algorithm → v.gate.fence ≡ (w.views n).gate.fence → v.gate.aim ≡ (w.views n).gate.aim → v.gate.holds ≡ (w.views n).gate.holds → v.gate.checked ≡ (w.views n).gate.checked
+      → v.gate.phase ≡ (w.views n).gate.phase → v.gate.present ≡ (w.views n).gate.present → v.gate.algorithm ≡ (w.views n).gate.algorithm
+      → v.gate.fence ≡ (w.views n).gate.fence → v.gate.aim ≡ (w.views n).gate.aim → v.gate.holds ≡ (w.views n).gate.holds
+      → v.gate.checked ≡ (w.views n).gate.checked
       → GateRule callers (gate_projection w) → GateRule callers (gate_projection x)
   gate-marked w x n v is status gate phase present algorithm fence aim holds checked r = subst (GateRule callers) (sym path) (law (gate_projection w) v.gate r phase present algorithm fence aim holds checked)
     where
       path : gate_projection x ≡ record (gate_projection w) { views = put (gate_projection w).views n v.gate }
       path = λ i. record { status = status i; gate = gate i; views = (ap (parts (λ (u : View). u.gate)) is ∙ parts-put (λ (u : View). u.gate) w.views n v) i }
 
-      law : (s : GateProjection) (k : GateView) → GateRule callers s → k.phase ≡ (s.views n).phase → k.present ≡ (s.views n).present → k.algorithm ≡ (s.views n).algorithm → k.fence ≡ (s.views n).fence → k.aim ≡ (s.views n).aim → k.holds ≡ (s.views n).holds → k.checked ≡ (s.views n).checked → GateRule callers (record s { views = put s.views n k })
+      law : (s : GateProjection) (k : GateView) → GateRule callers s → k.phase ≡ (s.views n).phase → k.present ≡ (s.views n).present
+          → k.algorithm ≡ (s.views n).algorithm → k.fence ≡ (s.views n).fence → k.aim ≡ (s.views n).aim → k.holds ≡ (s.views n).holds
+          → k.checked ≡ (s.views n).checked → GateRule callers (record s { views = put s.views n k })
       law s k r phase present algorithm fence aim holds checked = record {
         quiet = λ m e. grind (arith, r.quiet m, e, phase);
         status = put-all s.views n k (λ m u. s.status m ≡ (if u.present then announced else 0)) (r.status n ∙ ap (λ (b : Bool). if b then announced else 0) (sym present)) (λ m d. r.status m);

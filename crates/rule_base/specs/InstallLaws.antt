@@ -18,7 +18,8 @@ use Rattle.rule_base.specs.Lemmas.PutLemmas.{parts-put, parts-kept}
 use Rattle.rule_base.specs.StepKinds.{view_after, world_after}
 use Rattle.rule_base.specs.World.{World, put, parts}
 
-pub install_projection-put : (w x : World) (n : ℕ) (v : View) → x.views ≡ put w.views n v → install_projection x ≡ record { clock = x.clock; base = x.base; done = x.done; views = put (install_projection w).views n v.gate }
+pub install_projection-put : (w x : World) (n : ℕ) (v : View) → x.views ≡ put w.views n v
+    → install_projection x ≡ record { clock = x.clock; base = x.base; done = x.done; views = put (install_projection w).views n v.gate }
 install_projection-put w x n v is = λ i. record { clock = x.clock; base = x.base; done = x.done; views = (ap (parts (λ (u : View). u.gate)) is ∙ parts-put (λ (u : View). u.gate) w.views n v) i }
 
 pub install_projection-kept : (w x : World) (n : ℕ) (v : View) → x.views ≡ put w.views n v → x.clock ≡ w.clock → x.base ≡ w.base → x.done ≡ w.done → v.gate ≡ (w.views n).gate → install_projection x ≡ install_projection w
@@ -26,7 +27,9 @@ install_projection-kept w x n v is clock base done own = λ i. record { clock = 
 
 module _ (c : Config) where
   -- who doesn't hold the gate hasn't loaded the clock since, nor stored it, and isn't promoted
-  pub not-quiescent : (s : InstallProjection) (n : ℕ) → InstallRule c s → (s.views n).holds ≡ false → ((s.views n).quiescent ≡ false) × ((s.views n).rebased ≡ false) × ((s.views n).completed ≡ false) × ((s.views n).granted ≡ false) × ((s.views n).giving ≡ false)
+  pub not-quiescent : (s : InstallProjection) (n : ℕ) → InstallRule c s → (s.views n).holds ≡ false
+      → ((s.views n).quiescent ≡ false) × ((s.views n).rebased ≡ false) × ((s.views n).completed ≡ false) × ((s.views n).granted ≡ false)
+      × ((s.views n).giving ≡ false)
   not-quiescent s n r free = (quiescent (s.views n).quiescent refl, rebased (s.views n).rebased refl, completed (s.views n).completed refl, granted (s.views n).granted refl, giving (s.views n).giving refl)
     where
       out : (s.views n).quiescent ≡ true → ⊥
@@ -53,7 +56,8 @@ module _ (c : Config) where
       giving false e = refl
 
   -- a step after which the caller has not loaded the clock as the gate's holder
-  pub install-view : (w x : World) (n : ℕ) (g : GateView) (v : View) → x.views ≡ put w.views n v → x.clock ≡ w.clock → x.base ≡ w.base → x.done ≡ w.done → v.gate ≡ g → g.quiescent ≡ false → g.rebased ≡ false → g.completed ≡ false → g.granted ≡ false → g.giving ≡ false
+  pub install-view : (w x : World) (n : ℕ) (g : GateView) (v : View) → x.views ≡ put w.views n v → x.clock ≡ w.clock → x.base ≡ w.base
+      → x.done ≡ w.done → v.gate ≡ g → g.quiescent ≡ false → g.rebased ≡ false → g.completed ≡ false → g.granted ≡ false → g.giving ≡ false
       → InstallRule c (install_projection w) → InstallRule c (install_projection x)
   install-view w x n g v is clock base done own quiescent rebased completed granted giving r = subst (InstallRule c) (sym path) (record {
     base = r.base;
@@ -73,13 +77,17 @@ module _ (c : Config) where
 
   -- a step of a caller that doesn't hold the gate, which leaves what it knows as a holder alone
   pub install-apart : (w x : World) (n : ℕ) (v : View) → x.views ≡ put w.views n v → x.clock ≡ w.clock → x.base ≡ w.base → x.done ≡ w.done → (w.views n).gate.holds ≡ false
-      → v.gate.quiescent ≡ (w.views n).gate.quiescent → v.gate.rebased ≡ (w.views n).gate.rebased → v.gate.completed ≡ (w.views n).gate.completed → v.gate.granted ≡ (w.views n).gate.granted → v.gate.giving ≡ (w.views n).gate.giving → InstallRule c (install_projection w) → InstallRule c (install_projection x)
+      → v.gate.quiescent ≡ (w.views n).gate.quiescent → v.gate.rebased ≡ (w.views n).gate.rebased
+      → v.gate.completed ≡ (w.views n).gate.completed → v.gate.granted ≡ (w.views n).gate.granted → v.gate.giving ≡ (w.views n).gate.giving
+      → InstallRule c (install_projection w) → InstallRule c (install_projection x)
   install-apart w x n v is clock base done out quiescent rebased completed granted giving r =
       let o = not-quiescent (install_projection w) n r out in
       install-view w x n v.gate v is clock base done refl (quiescent ∙ o.0) (rebased ∙ o.1) (completed ∙ o.2) (granted ∙ o.3) (giving ∙ o.4) r
 
   -- while a caller is in an attempt and hasn't loaded the clock as the gate's holder, nobody has
-  pub nobody-quiescent : (w : World) (n : ℕ) → (w.views n).gate.phase ≡ In → (w.views n).gate.quiescent ≡ false → GateRule c.callers (gate_projection w) → InstallRule c (install_projection w) → n < c.callers → (m : ℕ) → (w.views m).gate.quiescent ≡ true → ⊥
+  pub nobody-quiescent : (w : World) (n : ℕ) → (w.views n).gate.phase ≡ In → (w.views n).gate.quiescent ≡ false
+      → GateRule c.callers (gate_projection w) → InstallRule c (install_projection w) → n < c.callers → (m : ℕ)
+      → (w.views m).gate.quiescent ≡ true → ⊥
   nobody-quiescent w n inside plain g r low m quiescent = apart (m == n) refl
     where
       apart : (b : Bool) → (m == n) ≡ b → ⊥
@@ -115,7 +123,8 @@ module _ (c : Config) where
       path = λ i. record { clock = x.clock; base = base i; done = done i; views = (ap (parts (λ (u : View). u.gate)) is ∙ parts-kept (λ (u : View). u.gate) w.views n v own) i }
 
   -- an attempt raised DONE, or the clock
-  pub install-done : (w x : World) (n : ℕ) (v : View) → x.views ≡ put w.views n v → w.clock ≤ x.clock → x.base ≡ w.base → x.done ≤ x.clock → w.done ≤ x.done → v.gate ≡ (w.views n).gate → ((m : ℕ) → (w.views m).gate.quiescent ≡ true → ⊥)
+  pub install-done : (w x : World) (n : ℕ) (v : View) → x.views ≡ put w.views n v → w.clock ≤ x.clock → x.base ≡ w.base → x.done ≤ x.clock
+      → w.done ≤ x.done → v.gate ≡ (w.views n).gate → ((m : ℕ) → (w.views m).gate.quiescent ≡ true → ⊥)
       → InstallRule c (install_projection w) → InstallRule c (install_projection x)
   install-done w x n v is up base done more own nobody r = subst (InstallRule c) (sym path) (record {
     base = (let b = r.base in omega arith);
@@ -156,7 +165,9 @@ module _ (c : Config) where
       }
 
   -- the holder changes the fence
-  pub install-stood : (w x : World) (n number : ℕ) (v : View) → x.views ≡ put w.views n v → x.clock ≡ w.clock → x.base ≡ w.base → x.done ≡ w.done → v.gate ≡ record (w.views n).gate { fence = number } → InstallRule c (install_projection w) → InstallRule c (install_projection x)
+  pub install-stood : (w x : World) (n number : ℕ) (v : View) → x.views ≡ put w.views n v → x.clock ≡ w.clock → x.base ≡ w.base
+      → x.done ≡ w.done → v.gate ≡ record (w.views n).gate { fence = number } → InstallRule c (install_projection w)
+      → InstallRule c (install_projection x)
   install-stood w x n number v is clock base done own r = subst (InstallRule c) (sym path) (law (install_projection w) r)
     where
       path : install_projection x ≡ record (install_projection w) { views = put (install_projection w).views n (record (w.views n).gate { fence = number }) }
@@ -177,7 +188,9 @@ module _ (c : Config) where
       }
 
   -- the holder, which had loaded the clock, gave a fence back by an entry at t: BASE and DONE are to be stored again
-  pub given-install : (w x : World) (n t : ℕ) (v : View) → x.views ≡ put w.views n v → x.clock ≡ t → x.base ≡ w.base → x.done ≡ w.done → v.gate ≡ record (w.views n).gate { time = t; rebased = false; completed = false; giving = true } → w.clock ≤ t → (w.views n).gate.quiescent ≡ true → (w.views n).gate.phase ≡ Closing
+  pub given-install : (w x : World) (n t : ℕ) (v : View) → x.views ≡ put w.views n v → x.clock ≡ t → x.base ≡ w.base → x.done ≡ w.done
+      → v.gate ≡ record (w.views n).gate { time = t; rebased = false; completed = false; giving = true } → w.clock ≤ t
+      → (w.views n).gate.quiescent ≡ true → (w.views n).gate.phase ≡ Closing
       → GateRule c.callers (gate_projection w) → InstallRule c (install_projection w) → InstallRule c (install_projection x)
   given-install w x n t v is clock base done own up quiescent closing g r = subst (InstallRule c) (sym path) (law (install_projection w) r up quiescent closing (λ m e. sole w n m quiescent e g r))
     where
@@ -205,7 +218,9 @@ module _ (c : Config) where
       }
 
   -- the holder gave the fence back
-  pub install-given : (w x : World) (n number : ℕ) (v : View) → x.views ≡ put w.views n v → x.clock ≡ w.clock → x.base ≡ w.base → x.done ≡ w.done → v.gate ≡ record (w.views n).gate { fence = number; giving = false } → InstallRule c (install_projection w) → InstallRule c (install_projection x)
+  pub install-given : (w x : World) (n number : ℕ) (v : View) → x.views ≡ put w.views n v → x.clock ≡ w.clock → x.base ≡ w.base
+      → x.done ≡ w.done → v.gate ≡ record (w.views n).gate { fence = number; giving = false } → InstallRule c (install_projection w)
+      → InstallRule c (install_projection x)
   install-given w x n number v is clock base done own r = subst (InstallRule c) (sym path) (law (install_projection w) r)
     where
       path : install_projection x ≡ record (install_projection w) { views = put (install_projection w).views n (record (w.views n).gate { fence = number; giving = false }) }
@@ -249,11 +264,13 @@ module _ (c : Config) where
         completed = λ m e. grind (arith, r.completed m, e);
       }
 
-  pub even_clock-install : (t : ℕ) (w : World) (n : ℕ) → CanEvenClock t (w.views n) → GateRule c.callers (gate_projection w) → InstallRule c (install_projection w) → InstallRule c (install_projection (world_after (even_clock t) n w))
+  pub even_clock-install : (t : ℕ) (w : World) (n : ℕ) → CanEvenClock t (w.views n) → GateRule c.callers (gate_projection w)
+      → InstallRule c (install_projection w) → InstallRule c (install_projection (world_after (even_clock t) n w))
   even_clock-install t w n may g r = subst (InstallRule c) (sym (install_projection-put w (world_after (even_clock t) n w) n (view_after (even_clock t) w (w.views n) t) refl))
       (law (install_projection w) r may.quiescent may.next may.unbased may.uncompleted (λ m e. sole-quiescent w n m may.quiescent e g r))
     where
-      law : (s : InstallProjection) → InstallRule c s → (s.views n).quiescent ≡ true → t ≡ (s.views n).time + 1 → (s.views n).rebased ≡ false → (s.views n).completed ≡ false → ((m : ℕ) → (s.views m).quiescent ≡ true → m ≡ n)
+      law : (s : InstallProjection) → InstallRule c s → (s.views n).quiescent ≡ true → t ≡ (s.views n).time + 1
+          → (s.views n).rebased ≡ false → (s.views n).completed ≡ false → ((m : ℕ) → (s.views m).quiescent ≡ true → m ≡ n)
           → InstallRule c (record s { clock = t; views = put s.views n (record (s.views n) { time = t }) })
       law s r quiescent next unbased uncompleted sole =
           let clock : s.clock ≡ (s.views n).time = r.time n quiescent in
@@ -270,7 +287,8 @@ module _ (c : Config) where
             completed = λ m e. grind (arith, sole m, r.completed m, e, uncompleted);
           }
 
-  pub store_base-install : (t : ℕ) (w : World) (n : ℕ) → CanMark t (w.views n) → GateRule c.callers (gate_projection w) → InstallRule c (install_projection w) → InstallRule c (install_projection (world_after (store_base t) n w))
+  pub store_base-install : (t : ℕ) (w : World) (n : ℕ) → CanMark t (w.views n) → GateRule c.callers (gate_projection w)
+      → InstallRule c (install_projection w) → InstallRule c (install_projection (world_after (store_base t) n w))
   store_base-install t w n may g r = subst (InstallRule c) (sym (install_projection-put w (world_after (store_base t) n w) n (view_after (store_base t) w (w.views n) t) refl))
       (law (install_projection w) r may.quiescent may.time (λ m e. sole-quiescent w n m may.quiescent e g r))
     where
@@ -291,7 +309,8 @@ module _ (c : Config) where
             completed = λ m e. grind (arith, r.completed m, e);
           }
 
-  pub store_done-install : (t : ℕ) (w : World) (n : ℕ) → CanMark t (w.views n) → GateRule c.callers (gate_projection w) → InstallRule c (install_projection w) → InstallRule c (install_projection (world_after (store_done t) n w))
+  pub store_done-install : (t : ℕ) (w : World) (n : ℕ) → CanMark t (w.views n) → GateRule c.callers (gate_projection w)
+      → InstallRule c (install_projection w) → InstallRule c (install_projection (world_after (store_done t) n w))
   store_done-install t w n may g r = subst (InstallRule c) (sym (install_projection-put w (world_after (store_done t) n w) n (view_after (store_done t) w (w.views n) t) refl))
       (law (install_projection w) r may.quiescent may.time (λ m e. sole-quiescent w n m may.quiescent e g r))
     where
@@ -313,7 +332,9 @@ module _ (c : Config) where
           }
 
   pub install-install : (fence : ℕ) (alg : Alg) (w : World) (n : ℕ) → InstallRule c (install_projection w) → InstallRule c (install_projection (world_after (install n fence alg) n w))
-  install-install fence alg w n r = subst (InstallRule c) (sym (install_projection-put w (world_after (install n fence alg) n w) n (view_after (install n fence alg) w (w.views n) (gate_word fence (1 + n) alg)) refl)) (law (install_projection w) r)
+  install-install fence alg w n r =
+      subst (InstallRule c) (sym (install_projection-put w (world_after (install n fence alg) n w) n
+      (view_after (install n fence alg) w (w.views n) (gate_word fence (1 + n) alg)) refl)) (law (install_projection w) r)
     where
       law : (s : InstallProjection) → InstallRule c s → InstallRule c (record s { views = put s.views n (record (s.views n) { algorithm = alg }) })
       law s r = record {
@@ -335,7 +356,8 @@ module _ (c : Config) where
       ungranted : (s : InstallProjection) → InstallRule c s → ((s.views n).phase ≡ In → (s.views n).holds ≡ false) → (s.views n).granted ≡ true → ⊥
       ungranted s r reopened e = let p = r.promoted n e in let f : true ≡ false = sym (r.holding n p.0) ∙ reopened p.1 in cc
 
-      law : (s : InstallProjection) → InstallRule c s → ((s.views n).phase ≡ In → (s.views n).holds ≡ false) → InstallRule c (record s { views = put s.views n (record (s.views n) { phase = departed (s.views n).phase; present = false }) })
+      law : (s : InstallProjection) → InstallRule c s → ((s.views n).phase ≡ In → (s.views n).holds ≡ false)
+          → InstallRule c (record s { views = put s.views n (record (s.views n) { phase = departed (s.views n).phase; present = false }) })
       law s r reopened = record {
         base = r.base;
         done = r.done;
@@ -350,7 +372,9 @@ module _ (c : Config) where
       }
 
   -- the attempt of who holds the gate and has seen all others idle is promoted, at the clock
-  pub grant-install : (w x : World) (n : ℕ) (v : View) → x.views ≡ put w.views n v → x.clock ≡ w.clock → x.base ≡ w.base → x.done ≡ w.done → v.gate ≡ granted_at w.clock (w.views n).gate → (w.views n).gate.phase ≡ In → (w.views n).gate.holds ≡ true → HasChecked c.callers n (w.views n)
+  pub grant-install : (w x : World) (n : ℕ) (v : View) → x.views ≡ put w.views n v → x.clock ≡ w.clock → x.base ≡ w.base → x.done ≡ w.done
+      → v.gate ≡ granted_at w.clock (w.views n).gate → (w.views n).gate.phase ≡ In → (w.views n).gate.holds ≡ true
+      → HasChecked c.callers n (w.views n)
       → InstallRule c (install_projection w) → InstallRule c (install_projection x)
   grant-install w x n v is clock base done own inside holds quiet r = subst (InstallRule c) (sym path) (law (install_projection w) r inside holds quiet)
     where
@@ -373,7 +397,8 @@ module _ (c : Config) where
       }
 
   -- the gate's holder, which had loaded the clock, raised it to t: BASE and DONE are to be stored again
-  pub ticked-install : (w x : World) (n t : ℕ) (v : View) → x.views ≡ put w.views n v → x.clock ≡ t → x.base ≡ w.base → x.done ≡ w.done → v.gate ≡ record (w.views n).gate { time = t; rebased = false; completed = false } → w.clock ≤ t → (w.views n).gate.quiescent ≡ true
+  pub ticked-install : (w x : World) (n t : ℕ) (v : View) → x.views ≡ put w.views n v → x.clock ≡ t → x.base ≡ w.base → x.done ≡ w.done
+      → v.gate ≡ record (w.views n).gate { time = t; rebased = false; completed = false } → w.clock ≤ t → (w.views n).gate.quiescent ≡ true
       → GateRule c.callers (gate_projection w) → InstallRule c (install_projection w) → InstallRule c (install_projection x)
   ticked-install w x n t v is clock base done own up quiescent g r = subst (InstallRule c) (sym path) (law (install_projection w) r up (λ m e. sole-quiescent w n m quiescent e g r))
     where

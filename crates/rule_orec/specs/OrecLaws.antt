@@ -35,8 +35,8 @@ use Rattle.rule_base.specs.Ranks.{home_of}
 use Rattle.rule_orec.specs.OrecRely.{Full, Next, full_of, rule_of, fresh, quiet, with_view}
 use Rattle.rule_orec.specs.OrecReading as reading
 use Rattle.rule_orec.specs.OrecOwning as owning
-use Rattle.rule_orec.specs.OrecReading.{no_sample, no_check, checks, passed, fresh_owned, begun-fresh}
-use Rattle.rule_orec.specs.OrecOwning.{holding, entered_at, written, placed, restored, released, saved, clock_raised, Ready}
+use Rattle.rule_orec.specs.OrecReading.{no_sample, no_check, passed, begun-fresh}
+use Rattle.rule_orec.specs.OrecOwning.{holding, entered_at, restored, released}
 use Rattle.rule_orec.specs.OrecSteps.{is_eager, orec_begin, CanOrecBegin, orec_sample, CanOrecSample, orec_load, CanOrecLoad, confirms, orec_confirm, CanOrecConfirm, OrecConfirms, orec_clock, CanOrecClock, OrecClocks, orec_clock_all, passes, orec_pass, CanOrecPass, orec_last, CanOrecLast, HasOrec, orec_look, orec_limit, orec_lock, CanOrecLock, orec_entry, orec_commit, CanOrecCommit, orec_write_back, CanOrecWriteBack, orec_release, CanOrecTime, CanOrecOld, CanOrecUp, orec_own_load, CanOrecOwnLoad, OrecOwnLoads, orec_save, CanOrecSave, orec_place, CanOrecPlace, orec_restore, CanOrecRestore, orec_raise_clock, CanOrecRaiseClock}
 
 -- what a record word says
@@ -125,8 +125,15 @@ module _ (good : (ℕ → ℕ) → Type 0) (c : Config) where
       pub inside : v.tml.inside ≡ (w.views n).tml.inside
       pub writer : v.tml.writer ≡ (w.views n).tml.writer
 
-    parts_of : (w x : World) (v : View) → x.views ≡ put w.views n v → LeavesOthers w x v → (w.views n).gate.phase ≡ In → HistoryRule good c (history_projection x) → Fulls (projection_put w x n v) → OrecWorld good c w → Parts x
-    parts_of w x v is leaves phase history full r = (history, subst LockRule (sym (lock_projection-kept w x n v is leaves.lock leaves.taken leaves.phase)) r.lock, attempts, records-full x at attempts, rule_of (home_of c) c.words (orec_projection x) at)
+    parts_of : (w x : World) (v : View) → x.views ≡ put w.views n v → LeavesOthers w x v → (w.views n).gate.phase ≡ In
+        → HistoryRule good c (history_projection x) → Fulls (projection_put w x n v) → OrecWorld good c w → Parts x
+    parts_of w x v is leaves phase history full r = (
+      history,
+      subst LockRule (sym (lock_projection-kept w x n v is leaves.lock leaves.taken leaves.phase)) r.lock,
+      attempts,
+      records-full x at attempts,
+      rule_of (home_of c) c.words (orec_projection x) at,
+    )
       where
         in_it : v.gate.phase ≡ In
         in_it = leaves.phase ∙ phase
@@ -144,11 +151,15 @@ module _ (good : (ℕ → ℕ) → Type 0) (c : Config) where
     ranks_of : (w x : World) (v : View) → x.views ≡ put w.views n v → Nexts (orec_projection w) (projection_put w x n v) → Ranks w x
     ranks_of w x v is next = subst (λ (s : OrecProjection). (q : ℕ) → rank (orec_projection w) q ≤ rank s q) (sym (orec_projection-put w x n v is)) next.1
 
-    both_of : (w x : World) (v : View) → x.views ≡ put w.views n v → LeavesOthers w x v → (w.views n).gate.phase ≡ In → HistoryRule good c (history_projection x) → Nexts (orec_projection w) (projection_put w x n v) → OrecWorld good c w → Parts x × Ranks w x
+    both_of : (w x : World) (v : View) → x.views ≡ put w.views n v → LeavesOthers w x v → (w.views n).gate.phase ≡ In
+        → HistoryRule good c (history_projection x) → Nexts (orec_projection w) (projection_put w x n v) → OrecWorld good c w
+        → Parts x × Ranks w x
     both_of w x v is leaves phase history next r = (parts_of w x v is leaves phase history next.0 r, ranks_of w x v is next)
 
     -- what an attempt sees with these reads
-    sees_of : (w : World) → OrecWorld good c w → (w.views n).owned.inside ≡ true → (w.views n).owned.committed ≡ false → (reads : List Cell) → ((a : ℕ) → over reads a (word_at w.history (w.views n).attempt.start a) ≡ word_at w.history (w.views n).attempt.start a) → TmlSees good c (w.views n) reads
+    sees_of : (w : World) → OrecWorld good c w → (w.views n).owned.inside ≡ true → (w.views n).owned.committed ≡ false → (reads : List Cell)
+        → ((a : ℕ) → over reads a (word_at w.history (w.views n).attempt.start a) ≡ word_at w.history (w.views n).attempt.start a)
+        → TmlSees good c (w.views n) reads
     sees_of w r i d reads sees = record {
       sees = λ a. subst (λ (x : ℕ). over reads a x ≡ x) (sym (value_of w r i d a)) (sees a);
       legal = subst (Legal good c) (sym (seen_of w r i d)) (legal-upto good c w.history (w.clock + 1) (w.views n).attempt.start r.history.below r.history.legal);
@@ -180,12 +191,19 @@ module _ (good : (ℕ → ℕ) → Type 0) (c : Config) where
         apart q e = let t = g.whole.owned q n e in let f : true ≡ false = sym t ∙ ap (λ (cs : List Cell). touches cs q) may.disowned in cc
 
         f : OrecRule (home_of c) c.words (projection_put w x n v) × ((q : ℕ) → rank (orec_projection w) q ≤ rank (projection_put w x n v) q)
-        f = fresh (home_of c) c.words (orec_projection w) n (orec_view v) apart (λ q. refl) (λ i. begun-fresh (home_of c) c.words (orec_projection w) n (is_eager (w.views n).gate.algorithm) v.attempt refl refl r.runs.based) r.runs
+        f =
+            fresh (home_of c) c.words (orec_projection w) n (orec_view v) apart (λ q. refl)
+            (λ i.
+            begun-fresh (home_of c) c.words (orec_projection w) n (is_eager (w.views n).gate.algorithm) v.attempt refl refl r.runs.based)
+            r.runs
 
         next : Nexts (orec_projection w) (projection_put w x n v)
         next = (
           full_of (home_of c) c.words (projection_put w x n v) g.whole.below g.whole.free
-              (λ q m e. put-all (orec_projection w).views n (orec_view v) (λ k u. (orec_projection w).records q ≡ Taken k → touches u.owned.held q ≡ true) (λ t. absurd (apart q t)) (λ k d t. g.whole.owned q k t) m e) f.0,
+              (λ q m e.
+              put-all (orec_projection w).views n (orec_view v)
+              (λ k u. (orec_projection w).records q ≡ Taken k → touches u.owned.held q ≡ true) (λ t. absurd (apart q t))
+              (λ k d t. g.whole.owned q k t) m e) f.0,
           f.1,
         )
 
@@ -199,7 +217,9 @@ module _ (good : (ℕ → ℕ) → Type 0) (c : Config) where
     -- a step of an attempt that leaves the clock, the history and what is seen of it alone, after which these clauses stand
     plainly : (kind : StepKind) (shows : World → View → ℕ → Type 0) (w : World) → OrecWorld good c w → (w.views n).gate.phase ≡ In
         → ((world_after kind n w).clock ≡ w.clock) × ((world_after kind n w).lock ≡ w.lock) × ((world_after kind n w).done ≡ w.done) × ((world_after kind n w).gate ≡ w.gate) × ((world_after kind n w).history ≡ w.history)
-        → ((kind.after w (w.views n) (answer kind w)).history ≡ (w.views n).history) × ((kind.after w (w.views n) (answer kind w)).steps.step_trace ≡ (w.views n).steps.step_trace) × ((kind.after w (w.views n) (answer kind w)).steps.rises ≡ (w.views n).steps.rises)
+        → ((kind.after w (w.views n) (answer kind w)).history ≡ (w.views n).history)
+        × ((kind.after w (w.views n) (answer kind w)).steps.step_trace ≡ (w.views n).steps.step_trace)
+        × ((kind.after w (w.views n) (answer kind w)).steps.rises ≡ (w.views n).steps.rises)
         → LeavesOthers w (world_after kind n w) (view_after kind w (w.views n) (answer kind w))
         → Fulls (projection_put w (world_after kind n w) n (view_after kind w (w.views n) (answer kind w))) → shows w (w.views n) (answer kind w) → StepOutcome (OrecWorld good c) kind shows n w
     plainly kind shows w r phase words own leaves full shown = record {
@@ -214,7 +234,9 @@ module _ (good : (ℕ → ℕ) → Type 0) (c : Config) where
         v : View
         v = view_after kind w (w.views n) (answer kind w)
 
-    orec_looks-next : (q : ℕ) → (w : World) → OrecWorld good c w → HasOrec (w.views n) → Nexts (orec_projection w) (projection_put w (world_after (orec_look q) n w) n (view_after (orec_look q) w (w.views n) (answer (orec_look q) w)))
+    orec_looks-next : (q : ℕ) → (w : World) → OrecWorld good c w → HasOrec (w.views n)
+        → Nexts (orec_projection w)
+        (projection_put w (world_after (orec_look q) n w) n (view_after (orec_look q) w (w.views n) (answer (orec_look q) w)))
     orec_looks-next q w r may = quiet (home_of c) c.words (orec_projection w) n (orec_view (w.views n)) refl (r.runs.own n) (full-world w r)
 
     pub orec_looks : (q : ℕ) → StepLaw (OrecWorld good c) (orec_look q) Nothing n HasOrec
@@ -230,10 +252,17 @@ module _ (good : (ℕ → ℕ) → Type 0) (c : Config) where
         (orec_limits-next w r may).0
         (record { sampled = reading.sample-old (home_of c) c.words (orec_projection w) n (full-world w r) may.inside })
 
-    orec_samples-next : (q : ℕ) → (a : ℕ) → (w : World) → OrecWorld good c w → (CanOrecSample (home_of c) q a) (w.views n) → Nexts (orec_projection w) (projection_put w (world_after (orec_sample q a) n w) n (view_after (orec_sample q a) w (w.views n) (answer (orec_sample q a) w)))
+    orec_samples-next : (q : ℕ) → (a : ℕ) → (w : World) → OrecWorld good c w → (CanOrecSample (home_of c) q a) (w.views n)
+        → Nexts (orec_projection w)
+        (projection_put w (world_after (orec_sample q a) n w) n (view_after (orec_sample q a) w (w.views n) (answer (orec_sample q a) w)))
     orec_samples-next q a w r may = go (is_owned (w.records q)) refl
       where
-        go : (b : Bool) → is_owned (w.records q) ≡ b → Nexts (orec_projection w) (with_view (home_of c) c.words (orec_projection w) n (record (orec_view (w.views n)) { sample = if b then no_sample else record { sampled = true; loaded = false; from = a; version = version_of (w.records q); value = 0 } }))
+        go : (b : Bool) → is_owned (w.records q) ≡ b
+            → Nexts (orec_projection w) (with_view (home_of c) c.words (orec_projection w) n
+            (record (orec_view (w.views n)) {
+              sample =
+                  if b then no_sample else record { sampled = true; loaded = false; from = a; version = version_of (w.records q); value = 0 };
+            }))
         go true e = reading.unsample-kept (home_of c) c.words (orec_projection w) n (full-world w r)
         go false e = reading.sample-kept (home_of c) c.words (orec_projection w) n a (version_of (w.records q)) (ap (λ (k : ℕ). rec_of (w.records k)) may.its ∙ rec-free (w.records q) e) (full-world w r)
 
@@ -242,7 +271,9 @@ module _ (good : (ℕ → ℕ) → Type 0) (c : Config) where
         (orec_samples-next q a w r may).0
         tt
 
-    orec_loads-next : (a : ℕ) → (w : World) → OrecWorld good c w → (CanOrecLoad a) (w.views n) → Nexts (orec_projection w) (projection_put w (world_after (orec_load a) n w) n (view_after (orec_load a) w (w.views n) (answer (orec_load a) w)))
+    orec_loads-next : (a : ℕ) → (w : World) → OrecWorld good c w → (CanOrecLoad a) (w.views n)
+        → Nexts (orec_projection w)
+        (projection_put w (world_after (orec_load a) n w) n (view_after (orec_load a) w (w.views n) (answer (orec_load a) w)))
     orec_loads-next a w r may = reading.load-kept (home_of c) c.words (orec_projection w) n a may.has.inside may.sampled may.from may.version (full-world w r)
 
     pub orec_loads : (a : ℕ) → StepLaw (OrecWorld good c) (orec_load a) Nothing n (CanOrecLoad a)
@@ -250,11 +281,15 @@ module _ (good : (ℕ → ℕ) → Type 0) (c : Config) where
         (orec_loads-next a w r may).0
         tt
 
-    orec_confirms-next : (q : ℕ) → (w : World) → OrecWorld good c w → (CanOrecConfirm (home_of c) c.words q) (w.views n) → Nexts (orec_projection w) (projection_put w (world_after (orec_confirm q) n w) n (view_after (orec_confirm q) w (w.views n) (answer (orec_confirm q) w)))
+    orec_confirms-next : (q : ℕ) → (w : World) → OrecWorld good c w → (CanOrecConfirm (home_of c) c.words q) (w.views n)
+        → Nexts (orec_projection w)
+        (projection_put w (world_after (orec_confirm q) n w) n (view_after (orec_confirm q) w (w.views n) (answer (orec_confirm q) w)))
     orec_confirms-next q w r may = go (w.records q == free_record (w.views n).sample.version) (λ e. eqb-true (w.records q) (free_record (w.views n).sample.version) e)
       where
         value : w.records q ≡ free_record (w.views n).sample.version → (w.views n).sample.value ≡ word_at w.history (w.views n).attempt.start (w.views n).sample.from
-        value e = reading.confirmed (home_of c) c.words (orec_projection w) n may.opens.has.inside may.loaded (ap (λ (k : ℕ). rec_of (w.records k)) may.its ∙ ap rec_of e ∙ rec_of-free (w.views n).sample.version) (full-world w r)
+        value e =
+            reading.confirmed (home_of c) c.words (orec_projection w) n may.opens.has.inside may.loaded
+            (ap (λ (k : ℕ). rec_of (w.records k)) may.its ∙ ap rec_of e ∙ rec_of-free (w.views n).sample.version) (full-world w r)
 
         reads : Bool → List Cell
         reads b = if b then record { at = (w.views n).sample.from; value = (w.views n).sample.value } ∷ (w.views n).attempt.reads else (w.views n).attempt.reads
@@ -266,17 +301,29 @@ module _ (good : (ℕ → ℕ) → Type 0) (c : Config) where
         sees true e a = grind (arith, own.sees a, value (e refl))
         sees false e a = own.sees a
 
-        go : (b : Bool) → (b ≡ true → w.records q ≡ free_record (w.views n).sample.version) → Nexts (orec_projection w) (with_view (home_of c) c.words (orec_projection w) n (record (orec_view (w.views n)) { attempt = record (w.views n).attempt { reads = reads b }; sample = no_sample; check = no_check }))
+        go : (b : Bool) → (b ≡ true → w.records q ≡ free_record (w.views n).sample.version)
+            → Nexts (orec_projection w) (with_view (home_of c) c.words (orec_projection w) n
+            (record (orec_view (w.views n))
+            { attempt = record (w.views n).attempt { reads = reads b }; sample = no_sample; check = no_check }))
         go true e = reading.read-kept (home_of c) c.words (orec_projection w) n (w.views n).sample.from (w.views n).sample.value may.inside (λ i. value (e refl)) (full-world w r)
         go false e = reading.forget-kept (home_of c) c.words (orec_projection w) n (full-world w r)
 
     pub orec_confirms : (q : ℕ) → StepLaw (OrecWorld good c) (orec_confirm q) (OrecConfirms good c) n (CanOrecConfirm (home_of c) c.words q)
-    orec_confirms q w r may = plainly (orec_confirm q) (OrecConfirms good c) w r may.opens.has.runs.phase (refl, refl, refl, refl, refl) (refl, refl, refl) (record { lock = refl; taken = refl; phase = refl; inside = refl; writer = refl })
+    orec_confirms q w r may =
+        plainly (orec_confirm q) (OrecConfirms good c) w r may.opens.has.runs.phase (refl, refl, refl, refl, refl) (refl, refl, refl)
+        (record { lock = refl; taken = refl; phase = refl; inside = refl; writer = refl })
         (orec_confirms-next q w r may).0
-        (record { value = λ e. value e ∙ sym (seen_word w r may.opens.has.inside may.opens.open_yet (w.views n).sample.from); sees = sees_of w r may.opens.has.inside may.opens.open_yet (confirms (w.records q) (w.views n)) (sees (w.records q == free_record (w.views n).sample.version) (λ e. eqb-true (w.records q) (free_record (w.views n).sample.version) e)) })
+        (record {
+          value = λ e. value e ∙ sym (seen_word w r may.opens.has.inside may.opens.open_yet (w.views n).sample.from);
+          sees = sees_of w r may.opens.has.inside may.opens.open_yet (confirms (w.records q) (w.views n))
+              (sees (w.records q == free_record (w.views n).sample.version) (λ e.
+              eqb-true (w.records q) (free_record (w.views n).sample.version) e));
+        })
       where
         value : w.records q ≡ free_record (w.views n).sample.version → (w.views n).sample.value ≡ word_at w.history (w.views n).attempt.start (w.views n).sample.from
-        value e = reading.confirmed (home_of c) c.words (orec_projection w) n may.opens.has.inside may.loaded (ap (λ (k : ℕ). rec_of (w.records k)) may.its ∙ ap rec_of e ∙ rec_of-free (w.views n).sample.version) (full-world w r)
+        value e =
+            reading.confirmed (home_of c) c.words (orec_projection w) n may.opens.has.inside may.loaded
+            (ap (λ (k : ℕ). rec_of (w.records k)) may.its ∙ ap rec_of e ∙ rec_of-free (w.views n).sample.version) (full-world w r)
 
         reads : Bool → List Cell
         reads b = if b then record { at = (w.views n).sample.from; value = (w.views n).sample.value } ∷ (w.views n).attempt.reads else (w.views n).attempt.reads
@@ -288,19 +335,30 @@ module _ (good : (ℕ → ℕ) → Type 0) (c : Config) where
         sees true e a = grind (arith, own.sees a, value (e refl))
         sees false e a = own.sees a
 
-    orec_clocks-next : (todo : List Cell) → (w : World) → OrecWorld good c w → (CanOrecClock (home_of c) todo) (w.views n) → Nexts (orec_projection w) (projection_put w (world_after (orec_clock todo) n w) n (view_after (orec_clock todo) w (w.views n) (answer (orec_clock todo) w)))
+    orec_clocks-next : (todo : List Cell) → (w : World) → OrecWorld good c w → (CanOrecClock (home_of c) todo) (w.views n)
+        → Nexts (orec_projection w)
+        (projection_put w (world_after (orec_clock todo) n w) n (view_after (orec_clock todo) w (w.views n) (answer (orec_clock todo) w)))
     orec_clocks-next todo w r may = reading.begin-kept (home_of c) c.words (orec_projection w) n todo may.opens.open_yet may.mine may.old (full-world w r)
 
     pub orec_clocks : (todo : List Cell) → StepLaw (OrecWorld good c) (orec_clock todo) OrecClocks n (CanOrecClock (home_of c) todo)
-    orec_clocks todo w r may = plainly (orec_clock todo) OrecClocks w r may.opens.has.runs.phase (refl, refl, refl, refl, refl) (refl, refl, refl) (record { lock = refl; taken = refl; phase = refl; inside = refl; writer = refl })
+    orec_clocks todo w r may =
+        plainly (orec_clock todo) OrecClocks w r may.opens.has.runs.phase (refl, refl, refl, refl, refl) (refl, refl, refl)
+        (record { lock = refl; taken = refl; phase = refl; inside = refl; writer = refl })
         (orec_clocks-next todo w r may).0
         (record { sampled = reading.sample-old (home_of c) c.words (orec_projection w) n (full-world w r) may.opens.has.inside })
 
-    orec_passes-next : (q : ℕ) → (b : ℕ) → (w : World) → OrecWorld good c w → (CanOrecPass (home_of c) q b) (w.views n) → Nexts (orec_projection w) (projection_put w (world_after (orec_pass q b) n w) n (view_after (orec_pass q b) w (w.views n) (answer (orec_pass q b) w)))
+    orec_passes-next : (q : ℕ) → (b : ℕ) → (w : World) → OrecWorld good c w → (CanOrecPass (home_of c) q b) (w.views n)
+        → Nexts (orec_projection w)
+        (projection_put w (world_after (orec_pass q b) n w) n (view_after (orec_pass q b) w (w.views n) (answer (orec_pass q b) w)))
     orec_passes-next q b w r may = go (passes (w.records q) (w.views n)) refl
       where
-        go : (t : Bool) → passes (w.records q) (w.views n) ≡ t → Nexts (orec_projection w) (with_view (home_of c) c.words (orec_projection w) n (record (orec_view (w.views n)) { check = if t then passed b (w.views n).check else no_check }))
-        go true e = let p = passed-at (w.records q) (w.views n) e in reading.pass-kept (home_of c) c.words (orec_projection w) n b (version_of (w.records q)) (ap (λ (k : ℕ). rec_of (w.records k)) may.its ∙ rec-free (w.records q) p.0) p.1 (full-world w r)
+        go : (t : Bool) → passes (w.records q) (w.views n) ≡ t
+            → Nexts (orec_projection w) (with_view (home_of c) c.words (orec_projection w) n
+            (record (orec_view (w.views n)) { check = if t then passed b (w.views n).check else no_check }))
+        go true e =
+            let p = passed-at (w.records q) (w.views n) e in
+            reading.pass-kept (home_of c) c.words (orec_projection w) n b (version_of (w.records q))
+            (ap (λ (k : ℕ). rec_of (w.records k)) may.its ∙ rec-free (w.records q) p.0) p.1 (full-world w r)
         go false e = reading.uncheck-kept (home_of c) c.words (orec_projection w) n (full-world w r)
 
     pub orec_passes : (q : ℕ) → (b : ℕ) → StepLaw (OrecWorld good c) (orec_pass q b) Nothing n (CanOrecPass (home_of c) q b)
@@ -308,7 +366,9 @@ module _ (good : (ℕ → ℕ) → Type 0) (c : Config) where
         (orec_passes-next q b w r may).0
         tt
 
-    orec_own_loads-next : (a : ℕ) → (w : World) → OrecWorld good c w → (CanOrecOwnLoad (home_of c) c.words a) (w.views n) → Nexts (orec_projection w) (projection_put w (world_after (orec_own_load a) n w) n (view_after (orec_own_load a) w (w.views n) (answer (orec_own_load a) w)))
+    orec_own_loads-next : (a : ℕ) → (w : World) → OrecWorld good c w → (CanOrecOwnLoad (home_of c) c.words a) (w.views n)
+        → Nexts (orec_projection w)
+        (projection_put w (world_after (orec_own_load a) n w) n (view_after (orec_own_load a) w (w.views n) (answer (orec_own_load a) w)))
     orec_own_loads-next a w r may = reading.read-kept (home_of c) c.words (orec_projection w) n a (w.heap a) may.inside (λ i. value) (full-world w r)
       where
         value : w.heap a ≡ word_at w.history (w.views n).attempt.start a
@@ -321,9 +381,14 @@ module _ (good : (ℕ → ℕ) → Type 0) (c : Config) where
         sees b = grind (arith, own.sees b, value)
 
     pub orec_own_loads : (a : ℕ) → StepLaw (OrecWorld good c) (orec_own_load a) (OrecOwnLoads good c a) n (CanOrecOwnLoad (home_of c) c.words a)
-    orec_own_loads a w r may = plainly (orec_own_load a) (OrecOwnLoads good c a) w r may.opens.has.runs.phase (refl, refl, refl, refl, refl) (refl, refl, refl) (record { lock = refl; taken = refl; phase = refl; inside = refl; writer = refl })
+    orec_own_loads a w r may =
+        plainly (orec_own_load a) (OrecOwnLoads good c a) w r may.opens.has.runs.phase (refl, refl, refl, refl, refl) (refl, refl, refl)
+        (record { lock = refl; taken = refl; phase = refl; inside = refl; writer = refl })
         (orec_own_loads-next a w r may).0
-        (record { value = value ∙ sym (seen_word w r may.opens.has.inside may.opens.open_yet a); sees = sees_of w r may.opens.has.inside may.opens.open_yet (record { at = a; value = w.heap a } ∷ (w.views n).attempt.reads) sees })
+        (record {
+          value = value ∙ sym (seen_word w r may.opens.has.inside may.opens.open_yet a);
+          sees = sees_of w r may.opens.has.inside may.opens.open_yet (record { at = a; value = w.heap a } ∷ (w.views n).attempt.reads) sees;
+        })
       where
         value : w.heap a ≡ word_at w.history (w.views n).attempt.start a
         value = reading.own-value (home_of c) c.words (orec_projection w) n a may.opens.has.inside may.opens.open_yet may.eager may.held may.unwritten (full-world w r)
@@ -334,7 +399,9 @@ module _ (good : (ℕ → ℕ) → Type 0) (c : Config) where
         sees : (b : ℕ) → over (record { at = a; value = w.heap a } ∷ (w.views n).attempt.reads) b (word_at w.history (w.views n).attempt.start b) ≡ word_at w.history (w.views n).attempt.start b
         sees b = grind (arith, own.sees b, value)
 
-    orec_saves-next : (a : ℕ) → (w : World) → OrecWorld good c w → (CanOrecSave (home_of c) a) (w.views n) → Nexts (orec_projection w) (projection_put w (world_after (orec_save a) n w) n (view_after (orec_save a) w (w.views n) (answer (orec_save a) w)))
+    orec_saves-next : (a : ℕ) → (w : World) → OrecWorld good c w → (CanOrecSave (home_of c) a) (w.views n)
+        → Nexts (orec_projection w)
+        (projection_put w (world_after (orec_save a) n w) n (view_after (orec_save a) w (w.views n) (answer (orec_save a) w)))
     orec_saves-next a w r may = owning.save-kept (home_of c) c.words (orec_projection w) n a may.opens.has.inside may.held may.opens.open_yet may.unwritten (full-world w r)
 
     pub orec_saves : (a : ℕ) → StepLaw (OrecWorld good c) (orec_save a) Nothing n (CanOrecSave (home_of c) a)
@@ -342,72 +409,129 @@ module _ (good : (ℕ → ℕ) → Type 0) (c : Config) where
         (orec_saves-next a w r may).0
         tt
 
-    orec_places-next : (a : ℕ) → (k : ℕ) → (w : World) → OrecWorld good c w → (CanOrecPlace a) (w.views n) → Nexts (orec_projection w) (projection_put w (world_after (orec_place a k) n w) n (view_after (orec_place a k) w (w.views n) (answer (orec_place a k) w)))
+    orec_places-next : (a : ℕ) → (k : ℕ) → (w : World) → OrecWorld good c w → (CanOrecPlace a) (w.views n)
+        → Nexts (orec_projection w)
+        (projection_put w (world_after (orec_place a k) n w) n (view_after (orec_place a k) w (w.views n) (answer (orec_place a k) w)))
     orec_places-next a k w r may = owning.place-kept (home_of c) c.words (orec_projection w) n a k may.opens.has.inside may.eager may.opens.open_yet may.undoable (full-world w r)
 
     pub orec_places : (a : ℕ) → (k : ℕ) → StepLaw (OrecWorld good c) (orec_place a k) Nothing n (CanOrecPlace a)
-    orec_places a k w r may = plainly (orec_place a k) Nothing w r may.opens.has.runs.phase (refl, refl, refl, refl, refl) (refl, refl, refl) (record { lock = refl; taken = refl; phase = refl; inside = refl; writer = refl })
+    orec_places a k w r may =
+        plainly (orec_place a k) Nothing w r may.opens.has.runs.phase (refl, refl, refl, refl, refl) (refl, refl, refl)
+        (record { lock = refl; taken = refl; phase = refl; inside = refl; writer = refl })
         (orec_places-next a k w r may).0
         tt
 
-    orec_restores-next : (a : ℕ) → (k : ℕ) → (w : World) → OrecWorld good c w → (CanOrecRestore a k) (w.views n) → Nexts (orec_projection w) (projection_put w (world_after (orec_restore a k) n w) n (view_after (orec_restore a k) w (w.views n) (answer (orec_restore a k) w)))
+    orec_restores-next : (a : ℕ) → (k : ℕ) → (w : World) → OrecWorld good c w → (CanOrecRestore a k) (w.views n)
+        → Nexts (orec_projection w) (projection_put w (world_after (orec_restore a k) n w) n
+        (view_after (orec_restore a k) w (w.views n) (answer (orec_restore a k) w)))
     orec_restores-next a k w r may = owning.restore-kept (home_of c) c.words (orec_projection w) n a k may.has.inside may.logged may.value (full-world w r)
 
     pub orec_restores : (a : ℕ) → (k : ℕ) → StepLaw (OrecWorld good c) (orec_restore a k) Nothing n (CanOrecRestore a k)
-    orec_restores a k w r may = plainly (orec_restore a k) Nothing w r may.has.runs.phase (refl, refl, refl, refl, refl) (refl, refl, refl) (record { lock = refl; taken = refl; phase = refl; inside = refl; writer = refl })
+    orec_restores a k w r may =
+        plainly (orec_restore a k) Nothing w r may.has.runs.phase (refl, refl, refl, refl, refl) (refl, refl, refl)
+        (record { lock = refl; taken = refl; phase = refl; inside = refl; writer = refl })
         (orec_restores-next a k w r may).0
         tt
 
-    orec_writes_back-next : (a : ℕ) → (k : ℕ) → (w : World) → OrecWorld good c w → (CanOrecWriteBack a k) (w.views n) → Nexts (orec_projection w) (projection_put w (world_after (orec_write_back a k) n w) n (view_after (orec_write_back a k) w (w.views n) (answer (orec_write_back a k) w)))
+    orec_writes_back-next : (a : ℕ) → (k : ℕ) → (w : World) → OrecWorld good c w → (CanOrecWriteBack a k) (w.views n)
+        → Nexts (orec_projection w) (projection_put w (world_after (orec_write_back a k) n w) n
+        (view_after (orec_write_back a k) w (w.views n) (answer (orec_write_back a k) w)))
     orec_writes_back-next a k w r may = owning.write_back-kept (home_of c) c.words (orec_projection w) n a k may.has.inside may.owed may.value (full-world w r)
 
     pub orec_writes_back : (a : ℕ) → (k : ℕ) → StepLaw (OrecWorld good c) (orec_write_back a k) Nothing n (CanOrecWriteBack a k)
-    orec_writes_back a k w r may = plainly (orec_write_back a k) Nothing w r may.has.runs.phase (refl, refl, refl, refl, refl) (refl, refl, refl) (record { lock = refl; taken = refl; phase = refl; inside = refl; writer = refl })
+    orec_writes_back a k w r may =
+        plainly (orec_write_back a k) Nothing w r may.has.runs.phase (refl, refl, refl, refl, refl) (refl, refl, refl)
+        (record { lock = refl; taken = refl; phase = refl; inside = refl; writer = refl })
         (orec_writes_back-next a k w r may).0
         tt
 
-    orec_locks-next : (q : ℕ) → (version : ℕ) → (w : World) → OrecWorld good c w → (CanOrecLock version) (w.views n) → Nexts (orec_projection w) (projection_put w (world_after (orec_lock n q version) n w) n (view_after (orec_lock n q version) w (w.views n) (answer (orec_lock n q version) w)))
+    orec_locks-next : (q : ℕ) → (version : ℕ) → (w : World) → OrecWorld good c w → (CanOrecLock version) (w.views n)
+        → Nexts (orec_projection w) (projection_put w (world_after (orec_lock n q version) n w) n
+        (view_after (orec_lock n q version) w (w.views n) (answer (orec_lock n q version) w)))
     orec_locks-next q version w r may = go (w.records q == free_record version) (λ e. eqb-true (w.records q) (free_record version) e)
       where
-        go : (b : Bool) → (b ≡ true → w.records q ≡ free_record version) → Nexts (orec_projection w) (record (orec_projection w) { records = parts rec_of (put w.records q (if b then owned_record n else w.records q)); views = put (orec_projection w).views n (record (orec_view (w.views n)) { owned = if b then holding q version (w.views n).owned else (w.views n).owned }) })
-        go true e = subst (λ (k : ℕ → Rec). Nexts (orec_projection w) (record (orec_projection w) { records = k; views = put (orec_projection w).views n (record (orec_view (w.views n)) { owned = holding q version (w.views n).owned }) })) (sym (records_put w q (owned_record n) (Taken n) (rec_of-owned n)))
+        go : (b : Bool) → (b ≡ true → w.records q ≡ free_record version)
+            → Nexts (orec_projection w) (record (orec_projection w) {
+              records =
+                  parts rec_of (put w.records q (if b then owned_record n else w.records q));
+              views = put (orec_projection w).views n
+                  (record (orec_view (w.views n)) { owned = if b then holding q version (w.views n).owned else (w.views n).owned });
+            })
+        go true e =
+            subst (λ (k : ℕ → Rec).
+            Nexts (orec_projection w) (record (orec_projection w) {
+              records = k;
+              views = put (orec_projection w).views n (record (orec_view (w.views n)) { owned = holding q version (w.views n).owned });
+            }))
+            (sym (records_put w q (owned_record n) (Taken n) (rec_of-owned n)))
             (owning.lock-kept (home_of c) c.words (orec_projection w) n q version may.opens.has.inside may.opens.open_yet may.unraised (ap rec_of (e refl) ∙ rec_of-free version) may.new (full-world w r))
-        go false e = subst (λ (k : ℕ → Rec). Nexts (orec_projection w) (record (orec_projection w) { records = k; views = put (orec_projection w).views n (orec_view (w.views n)) })) (sym (parts-kept rec_of w.records q (w.records q) refl))
+        go false e =
+            subst (λ (k : ℕ → Rec).
+            Nexts (orec_projection w)
+            (record (orec_projection w) { records = k; views = put (orec_projection w).views n (orec_view (w.views n)) }))
+            (sym (parts-kept rec_of w.records q (w.records q) refl))
             (quiet (home_of c) c.words (orec_projection w) n (orec_view (w.views n)) refl (r.runs.own n) (full-world w r))
 
     pub orec_locks : (q : ℕ) → (version : ℕ) → StepLaw (OrecWorld good c) (orec_lock n q version) Nothing n (CanOrecLock version)
-    orec_locks q version w r may = plainly (orec_lock n q version) Nothing w r may.opens.has.runs.phase (refl, refl, refl, refl, refl) (refl, refl, refl) (record { lock = refl; taken = refl; phase = refl; inside = refl; writer = refl })
+    orec_locks q version w r may =
+        plainly (orec_lock n q version) Nothing w r may.opens.has.runs.phase (refl, refl, refl, refl, refl) (refl, refl, refl)
+        (record { lock = refl; taken = refl; phase = refl; inside = refl; writer = refl })
         (orec_locks-next q version w r may).0
         tt
 
-    orec_times-next : (q : ℕ) → (version : ℕ) → (w : World) → OrecWorld good c w → (CanOrecTime (home_of c) q version) (w.views n) → Nexts (orec_projection w) (projection_put w (world_after (orec_release q version) n w) n (view_after (orec_release q version) w (w.views n) (answer (orec_release q version) w)))
-    orec_times-next q version w r may = subst (λ (k : ℕ → Rec). Nexts (orec_projection w) (record (orec_projection w) { records = k; views = put (orec_projection w).views n (record (orec_view (w.views n)) { owned = released q (w.views n).owned }) })) (sym (records_put w q (free_record version) (Free version) (rec_of-free version)))
+    orec_times-next : (q : ℕ) → (version : ℕ) → (w : World) → OrecWorld good c w → (CanOrecTime (home_of c) q version) (w.views n)
+        → Nexts (orec_projection w) (projection_put w (world_after (orec_release q version) n w) n
+        (view_after (orec_release q version) w (w.views n) (answer (orec_release q version) w)))
+    orec_times-next q version w r may =
+        subst (λ (k : ℕ → Rec).
+        Nexts (orec_projection w) (record (orec_projection w)
+        { records = k; views = put (orec_projection w).views n (record (orec_view (w.views n)) { owned = released q (w.views n).owned }) }))
+        (sym (records_put w q (free_record version) (Free version) (rec_of-free version)))
         (owning.release_time-kept (home_of c) c.words (orec_projection w) n q version may.gives.has.inside may.gives.held may.gives.clear may.done may.time (full-world w r))
 
     pub orec_times : (q : ℕ) → (version : ℕ) → StepLaw (OrecWorld good c) (orec_release q version) Nothing n (CanOrecTime (home_of c) q version)
-    orec_times q version w r may = plainly (orec_release q version) Nothing w r may.gives.has.runs.phase (refl, refl, refl, refl, refl) (refl, refl, refl) (record { lock = refl; taken = refl; phase = refl; inside = refl; writer = refl })
+    orec_times q version w r may =
+        plainly (orec_release q version) Nothing w r may.gives.has.runs.phase (refl, refl, refl, refl, refl) (refl, refl, refl)
+        (record { lock = refl; taken = refl; phase = refl; inside = refl; writer = refl })
         (orec_times-next q version w r may).0
         tt
 
-    orec_olds-next : (q : ℕ) → (version : ℕ) → (w : World) → OrecWorld good c w → (CanOrecOld (home_of c) q version) (w.views n) → Nexts (orec_projection w) (projection_put w (world_after (orec_release q version) n w) n (view_after (orec_release q version) w (w.views n) (answer (orec_release q version) w)))
-    orec_olds-next q version w r may = subst (λ (k : ℕ → Rec). Nexts (orec_projection w) (record (orec_projection w) { records = k; views = put (orec_projection w).views n (record (orec_view (w.views n)) { owned = released q (w.views n).owned }) })) (sym (records_put w q (free_record version) (Free version) (rec_of-free version)))
+    orec_olds-next : (q : ℕ) → (version : ℕ) → (w : World) → OrecWorld good c w → (CanOrecOld (home_of c) q version) (w.views n)
+        → Nexts (orec_projection w) (projection_put w (world_after (orec_release q version) n w) n
+        (view_after (orec_release q version) w (w.views n) (answer (orec_release q version) w)))
+    orec_olds-next q version w r may =
+        subst (λ (k : ℕ → Rec).
+        Nexts (orec_projection w) (record (orec_projection w)
+        { records = k; views = put (orec_projection w).views n (record (orec_view (w.views n)) { owned = released q (w.views n).owned }) }))
+        (sym (records_put w q (free_record version) (Free version) (rec_of-free version)))
         (owning.release_old-kept (home_of c) c.words (orec_projection w) n q version may.gives.has.inside may.gives.held may.gives.clear may.undone may.lazy may.old (full-world w r))
 
     pub orec_olds : (q : ℕ) → (version : ℕ) → StepLaw (OrecWorld good c) (orec_release q version) Nothing n (CanOrecOld (home_of c) q version)
-    orec_olds q version w r may = plainly (orec_release q version) Nothing w r may.gives.has.runs.phase (refl, refl, refl, refl, refl) (refl, refl, refl) (record { lock = refl; taken = refl; phase = refl; inside = refl; writer = refl })
+    orec_olds q version w r may =
+        plainly (orec_release q version) Nothing w r may.gives.has.runs.phase (refl, refl, refl, refl, refl) (refl, refl, refl)
+        (record { lock = refl; taken = refl; phase = refl; inside = refl; writer = refl })
         (orec_olds-next q version w r may).0
         tt
 
-    orec_ups-next : (q : ℕ) → (version : ℕ) → (w : World) → OrecWorld good c w → (CanOrecUp (home_of c) q version) (w.views n) → Nexts (orec_projection w) (projection_put w (world_after (orec_release q version) n w) n (view_after (orec_release q version) w (w.views n) (answer (orec_release q version) w)))
-    orec_ups-next q version w r may = subst (λ (k : ℕ → Rec). Nexts (orec_projection w) (record (orec_projection w) { records = k; views = put (orec_projection w).views n (record (orec_view (w.views n)) { owned = released q (w.views n).owned }) })) (sym (records_put w q (free_record version) (Free version) (rec_of-free version)))
+    orec_ups-next : (q : ℕ) → (version : ℕ) → (w : World) → OrecWorld good c w → (CanOrecUp (home_of c) q version) (w.views n)
+        → Nexts (orec_projection w) (projection_put w (world_after (orec_release q version) n w) n
+        (view_after (orec_release q version) w (w.views n) (answer (orec_release q version) w)))
+    orec_ups-next q version w r may =
+        subst (λ (k : ℕ → Rec).
+        Nexts (orec_projection w) (record (orec_projection w)
+        { records = k; views = put (orec_projection w).views n (record (orec_view (w.views n)) { owned = released q (w.views n).owned }) }))
+        (sym (records_put w q (free_record version) (Free version) (rec_of-free version)))
         (owning.release_up-kept (home_of c) c.words (orec_projection w) n q version may.gives.has.inside may.gives.held may.gives.clear may.undone may.raised may.next (full-world w r))
 
     pub orec_ups : (q : ℕ) → (version : ℕ) → StepLaw (OrecWorld good c) (orec_release q version) Nothing n (CanOrecUp (home_of c) q version)
-    orec_ups q version w r may = plainly (orec_release q version) Nothing w r may.gives.has.runs.phase (refl, refl, refl, refl, refl) (refl, refl, refl) (record { lock = refl; taken = refl; phase = refl; inside = refl; writer = refl })
+    orec_ups q version w r may =
+        plainly (orec_release q version) Nothing w r may.gives.has.runs.phase (refl, refl, refl, refl, refl) (refl, refl, refl)
+        (record { lock = refl; taken = refl; phase = refl; inside = refl; writer = refl })
         (orec_ups-next q version w r may).0
         tt
 
-    orec_clocks_all-next : (w : World) → OrecWorld good c w → CanOrecClock (home_of c) [] (w.views n) → Nexts (orec_projection w) (projection_put w (world_after orec_clock_all n w) n (view_after orec_clock_all w (w.views n) w.clock))
+    orec_clocks_all-next : (w : World) → OrecWorld good c w → CanOrecClock (home_of c) [] (w.views n)
+        → Nexts (orec_projection w) (projection_put w (world_after orec_clock_all n w) n (view_after orec_clock_all w (w.views n) w.clock))
     orec_clocks_all-next w r may = reading.all-kept (home_of c) c.words (orec_projection w) n may.opens.open_yet (λ a t. may.mine a t refl) (λ a t. may.old a t refl) (full-world w r)
 
     pub orec_clocks_all : StepLaw (OrecWorld good c) orec_clock_all OrecClocks n (CanOrecClock (home_of c) [])
@@ -442,8 +566,11 @@ module _ (good : (ℕ → ℕ) → Type 0) (c : Config) where
 
         go : (t : Bool) → passes (w.records q) (w.views n) ≡ t → Parts (at t) × Ranks w (at t)
         go true e = let p = passed-at (w.records q) (w.views n) e in both_of w (at true) (next true) refl (record { lock = refl; taken = refl; phase = refl; inside = refl; writer = refl }) may.opens.has.runs.phase
-            (history-upto good c w (at true) n (w.views n).check.upto (next true) refl refl refl refl (let s = own.front may.opens.open_yet in let u = own.check.onward may.checking in omega arith) (own.check.upto may.checking) r.history)
-            (reading.last-kept (home_of c) c.words (orec_projection w) n b (version_of (w.records q)) (ap (λ (k : ℕ). rec_of (w.records k)) may.its ∙ rec-free (w.records q) p.0) p.1 may.checking may.rest (full-world w r)) r
+            (history-upto good c w (at true) n (w.views n).check.upto (next true) refl refl refl refl
+            (let s = own.front may.opens.open_yet in let u = own.check.onward may.checking in omega arith) (own.check.upto may.checking)
+            r.history)
+            (reading.last-kept (home_of c) c.words (orec_projection w) n b (version_of (w.records q))
+            (ap (λ (k : ℕ). rec_of (w.records k)) may.its ∙ rec-free (w.records q) p.0) p.1 may.checking may.rest (full-world w r)) r
         go false e = both_of w (at false) (next false) refl (record { lock = refl; taken = refl; phase = refl; inside = refl; writer = refl }) may.opens.has.runs.phase
             (history-kept good c w (at false) n (next false) refl refl refl refl r.history)
             (reading.uncheck-kept (home_of c) c.words (orec_projection w) n (full-world w r)) r
@@ -455,8 +582,12 @@ module _ (good : (ℕ → ℕ) → Type 0) (c : Config) where
       shown = tt;
     }
 
-    orec_raises_clock-next : (least : ℕ) (w : World) → OrecWorld good c w → CanOrecRaiseClock least (w.views n) → Nexts (orec_projection w) (projection_put w (world_after (orec_raise_clock least) n w) n (view_after (orec_raise_clock least) w (w.views n) w.clock))
-    orec_raises_clock-next least w r may = owning.raise_clock-kept (home_of c) c.words (orec_projection w) n (max w.clock least) may.has.inside may.restored (grind (arith, nat_tests)) (λ q t. let k = may.above q t in grind (arith, nat_tests)) (full-world w r)
+    orec_raises_clock-next : (least : ℕ) (w : World) → OrecWorld good c w → CanOrecRaiseClock least (w.views n)
+        → Nexts (orec_projection w)
+        (projection_put w (world_after (orec_raise_clock least) n w) n (view_after (orec_raise_clock least) w (w.views n) w.clock))
+    orec_raises_clock-next least w r may =
+        owning.raise_clock-kept (home_of c) c.words (orec_projection w) n (max w.clock least) may.has.inside may.restored
+        (grind (arith, nat_tests)) (λ q t. let k = may.above q t in grind (arith, nat_tests)) (full-world w r)
 
     pub orec_raises_clock : (least : ℕ) → n < c.callers → StepLaw (OrecWorld good c) (orec_raise_clock least) Nothing n (CanOrecRaiseClock least)
     orec_raises_clock least low w r may = record {
@@ -491,11 +622,20 @@ module _ (good : (ℕ → ℕ) → Type 0) (c : Config) where
         step_trace false = refl
 
         steps : (b : Bool) → ltb w.clock least ≡ b → StepsRule c (steps_projection x)
-        steps true q = steps-raised c (orec_raise_clock least) n w 1 low (let m = most in grind (arith, nat_tests, q, m)) (step_trace (ltb w.clock least)) (ap (λ (b : Bool). (if b then record (w.views n).steps { rises = (w.views n).steps.rises + 1 } else (w.views n).steps).rises) q) r.steps
-        steps false q = steps-kept c (orec_raise_clock least) n w (grind (arith, nat_tests, q)) (step_trace (ltb w.clock least)) (ap (λ (b : Bool). (if b then record (w.views n).steps { rises = (w.views n).steps.rises + 1 } else (w.views n).steps).rises) q) r.steps
+        steps true q =
+            steps-raised c (orec_raise_clock least) n w 1 low (let m = most in grind (arith, nat_tests, q, m))
+            (step_trace (ltb w.clock least))
+            (ap (λ (b : Bool). (if b then record (w.views n).steps { rises = (w.views n).steps.rises + 1 } else (w.views n).steps).rises) q)
+            r.steps
+        steps false q =
+            steps-kept c (orec_raise_clock least) n w (grind (arith, nat_tests, q)) (step_trace (ltb w.clock least))
+            (ap (λ (b : Bool). (if b then record (w.views n).steps { rises = (w.views n).steps.rises + 1 } else (w.views n).steps).rises) q)
+            r.steps
 
     -- the entry, or the exchange refused
-    orec_commits-both : (start : ℕ) (writes back : List Cell) → n < c.callers → (w : World) → OrecWorld good c w → CanOrecCommit (home_of c) good c.words start writes back (w.views n) → Parts (world_after (orec_commit n start writes back) n w) × Ranks w (world_after (orec_commit n start writes back) n w)
+    orec_commits-both : (start : ℕ) (writes back : List Cell) → n < c.callers → (w : World) → OrecWorld good c w
+        → CanOrecCommit (home_of c) good c.words start writes back (w.views n)
+        → Parts (world_after (orec_commit n start writes back) n w) × Ranks w (world_after (orec_commit n start writes back) n w)
     orec_commits-both start writes back low w r may = go (w.clock == start) (λ q. eqb-true w.clock start q)
       where
         e : Entry
@@ -519,7 +659,9 @@ module _ (good : (ℕ → ℕ) → Type 0) (c : Config) where
             (owning.commit-kept (home_of c) c.words (orec_projection w) n e back may.has.inside (ap (λ k. k + 1) (sym (q refl))) may.ready (full-world w r)) r
           where
             sees : Explains (word_now w.history) (w.views n).attempt.reads
-            sees a = subst (λ (k : ℕ). over (w.views n).attempt.reads a k ≡ k) (word_at-all w.history (w.clock + 1) (w.views n).attempt.start a r.history.below (let k = q refl in let f = may.from in omega arith)) (own.sees a)
+            sees a =
+                subst (λ (k : ℕ). over (w.views n).attempt.reads a k ≡ k) (word_at-all w.history (w.clock + 1) (w.views n).attempt.start a
+                r.history.below (let k = q refl in let f = may.from in omega arith)) (own.sees a)
 
             follows : Follows good c e w.history
             follows = record {
@@ -568,8 +710,16 @@ module _ (good : (ℕ → ℕ) → Type 0) (c : Config) where
         step_trace false = refl
 
         steps : (b : Bool) → (w.clock == start) ≡ b → (b ≡ true → w.clock ≡ start) → StepsRule c (steps_projection x)
-        steps true q k = steps-raised c (orec_commit n start writes back) n w 1 low (ap (λ (b : Bool). if b then start + 1 else w.clock) q ∙ ap (λ u. u + 1) (sym (k refl))) (step_trace (w.clock == start)) (ap (λ (b : Bool). (if b then record (w.views n).steps { rises = (w.views n).steps.rises + 1 } else (w.views n).steps).rises) q) r.steps
-        steps false q k = steps-kept c (orec_commit n start writes back) n w (ap (λ (b : Bool). if b then start + 1 else w.clock) q) (step_trace (w.clock == start)) (ap (λ (b : Bool). (if b then record (w.views n).steps { rises = (w.views n).steps.rises + 1 } else (w.views n).steps).rises) q) r.steps
+        steps true q k =
+            steps-raised c (orec_commit n start writes back) n w 1 low
+            (ap (λ (b : Bool). if b then start + 1 else w.clock) q ∙ ap (λ u. u + 1) (sym (k refl))) (step_trace (w.clock == start))
+            (ap (λ (b : Bool). (if b then record (w.views n).steps { rises = (w.views n).steps.rises + 1 } else (w.views n).steps).rises) q)
+            r.steps
+        steps false q k =
+            steps-kept c (orec_commit n start writes back) n w (ap (λ (b : Bool). if b then start + 1 else w.clock) q)
+            (step_trace (w.clock == start))
+            (ap (λ (b : Bool). (if b then record (w.views n).steps { rises = (w.views n).steps.rises + 1 } else (w.views n).steps).rises) q)
+            r.steps
 
     -- no kind lets a rank fall
     pub orec_begins-ranks : (w : World) → OrecWorld good c w → CanOrecBegin (w.views n) → Ranks w (world_after (orec_begin) n w)
@@ -605,17 +755,22 @@ module _ (good : (ℕ → ℕ) → Type 0) (c : Config) where
     pub orec_locks-ranks : (r : ℕ) (version : ℕ) → (w : World) → OrecWorld good c w → CanOrecLock version (w.views n) → Ranks w (world_after (orec_lock n r version) n w)
     orec_locks-ranks r version w g may = ranks_of w (world_after (orec_lock n r version) n w) (view_after (orec_lock n r version) w (w.views n) (answer (orec_lock n r version) w)) refl (orec_locks-next r version w g may)
 
-    pub orec_commits-ranks : (start : ℕ) (writes : List Cell) (back : List Cell) → n < c.callers → (w : World) → OrecWorld good c w → CanOrecCommit (home_of c) good c.words start writes back (w.views n) → Ranks w (world_after (orec_commit n start writes back) n w)
+    pub orec_commits-ranks : (start : ℕ) (writes : List Cell) (back : List Cell) → n < c.callers → (w : World) → OrecWorld good c w
+        → CanOrecCommit (home_of c) good c.words start writes back (w.views n) → Ranks w (world_after (orec_commit n start writes back) n w)
     orec_commits-ranks start writes back low w g may = (orec_commits-both start writes back low w g may).1
 
     pub orec_writes_back-ranks : (a : ℕ) (x : ℕ) → (w : World) → OrecWorld good c w → CanOrecWriteBack a x (w.views n) → Ranks w (world_after (orec_write_back a x) n w)
     orec_writes_back-ranks a x w g may = ranks_of w (world_after (orec_write_back a x) n w) (view_after (orec_write_back a x) w (w.views n) (answer (orec_write_back a x) w)) refl (orec_writes_back-next a x w g may)
 
     pub orec_times-ranks : (r : ℕ) (version : ℕ) → (w : World) → OrecWorld good c w → CanOrecTime (home_of c) r version (w.views n) → Ranks w (world_after (orec_release r version) n w)
-    orec_times-ranks r version w g may = ranks_of w (world_after (orec_release r version) n w) (view_after (orec_release r version) w (w.views n) (answer (orec_release r version) w)) refl (orec_times-next r version w g may)
+    orec_times-ranks r version w g may =
+        ranks_of w (world_after (orec_release r version) n w)
+        (view_after (orec_release r version) w (w.views n) (answer (orec_release r version) w)) refl (orec_times-next r version w g may)
 
     pub orec_olds-ranks : (r : ℕ) (version : ℕ) → (w : World) → OrecWorld good c w → CanOrecOld (home_of c) r version (w.views n) → Ranks w (world_after (orec_release r version) n w)
-    orec_olds-ranks r version w g may = ranks_of w (world_after (orec_release r version) n w) (view_after (orec_release r version) w (w.views n) (answer (orec_release r version) w)) refl (orec_olds-next r version w g may)
+    orec_olds-ranks r version w g may =
+        ranks_of w (world_after (orec_release r version) n w)
+        (view_after (orec_release r version) w (w.views n) (answer (orec_release r version) w)) refl (orec_olds-next r version w g may)
 
     pub orec_ups-ranks : (r : ℕ) (version : ℕ) → (w : World) → OrecWorld good c w → CanOrecUp (home_of c) r version (w.views n) → Ranks w (world_after (orec_release r version) n w)
     orec_ups-ranks r version w g may = ranks_of w (world_after (orec_release r version) n w) (view_after (orec_release r version) w (w.views n) (answer (orec_release r version) w)) refl (orec_ups-next r version w g may)
@@ -633,4 +788,6 @@ module _ (good : (ℕ → ℕ) → Type 0) (c : Config) where
     orec_restores-ranks a x w g may = ranks_of w (world_after (orec_restore a x) n w) (view_after (orec_restore a x) w (w.views n) (answer (orec_restore a x) w)) refl (orec_restores-next a x w g may)
 
     pub orec_raises_clock-ranks : (least : ℕ) → (w : World) → OrecWorld good c w → CanOrecRaiseClock least (w.views n) → Ranks w (world_after (orec_raise_clock least) n w)
-    orec_raises_clock-ranks least w g may = ranks_of w (world_after (orec_raise_clock least) n w) (view_after (orec_raise_clock least) w (w.views n) (answer (orec_raise_clock least) w)) refl (orec_raises_clock-next least w g may)
+    orec_raises_clock-ranks least w g may =
+        ranks_of w (world_after (orec_raise_clock least) n w)
+        (view_after (orec_raise_clock least) w (w.views n) (answer (orec_raise_clock least) w)) refl (orec_raises_clock-next least w g may)

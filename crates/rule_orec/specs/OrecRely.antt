@@ -108,7 +108,8 @@ module _ (home : ℕ → ℕ) (words : ℕ) where
   pub rule_of : (s : OrecProjection) → Full s → OrecRule home words s
   rule_of s g = record { based = g.whole.based; shut = g.whole.shut; stamped = g.whole.stamped; clean = g.whole.clean; mixed = g.whole.mixed; own = g.own }
 
-  pub full_of : (s : OrecProjection) → Below s.history (s.clock + 1) → ((r v : ℕ) → s.records r ≡ Free v → v ≤ s.clock) → ((r n : ℕ) → s.records r ≡ Taken n → touches (s.views n).owned.held r ≡ true) → OrecRule home words s → Full s
+  pub full_of : (s : OrecProjection) → Below s.history (s.clock + 1) → ((r v : ℕ) → s.records r ≡ Free v → v ≤ s.clock)
+      → ((r n : ℕ) → s.records r ≡ Taken n → touches (s.views n).owned.held r ≡ true) → OrecRule home words s → Full s
   full_of s below free owned g = record { whole = record { below = below; based = g.based; free = free; owned = owned; shut = g.shut; stamped = g.stamped; clean = g.clean; mixed = g.mixed }; own = g.own }
 
   -- who owns a record is in an attempt
@@ -144,7 +145,10 @@ module _ (home : ℕ → ℕ) (words : ℕ) where
         clean = g.whole.clean;
         mixed = λ a m h b. grind (arith, g.whole.mixed a m h, l);
       };
-      own = put-all w.views n v (λ m u. u.owned.inside ≡ true → Own home words (with_view w n v) m u) (λ i. stable w (with_view w n v) n v grows (spares n) (o i)) (λ m d i. stable w (with_view w n v) m (w.views m) grows (spares m) (g.own m i));
+      own =
+          put-all w.views n v (λ m u. u.owned.inside ≡ true → Own home words (with_view w n v) m u)
+          (λ i. stable w (with_view w n v) n v grows (spares n) (o i)) (λ m d i.
+          stable w (with_view w n v) m (w.views m) grows (spares m) (g.own m i));
     },
     grows.rank,
   )
@@ -189,7 +193,9 @@ module _ (home : ℕ → ℕ) (words : ℕ) where
   rank-fresh vs n r v (Taken m) l = grind (arith, l)
 
   -- FRESH: n, whose is no record, owns nothing afterwards: it begins, or is outside
-  pub fresh : (w : OrecProjection) (n : ℕ) (v : OrecView) → ((r : ℕ) → w.records r ≡ Taken n → ⊥) → ((r : ℕ) → touches v.owned.held r ≡ false) → (v.owned.inside ≡ true → Own home words w n v) → OrecRule home words w → OrecRule home words (with_view w n v) × ((r : ℕ) → rank w r ≤ rank (with_view w n v) r)
+  pub fresh : (w : OrecProjection) (n : ℕ) (v : OrecView) → ((r : ℕ) → w.records r ≡ Taken n → ⊥)
+      → ((r : ℕ) → touches v.owned.held r ≡ false) → (v.owned.inside ≡ true → Own home words w n v) → OrecRule home words w
+      → OrecRule home words (with_view w n v) × ((r : ℕ) → rank w r ≤ rank (with_view w n v) r)
   fresh w n v apart none o g = (
     record {
       based = g.based;
@@ -197,7 +203,10 @@ module _ (home : ℕ → ℕ) (words : ℕ) where
       stamped = λ a b. grind (arith, rank-fresh w.views n (home a) v (w.records (home a)) (apart (home a)), g.stamped a b);
       clean = g.clean;
       mixed = λ a m h b. grind (arith, b, g.mixed a m h, h, apart (home a));
-      own = put-all w.views n v (λ m u. u.owned.inside ≡ true → Own home words (with_view w n v) m u) (λ i. stable w (with_view w n v) n v grows (spares n) (o i)) (λ m d i. stable w (with_view w n v) m (w.views m) grows (spares m) (g.own m i));
+      own =
+          put-all w.views n v (λ m u. u.owned.inside ≡ true → Own home words (with_view w n v) m u)
+          (λ i. stable w (with_view w n v) n v grows (spares n) (o i)) (λ m d i.
+          stable w (with_view w n v) m (w.views m) grows (spares m) (g.own m i));
     },
     grows.rank,
   )
@@ -209,7 +218,9 @@ module _ (home : ℕ → ℕ) (words : ℕ) where
       spares m = record { records = λ r h. h; now = λ a h. refl; last = λ a h. refl }
 
 -- FROM REST: nobody is in an attempt, each record is free, the memory lies in the heap, and no entry is later than BASE
-pub orec-from-rest : (home : ℕ → ℕ) (words : ℕ) (s : OrecProjection) → ((n : ℕ) → (s.views n).owned.inside ≡ true → ⊥) → ((n r : ℕ) → touches (s.views n).owned.held r ≡ true → ⊥) → ((r n : ℕ) → s.records r ≡ Taken n → ⊥) → Below s.history (s.clock + 1) → ((a : ℕ) → s.heap a ≡ word_now s.history a) → s.base ≡ s.clock → OrecRule home words s
+pub orec-from-rest : (home : ℕ → ℕ) (words : ℕ) (s : OrecProjection) → ((n : ℕ) → (s.views n).owned.inside ≡ true → ⊥)
+    → ((n r : ℕ) → touches (s.views n).owned.held r ≡ true → ⊥) → ((r n : ℕ) → s.records r ≡ Taken n → ⊥) → Below s.history (s.clock + 1)
+    → ((a : ℕ) → s.heap a ≡ word_now s.history a) → s.base ≡ s.clock → OrecRule home words s
 orec-from-rest home words s nobody none free below heap based = record {
   based = grind (arith, based);
   shut = λ n e r. grind (arith, none n r);
@@ -220,7 +231,9 @@ orec-from-rest home words s nobody none free below heap based = record {
 }
 
 -- STILL AT REST, with BASE anywhere: each record vouches for what is later
-pub orec-vouched : (home : ℕ → ℕ) (words : ℕ) (s : OrecProjection) → ((n : ℕ) → (s.views n).owned.inside ≡ true → ⊥) → ((n r : ℕ) → touches (s.views n).owned.held r ≡ true → ⊥) → ((r n : ℕ) → s.records r ≡ Taken n → ⊥) → s.base ≤ s.clock → ((a : ℕ) → s.heap a ≡ word_now s.history a)
+pub orec-vouched : (home : ℕ → ℕ) (words : ℕ) (s : OrecProjection) → ((n : ℕ) → (s.views n).owned.inside ≡ true → ⊥)
+    → ((n r : ℕ) → touches (s.views n).owned.held r ≡ true → ⊥) → ((r n : ℕ) → s.records r ≡ Taken n → ⊥) → s.base ≤ s.clock
+    → ((a : ℕ) → s.heap a ≡ word_now s.history a)
     → ((a : ℕ) → s.base < last_write s.history a → (v : ℕ) → s.records (home a) ≡ Free v → 2 * last_write s.history a ≤ 2 * v + 1) → OrecRule home words s
 orec-vouched home words s nobody none free based heap stamps = record {
   based = based;

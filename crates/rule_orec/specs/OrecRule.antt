@@ -123,7 +123,16 @@ module _ (home : ℕ → ℕ) where
 
 -- of the projection of what runs
 abbrev pub orec_part : RunProjection → OrecProjection
-orec_part s = record { clock = s.clock; base = s.base; records = parts rec_of s.records; heap = s.heap; history = s.history; views = parts (λ (v : RunView). record { attempt = v.attempt; owned = v.owned; sample = v.sample; check = v.check; front = v.front }) s.views }
+orec_part s =
+    record {
+      clock = s.clock;
+      base = s.base;
+      records = parts rec_of s.records;
+      heap = s.heap;
+      history = s.history;
+      views =
+          parts (λ (v : RunView). record { attempt = v.attempt; owned = v.owned; sample = v.sample; check = v.check; front = v.front }) s.views;
+    }
 
 abbrev pub OrecRuns : Config → RunProjection → Type 0
 OrecRuns c s = OrecRule (home_of c) c.words (orec_part s)

@@ -20,7 +20,9 @@ use Rattle.rule_orec.specs.OrecSteps.{direct_attempt, direct_owned, HasStores}
 
 module _ (home : ℕ → ℕ) (words : ℕ) where
   -- who alone is in an attempt, with no entry, has the memory under its stores in place in the heap
-  pub alone-heap : (s : OrecProjection) (n : ℕ) → (s.views n).owned.inside ≡ true → (s.views n).owned.committed ≡ false → ((m : ℕ) → m ≢ n → (s.views m).owned.inside ≡ true → ⊥) → Full home words s → (a : ℕ) → s.heap a ≡ over (s.views n).owned.in_place a (word_now s.history a)
+  pub alone-heap : (s : OrecProjection) (n : ℕ) → (s.views n).owned.inside ≡ true → (s.views n).owned.committed ≡ false
+      → ((m : ℕ) → m ≢ n → (s.views m).owned.inside ≡ true → ⊥) → Full home words s → (a : ℕ)
+      → s.heap a ≡ over (s.views n).owned.in_place a (word_now s.history a)
   alone-heap s n i d alone g a = go (s.records (home a)) refl
     where
       go : (k : Rec) → s.records (home a) ≡ k → s.heap a ≡ over (s.views n).owned.in_place a (word_now s.history a)
@@ -36,7 +38,8 @@ module _ (home : ℕ → ℕ) (words : ℕ) where
       go (Taken m) is = let same : m ≢ n → ⊥ = λ other. alone m other (owner-in home words s g.whole r m is) in grind (arith, is, same)
 
 -- THE GRANT: the attempt is validated at t, which is the clock
-pub orec-granted : (c : Config) (alg : Alg) (n t : ℕ) (w x : World) (v : View) → has_records alg ≡ true → x.views ≡ put w.views n v → x.clock ≡ w.clock → x.heap ≡ w.heap → x.history ≡ w.history → x.base ≡ w.base → x.records ≡ w.records
+pub orec-granted : (c : Config) (alg : Alg) (n t : ℕ) (w x : World) (v : View) → has_records alg ≡ true → x.views ≡ put w.views n v
+    → x.clock ≡ w.clock → x.heap ≡ w.heap → x.history ≡ w.history → x.base ≡ w.base → x.records ≡ w.records
     → v.attempt ≡ direct_attempt t (w.views n) → v.owned ≡ direct_owned (w.views n).owned → v.history.front ≡ t → v.lock.taken ≡ false → t ≡ w.clock
     → (w.views n).owned.inside ≡ true → (w.views n).owned.committed ≡ false → HasStores c.words (w.views n)
     → ((m : ℕ) → m ≢ n → (w.views m).owned.inside ≡ true → ⊥) → ((a : ℕ) → over (w.views n).attempt.reads a (word_at w.history t a) ≡ word_at w.history t a) → Full (home_of c) c.words (orec_projection w)
@@ -65,9 +68,19 @@ orec-granted c alg n t w x v has is clock heap history base records attempt owne
     at : direct_projection n x ≡ record { clock = w.clock; heap = w.heap; history = w.history; own = record { attempt = direct_attempt t (w.views n); lock = v.lock; tml = v.tml; front = t } }
     at = direct_projection-own w x n v is ∙ (λ k. record { clock = clock k; heap = heap k; history = history k; own = record { attempt = attempt k; lock = v.lock; tml = v.tml; front = front k } })
 
-    orec : OrecSuits (home_of c) (record { clock = w.clock; base = w.base; records = w.records; history = w.history; own = record { attempt = direct_attempt t (w.views n); tml = v.tml; owned = direct_owned (w.views n).owned } })
+    orec : OrecSuits (home_of c) (record {
+      clock = w.clock;
+      base = w.base;
+      records = w.records;
+      history = w.history;
+      own = record { attempt = direct_attempt t (w.views n); tml = v.tml; owned = direct_owned (w.views n).owned };
+    })
     orec = record {
-      stamped = λ e a b. let s = g.whole.stamped a b in subst (λ (k : ℕ). 2 * last_write w.history a ≤ k) (alone-rank (home_of c) c.words (orec_projection w) n alone g (home_of c a) ∙ same (home_of c a) (rec_of (w.records (home_of c a)))) s;
+      stamped =
+          λ e a b.
+          let s = g.whole.stamped a b in
+          subst (λ (k : ℕ). 2 * last_write w.history a ≤ k) (alone-rank (home_of c) c.words (orec_projection w) n alone g (home_of c a)
+          ∙ same (home_of c a) (rec_of (w.records (home_of c a)))) s;
       uncommitted = d;
       olds = own.owned.olds;
       older = λ e. absurd cc;
@@ -79,7 +92,14 @@ orec-granted c alg n t w x v has is clock heap history base records attempt owne
         same r (Free u) = refl
         same r (Taken m) = refl
 
-    suit_at : suit_projection n x ≡ record { clock = w.clock; base = w.base; records = w.records; history = w.history; own = record { attempt = direct_attempt t (w.views n); tml = v.tml; owned = direct_owned (w.views n).owned } }
+    suit_at : suit_projection n x
+        ≡ record {
+          clock = w.clock;
+          base = w.base;
+          records = w.records;
+          history = w.history;
+          own = record { attempt = direct_attempt t (w.views n); tml = v.tml; owned = direct_owned (w.views n).owned };
+        }
     suit_at = suit_projection-own w x n v is ∙ (λ k. record { clock = clock k; base = base k; records = records k; history = history k; own = record { attempt = attempt k; tml = v.tml; owned = owned k } })
 
     suits : (a : Alg) → has_records a ≡ true → Suits (home_of c) a (suit_projection n x)

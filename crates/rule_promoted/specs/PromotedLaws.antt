@@ -62,7 +62,8 @@ orec-alike home s t l k = record {
   locked = λ r h. let p = l.held r h in ap is_owned p.2 ∙ k.locked r p.0;
 }
   where
-    go : (t.history ≡ s.history) × (t.records ≡ s.records) × (t.own.owned ≡ s.own.owned) × (s.own.attempt.entered ≡ false) → (a : ℕ) → t.base < last_write t.history a → 2 * last_write t.history a ≤ rank_one t.own.owned (home a) (rec_of (t.records (home a)))
+    go : (t.history ≡ s.history) × (t.records ≡ s.records) × (t.own.owned ≡ s.own.owned) × (s.own.attempt.entered ≡ false) → (a : ℕ)
+        → t.base < last_write t.history a → 2 * last_write t.history a ≤ rank_one t.own.owned (home a) (rec_of (t.records (home a)))
     go q a b = let was : s.base < last_write s.history a = let o = l.base in let same : last_write t.history a ≡ last_write s.history a = ap (λ (h : List Entry). last_write h a) q.0 in omega arith in
         subst (λ (h : List Entry). 2 * last_write h a ≤ rank_one t.own.owned (home a) (rec_of (t.records (home a)))) (sym q.0)
         (subst (λ (f : ℕ → ℕ). 2 * last_write s.history a ≤ rank_one t.own.owned (home a) (rec_of (f (home a)))) (sym q.1)
@@ -98,7 +99,9 @@ entry_rise-some RingSw = omega arith
 entry_rise-some Serial = omega arith
 
 -- THE GRANT UNDER TML: a reader whose start is the clock, alone, meets the clauses of a promoted attempt
-pub tml-granted : (c : Config) (n : ℕ) (w : World) → TmlRule c.words (tml_projection w) → Below w.history (w.clock + 1) → (w.views n).tml.inside ≡ true → (w.views n).tml.writer ≡ false → (w.views n).lock.taken ≡ false → ((m : ℕ) → m ≢ n → (w.views m).tml.writer ≡ true → ⊥) → w.clock ≡ (w.views n).attempt.start
+pub tml-granted : (c : Config) (n : ℕ) (w : World) → TmlRule c.words (tml_projection w) → Below w.history (w.clock + 1)
+    → (w.views n).tml.inside ≡ true → (w.views n).tml.writer ≡ false → (w.views n).lock.taken ≡ false
+    → ((m : ℕ) → m ≢ n → (w.views m).tml.writer ≡ true → ⊥) → w.clock ≡ (w.views n).attempt.start
     → DirectRuns c Tml n (run_projection w)
 tml-granted c n w r below inside reads unlocked others now = record {
   direct = record {
@@ -126,7 +129,9 @@ tml-granted c n w r below inside reads unlocked others now = record {
         by false e = others m (eqb-false m n e) t
 
 -- the projection of what runs after a step of the attempt
-projection_put : (w x : World) (n : ℕ) (v : View) → x.views ≡ put w.views n v → x.clock ≡ w.clock → x.lock ≡ w.lock → x.base ≡ w.base → x.done ≡ w.done → x.records ≡ w.records → x.slots ≡ w.slots → x.history ≡ w.history → x.heap ≡ x.heap → run_projection x ≡ record (run_projection w) { heap = x.heap; views = put (run_projection w).views n (run_view v) }
+projection_put : (w x : World) (n : ℕ) (v : View) → x.views ≡ put w.views n v → x.clock ≡ w.clock → x.lock ≡ w.lock → x.base ≡ w.base
+    → x.done ≡ w.done → x.records ≡ w.records → x.slots ≡ w.slots → x.history ≡ w.history → x.heap ≡ x.heap
+    → run_projection x ≡ record (run_projection w) { heap = x.heap; views = put (run_projection w).views n (run_view v) }
 projection_put w x n v is clock lock base done records slots history heap = λ i. record {
   clock = clock i;
   lock = lock i;
@@ -162,7 +167,19 @@ module _ (good : (ℕ → ℕ) → Type 0) (c : Config) (alg : Alg) (n : ℕ) wh
           stores_small = d.stores_small;
           unlocked = d.unlocked;
         });
-        suits = subst (Suits (home_of c) alg) (sym (suit_projection-own w x n v refl)) (suits-later (home_of c) alg (suit_projection n w) (record (suit_projection n w) { own = suit_view v }) refl (record { tml = refl; base = le_refl w.base; stamps = λ e. (refl, refl, refl, e); clock = le_refl w.clock; entered = λ e. inl e; held = λ r t. (t, refl, refl); raised = refl; committed = refl }) r.runs.suits);
+        suits =
+            subst (Suits (home_of c) alg) (sym (suit_projection-own w x n v refl))
+            (suits-later (home_of c) alg (suit_projection n w) (record (suit_projection n w) { own = suit_view v }) refl
+            (record {
+              tml = refl;
+              base = le_refl w.base;
+              stamps = λ e. (refl, refl, refl, e);
+              clock = le_refl w.clock;
+              entered = λ e. inl e;
+              held = λ r t. (t, refl, refl);
+              raised = refl;
+              committed = refl;
+            }) r.runs.suits);
         ring = λ e. subst (RingKeeps c.ring n) (sym (projection_put w x n v refl refl refl refl refl refl refl refl refl)) (keeps-put c.ring n n (run_projection w) w.heap (run_view v) refl (λ d. absurd (d refl)) (r.runs.ring e));
       };
     };
@@ -198,7 +215,19 @@ module _ (good : (ℕ → ℕ) → Type 0) (c : Config) (alg : Alg) (n : ℕ) wh
           stores_small = small-more (record { at = a; value = k }) (w.views n).attempt.stores may.small d.stores_small;
           unlocked = d.unlocked;
         });
-        suits = subst (Suits (home_of c) alg) (sym (suit_projection-own w x n v refl)) (suits-later (home_of c) alg (suit_projection n w) (record (suit_projection n w) { own = suit_view v }) refl (record { tml = refl; base = le_refl w.base; stamps = λ e. (refl, refl, refl, e); clock = le_refl w.clock; entered = λ e. inl e; held = λ r t. (t, refl, refl); raised = refl; committed = refl }) r.runs.suits);
+        suits =
+            subst (Suits (home_of c) alg) (sym (suit_projection-own w x n v refl))
+            (suits-later (home_of c) alg (suit_projection n w) (record (suit_projection n w) { own = suit_view v }) refl
+            (record {
+              tml = refl;
+              base = le_refl w.base;
+              stamps = λ e. (refl, refl, refl, e);
+              clock = le_refl w.clock;
+              entered = λ e. inl e;
+              held = λ r t. (t, refl, refl);
+              raised = refl;
+              committed = refl;
+            }) r.runs.suits);
         ring = λ e. subst (RingKeeps c.ring n) (sym (projection_put w x n v refl refl refl refl refl refl refl refl refl)) (keeps-put c.ring n n (run_projection w) (put w.heap a k) (run_view v) refl (λ d. absurd (d refl)) (r.runs.ring e));
       };
     };
@@ -235,7 +264,20 @@ module _ (good : (ℕ → ℕ) → Type 0) (c : Config) (alg : Alg) (n : ℕ) wh
           stores_small = λ a d l. l;
           unlocked = d.unlocked;
         });
-        suits = subst (Suits (home_of c) alg) (sym (suit_projection-own w x n v refl)) (suits-ticked (home_of c) alg (suit_projection n w) (record { clock = t; base = w.base; records = w.records; history = e ∷ w.history; own = suit_view v }) next (record { tml = refl; base = le_refl w.base; stamps = λ f. absurd cc; clock = (let k = later in omega arith); entered = λ f. inr later; held = λ r t. (t, refl, refl); raised = refl; committed = refl }) r.runs.suits);
+        suits =
+            subst (Suits (home_of c) alg) (sym (suit_projection-own w x n v refl))
+            (suits-ticked (home_of c) alg (suit_projection n w)
+            (record { clock = t; base = w.base; records = w.records; history = e ∷ w.history; own = suit_view v }) next
+            (record {
+              tml = refl;
+              base = le_refl w.base;
+              stamps = λ f. absurd cc;
+              clock = (let k = later in omega arith);
+              entered = λ f. inr later;
+              held = λ r t. (t, refl, refl);
+              raised = refl;
+              committed = refl;
+            }) r.runs.suits);
         ring = λ q. let o = r.runs.ring q in record {
           base = le_trans o.base (let k = later in omega arith);
           done = le_trans o.done (let k = later in omega arith);
@@ -300,8 +342,32 @@ module _ (good : (ℕ → ℕ) → Type 0) (c : Config) (alg : Alg) (n : ℕ) wh
       attempts = attempts-stay w x n v refl refl refl refl r.attempts;
       records = records-given w x n q t v refl refl refl refl refl (subst (λ (k : ℕ). t ≤ k) d.start (subst (λ (k : ℕ). t ≤ k) may.time (le_refl t))) r.records;
       runs = record {
-        direct = subst (DirectRule c.words) (sym (direct_projection-own w x n v refl)) (record { stored = d.stored; start = d.start; front = d.front; sees = d.sees; reads_inside = d.reads_inside; stores_inside = d.stores_inside; stores_small = d.stores_small; unlocked = d.unlocked });
-        suits = subst (Suits (home_of c) alg) (sym (suit_projection-own w x n v refl)) (suits-later (home_of c) alg (suit_projection n w) (record { clock = w.clock; base = w.base; records = put w.records q (free_record t); history = w.history; own = suit_view v }) refl (record { tml = refl; base = le_refl w.base; stamps = λ f. absurd (let k : true ≡ false = sym may.entered ∙ f in cc); clock = le_refl w.clock; entered = λ f. inl may.entered; held = less; raised = refl; committed = refl }) r.runs.suits);
+        direct =
+            subst (DirectRule c.words) (sym (direct_projection-own w x n v refl))
+            (record {
+              stored = d.stored;
+              start = d.start;
+              front = d.front;
+              sees = d.sees;
+              reads_inside = d.reads_inside;
+              stores_inside = d.stores_inside;
+              stores_small = d.stores_small;
+              unlocked = d.unlocked;
+            });
+        suits =
+            subst (Suits (home_of c) alg) (sym (suit_projection-own w x n v refl))
+            (suits-later (home_of c) alg (suit_projection n w)
+            (record { clock = w.clock; base = w.base; records = put w.records q (free_record t); history = w.history; own = suit_view v })
+            refl (record {
+              tml = refl;
+              base = le_refl w.base;
+              stamps = λ f. absurd (let k : true ≡ false = sym may.entered ∙ f in cc);
+              clock = le_refl w.clock;
+              entered = λ f. inl may.entered;
+              held = less;
+              raised = refl;
+              committed = refl;
+            }) r.runs.suits);
         ring = λ e. let o = r.runs.ring e in record {
           base = o.base;
           done = o.done;
@@ -328,7 +394,9 @@ module _ (good : (ℕ → ℕ) → Type 0) (c : Config) (alg : Alg) (n : ℕ) wh
       d = r.runs.direct
 
       -- what is held still was held, and its word is the same
-      less : (r : ℕ) → touches (without (w.views n).owned.held q) r ≡ true → (touches (w.views n).owned.held r ≡ true) × (over (without (w.views n).owned.held q) r 0 ≡ over (w.views n).owned.held r 0) × (put w.records q (free_record t) r ≡ w.records r)
+      less : (r : ℕ) → touches (without (w.views n).owned.held q) r ≡ true
+          → (touches (w.views n).owned.held r ≡ true) × (over (without (w.views n).owned.held q) r 0 ≡ over (w.views n).owned.held r 0)
+          × (put w.records q (free_record t) r ≡ w.records r)
       less r h = (
         grind (arith, h, touches-without (w.views n).owned.held q r),
         grind (arith, h, touches-without (w.views n).owned.held q r, over-without (w.views n).owned.held q r 0),

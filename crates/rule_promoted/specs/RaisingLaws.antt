@@ -103,8 +103,15 @@ module _ (good : (ℕ → ℕ) → Type 0) (c : Config) (n : ℕ) where
       step_trace false = refl
 
       steps : (b : Bool) → ltb w.clock least ≡ b → StepsRule c (steps_projection x)
-      steps true q = steps-raised c (direct_raise_clock least) n w 1 low (let m = most in grind (arith, nat_tests, q, m)) (step_trace (ltb w.clock least)) (ap (λ (b : Bool). (if b then record (w.views n).steps { rises = (w.views n).steps.rises + 1 } else (w.views n).steps).rises) q) r.steps
-      steps false q = steps-kept c (direct_raise_clock least) n w (grind (arith, nat_tests, q)) (step_trace (ltb w.clock least)) (ap (λ (b : Bool). (if b then record (w.views n).steps { rises = (w.views n).steps.rises + 1 } else (w.views n).steps).rises) q) r.steps
+      steps true q =
+          steps-raised c (direct_raise_clock least) n w 1 low (let m = most in grind (arith, nat_tests, q, m))
+          (step_trace (ltb w.clock least))
+          (ap (λ (b : Bool). (if b then record (w.views n).steps { rises = (w.views n).steps.rises + 1 } else (w.views n).steps).rises) q)
+          r.steps
+      steps false q =
+          steps-kept c (direct_raise_clock least) n w (grind (arith, nat_tests, q)) (step_trace (ltb w.clock least))
+          (ap (λ (b : Bool). (if b then record (w.views n).steps { rises = (w.views n).steps.rises + 1 } else (w.views n).steps).rises) q)
+          r.steps
 
   -- THE STORE OF A RECORD with its old version and one more
   pub direct_ups : (q t : ℕ) → StepLaw (DirectWorld good c OrecEager n) (direct_up q t) Nothing n (CanDirectUp q t)
@@ -116,7 +123,18 @@ module _ (good : (ℕ → ℕ) → Type 0) (c : Config) (n : ℕ) where
       attempts = attempts-stay w x n v refl refl refl refl r.attempts;
       records = records-given w x n q t v refl refl refl refl refl (let k = suits.raised may.raised q may.held in let e = may.next in omega arith) r.records;
       runs = record {
-        direct = subst (DirectRule c.words) (sym (direct_projection-own w x n v refl)) (record { stored = d.stored; start = d.start; front = d.front; sees = d.sees; reads_inside = d.reads_inside; stores_inside = d.stores_inside; stores_small = d.stores_small; unlocked = d.unlocked });
+        direct =
+            subst (DirectRule c.words) (sym (direct_projection-own w x n v refl))
+            (record {
+              stored = d.stored;
+              start = d.start;
+              front = d.front;
+              sees = d.sees;
+              reads_inside = d.reads_inside;
+              stores_inside = d.stores_inside;
+              stores_small = d.stores_small;
+              unlocked = d.unlocked;
+            });
         suits = subst (OrecSuits (home_of c)) (sym (suit_projection-own w x n v refl)) (record {
           stamped = λ e a b. release-stamps n q t w (next-covers (home_of c) n q t w suits may.held may.next) (2 * last_write w.history a) (home_of c a) (suits.stamped e a b);
           uncommitted = suits.uncommitted;

@@ -41,13 +41,16 @@ other-one : (o : Ownership) (q r : ℕ) → (r ≡ q → ⊥) → (k : Rec) → 
 other-one o q r d (Free u) = le_refl (2 * u + 1)
 other-one o q r d (Taken m) = grind (arith, d, over-without o.held q r 0)
 
-pub release-stamps : (n q t : ℕ) (w : World) → Covers n q t w → (k r : ℕ) → k ≤ rank_one (w.views n).owned r (rec_of (w.records r)) → k ≤ rank_one (released q (w.views n).owned) r (rec_of (put w.records q (free_record t) r))
+pub release-stamps : (n q t : ℕ) (w : World) → Covers n q t w → (k r : ℕ) → k ≤ rank_one (w.views n).owned r (rec_of (w.records r))
+    → k ≤ rank_one (released q (w.views n).owned) r (rec_of (put w.records q (free_record t) r))
 release-stamps n q t w high k = put-all w.records q (free_record t) (λ r word. k ≤ rank_one (w.views n).owned r (rec_of (w.records r)) → k ≤ rank_one (released q (w.views n).owned) r (rec_of word))
     (λ low. subst (λ (x : Rec). k ≤ rank_one (released q (w.views n).owned) q x) (sym (rec_of-free t)) (le_trans low high))
     (λ r d low. le_trans low (other-one (w.views n).owned q r d (rec_of (w.records r))))
 
 -- the record is the caller's alone: x is the world after it, and v its view
-module _ (n q t : ℕ) (w x : World) (v : View) (views : x.views ≡ put w.views n v) (own : v.owned ≡ released q (w.views n).owned) (words : x.records ≡ put w.records q (free_record t)) (records : RecordRule (record_projection w)) (alone : (m : ℕ) → m ≢ n → touches (w.views m).owned.held q ≡ true → ⊥) (high : Covers n q t w) where
+module _ (n q t : ℕ) (w x : World) (v : View) (views : x.views ≡ put w.views n v) (own : v.owned ≡ released q (w.views n).owned)
+    (words : x.records ≡ put w.records q (free_record t)) (records : RecordRule (record_projection w))
+    (alone : (m : ℕ) → m ≢ n → touches (w.views m).owned.held q ≡ true → ⊥) (high : Covers n q t w) where
   abbrev was : OrecProjection
   was = orec_projection w
 

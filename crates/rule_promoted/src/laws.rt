@@ -17,11 +17,16 @@ use stm_model::rule::MemRule;
 /// Whatever loads, stores, entries and releases of records a promoted attempt takes, under each algorithm,
 /// each allowed where it comes, its clauses hold after each.
 pub fn direct_keeps_along<K: MemRule>()
-    ensures { (rule : K) (c : Config) (alg : Alg) (caller : ℕ) → DirectKeepsAlong (of_words (K.good rule) c.words) c alg caller }
+    ensures { (rule : K) (c : Config) (alg : Alg) (caller : ℕ)
+        → DirectKeepsAlong (of_words (K.good rule) c.words) c alg caller }
 {}
 
 /// So they do where it raises the clock without an entry, and gives back records of words that it took back.
 pub fn direct_raises_along<K: MemRule>()
-    ensures raises_clock { (rule : K) (c : Config) (caller least : ℕ) → caller < c.callers → StepLaw (DirectWorld (of_words (K.good rule) c.words) c OrecEager caller) (direct_raise_clock least) Nothing caller (CanDirectRaiseClock least) }
-    ensures ups { (rule : K) (c : Config) (caller r version : ℕ) → StepLaw (DirectWorld (of_words (K.good rule) c.words) c OrecEager caller) (direct_up r version) Nothing caller (CanDirectUp r version) }
+    ensures raises_clock { (rule : K) (c : Config) (caller least : ℕ) → caller < c.callers
+        → StepLaw (DirectWorld (of_words (K.good rule) c.words) c OrecEager caller)
+        (direct_raise_clock least) Nothing caller (CanDirectRaiseClock least) }
+    ensures ups { (rule : K) (c : Config) (caller r version : ℕ)
+        → StepLaw (DirectWorld (of_words (K.good rule) c.words) c OrecEager caller)
+        (direct_up r version) Nothing caller (CanDirectUp r version) }
 {}

@@ -42,9 +42,12 @@ same_back cs a b d e = grind (arith, over-without cs a b d, e)
 
 module _ (F : Filters) (good : (ℕ → ℕ) → Type 0) (c : Config) (n : ℕ) where
   -- the turn is made anew, and nobody else has the lock
-  turns : (w : World) (u : RingPart) (clock done : ℕ) (slots heap : ℕ → ℕ) (history : List Entry) → LockRule (lock_projection w) → (w.views n).lock.taken ≡ true → (u.lock.taken ≡ true → RingTurn F c.ring clock done slots heap history u.turn)
+  turns : (w : World) (u : RingPart) (clock done : ℕ) (slots heap : ℕ → ℕ) (history : List Entry) → LockRule (lock_projection w)
+      → (w.views n).lock.taken ≡ true → (u.lock.taken ≡ true → RingTurn F c.ring clock done slots heap history u.turn)
       → (m : ℕ) → (put (ring_projection w).views n u m).lock.taken ≡ true → RingTurn F c.ring clock done slots heap history (put (ring_projection w).views n u m).turn
-  turns w u clock done slots heap history l has mine = put-all (ring_projection w).views n u (λ m k. k.lock.taken ≡ true → RingTurn F c.ring clock done slots heap history k.turn) mine (λ m d t. absurd (d (one-taker (lock_projection w) m n l t has)))
+  turns w u clock done slots heap history l has mine =
+      put-all (ring_projection w).views n u (λ m k. k.lock.taken ≡ true → RingTurn F c.ring clock done slots heap history k.turn) mine
+      (λ m d t. absurd (d (one-taker (lock_projection w) m n l t has)))
 
   not_free : (w : World) → LockRule (lock_projection w) → (w.views n).lock.taken ≡ true → w.lock ≡ 0 → ⊥
   not_free w l t z = let e = l.mine n t in omega arith
@@ -98,7 +101,27 @@ module _ (F : Filters) (good : (ℕ → ℕ) → Type 0) (c : Config) (n : ℕ) 
           covered = λ l. r.runs.covered (late-before (ring_projection w).views n (ring_view (next true)) (λ q. free) l);
           level = λ l q. r.runs.level (late-before (ring_projection w).views n (ring_view (next true)) (λ q. free) l) (entered-before (ring_projection w).views n (ring_view (next true)) refl q);
           reader = put-all (ring_projection w).views n (ring_view (next true)) (λ m q. q.read.inside ≡ true → RingReader F c.ring c.words w.clock w.done w.base w.history q)
-              (λ t. record { start = k.start; vouched = k.vouched; front = k.front; sees = k.sees; reads_inside = k.reads_inside; unstored = k.unstored; watched = k.watched; aim = k.aim; from = k.from; after = k.after; before = k.before; found = k.found; looked = k.looked; onward = k.onward; covers = k.covers; timely = k.timely; clear = k.clear; sure = k.sure })
+              (λ t.
+              record {
+                start = k.start;
+                vouched = k.vouched;
+                front = k.front;
+                sees = k.sees;
+                reads_inside = k.reads_inside;
+                unstored = k.unstored;
+                watched = k.watched;
+                aim = k.aim;
+                from = k.from;
+                after = k.after;
+                before = k.before;
+                found = k.found;
+                looked = k.looked;
+                onward = k.onward;
+                covers = k.covers;
+                timely = k.timely;
+                clear = k.clear;
+                sure = k.sure;
+              })
               (λ m d. r.runs.reader m);
           turn = put-all (ring_projection w).views n (ring_view (next true)) (λ m q. q.lock.taken ≡ true → RingTurn F c.ring w.clock w.done w.slots w.heap w.history q.turn)
               (λ t. record {
@@ -128,7 +151,27 @@ module _ (F : Filters) (good : (ℕ → ℕ) → Type 0) (c : Config) (n : ℕ) 
       lock = subst LockRule (sym (lock_projection-kept w x n v refl refl refl refl)) r.lock;
       attempts = attempts-in w x n v refl may.has.runs.phase r.attempts;
       runs = subst (RingRule F c.ring c.words) (sym (ring_projection-put w x n v refl)) (ring-own F c.ring c.words n (ring_projection w) (ring_view v) refl refl refl refl (r.runs.fresh n)
-          (λ t. record { start = k.start; vouched = k.vouched; front = k.front; sees = k.sees; reads_inside = k.reads_inside; unstored = k.unstored; watched = k.watched; aim = k.aim; from = k.from; after = k.after; before = k.before; found = k.found; looked = k.looked; onward = k.onward; covers = k.covers; timely = k.timely; clear = k.clear; sure = k.sure })
+          (λ t.
+          record {
+            start = k.start;
+            vouched = k.vouched;
+            front = k.front;
+            sees = k.sees;
+            reads_inside = k.reads_inside;
+            unstored = k.unstored;
+            watched = k.watched;
+            aim = k.aim;
+            from = k.from;
+            after = k.after;
+            before = k.before;
+            found = k.found;
+            looked = k.looked;
+            onward = k.onward;
+            covers = k.covers;
+            timely = k.timely;
+            clear = k.clear;
+            sure = k.sure;
+          })
           (λ t. record { tick = λ q. refl; entered = λ q. refl; slotted = o.slotted; back = o.back; clean = o.clean; behind = o.behind; backs = o.backs }) r.runs);
     };
     advances = advances-same w x refl (le_refl w.clock) (le_refl w.done) refl;
@@ -165,7 +208,27 @@ module _ (F : Filters) (good : (ℕ → ℕ) → Type 0) (c : Config) (n : ℕ) 
         covered = λ l. r.runs.covered (late-before (ring_projection w).views n (ring_view v) (λ q. q) l);
         level = λ l q. r.runs.level (late-before (ring_projection w).views n (ring_view v) (λ q. q) l) (entered-before (ring_projection w).views n (ring_view v) refl q);
         reader = put-all (ring_projection w).views n (ring_view v) (λ m q. q.read.inside ≡ true → RingReader F c.ring c.words w.clock w.done w.base w.history q)
-            (λ t. record { start = k.start; vouched = k.vouched; front = k.front; sees = k.sees; reads_inside = k.reads_inside; unstored = k.unstored; watched = k.watched; aim = k.aim; from = k.from; after = k.after; before = k.before; found = k.found; looked = k.looked; onward = k.onward; covers = k.covers; timely = k.timely; clear = k.clear; sure = k.sure })
+            (λ t.
+            record {
+              start = k.start;
+              vouched = k.vouched;
+              front = k.front;
+              sees = k.sees;
+              reads_inside = k.reads_inside;
+              unstored = k.unstored;
+              watched = k.watched;
+              aim = k.aim;
+              from = k.from;
+              after = k.after;
+              before = k.before;
+              found = k.found;
+              looked = k.looked;
+              onward = k.onward;
+              covers = k.covers;
+              timely = k.timely;
+              clear = k.clear;
+              sure = k.sure;
+            })
             (λ m d. r.runs.reader m);
         turn = turns w (ring_view v) w.clock w.done (put w.slots (slot_place c.ring e i) (F.word ws i)) w.heap w.history r.lock may.turn.taken
             (λ t. record { tick = o.tick; entered = o.entered; slotted = λ q j l. stored j l; back = o.back; clean = o.clean; behind = o.behind; backs = o.backs });
@@ -193,7 +256,9 @@ module _ (F : Filters) (good : (ℕ → ℕ) → Type 0) (c : Config) (n : ℕ) 
 
       -- the slots of the entries are others
       apart : (f j : ℕ) → w.clock + 1 < f + c.ring → has_entry w.history f ≡ true → j < SLOT_WORDS → slot_place c.ring f j ≡ slot_place c.ring e i → ⊥
-      apart f j near m low q = slots-apart c.ring f e (let l = entry-before w.history (w.clock + 1) f r.history.below m in let s = next in omega arith) (let s = next in omega arith) (slot_place-apart c.ring f e j i low may.low q).0
+      apart f j near m low q =
+          slots-apart c.ring f e (let l = entry-before w.history (w.clock + 1) f r.history.below m in let s = next in omega arith)
+          (let s = next in omega arith) (slot_place-apart c.ring f e j i low may.low q).0
 
       -- the words stored so far are of one filter
       stored : (j : ℕ) → j < i + 1 → put w.slots (slot_place c.ring e i) (F.word ws i) (slot_place c.ring (w.clock + 1) j) ≡ F.word ws j
@@ -203,7 +268,10 @@ module _ (F : Filters) (good : (ℕ → ℕ) → Type 0) (c : Config) (n : ℕ) 
           at = ap (λ t. slot_place c.ring t j) (sym next)
 
           go : (b : Bool) → eqb j i ≡ b → put w.slots (slot_place c.ring e i) (F.word ws i) (slot_place c.ring (w.clock + 1) j) ≡ F.word ws j
-          go true q = let same : j ≡ i = eqb-true j i q in ap (put w.slots (slot_place c.ring e i) (F.word ws i)) (at ∙ ap (slot_place c.ring e) same) ∙ (put-here w.slots (slot_place c.ring e i) (F.word ws i) ∙ ap (F.word ws) (sym same))
+          go true q =
+              let same : j ≡ i = eqb-true j i q in
+              ap (put w.slots (slot_place c.ring e i) (F.word ws i)) (at ∙ ap (slot_place c.ring e) same)
+              ∙ (put-here w.slots (slot_place c.ring e i) (F.word ws i) ∙ ap (F.word ws) (sym same))
           go false q =
               let other : (j ≡ i → ⊥) = eqb-false j i q in
               let before : j < i = (let s = other in grind (arith, l, s)) in
@@ -296,9 +364,12 @@ module _ (F : Filters) (good : (ℕ → ℕ) → Type 0) (c : Config) (n : ℕ) 
       slots : (f j : ℕ) → w.base < f → t + 1 < f + c.ring → has_entry (e ∷ w.history) f ≡ true → j < SLOT_WORDS → (b : Bool) → (t == f) ≡ b → w.slots (slot_place c.ring f j) ≡ F.word (writes_of (e ∷ w.history) f) j
       slots f j b near m below true q =
           let same : w.clock + 1 ≡ f = (let s : t ≡ f = eqb-true t f q in sym next ∙ s) in
-          ap (λ s. w.slots (slot_place c.ring s j)) (sym same) ∙ (o.slotted may.turn.unentered j (subst (λ (s : ℕ). j < s) (sym may.full) below) ∙ ap (λ (b : Bool). F.word (if b then (w.views n).ring_commit.writes else writes_of w.history f) j) (sym q))
+          ap (λ s. w.slots (slot_place c.ring s j)) (sym same)
+          ∙ (o.slotted may.turn.unentered j (subst (λ (s : ℕ). j < s) (sym may.full) below)
+          ∙ ap (λ (b : Bool). F.word (if b then (w.views n).ring_commit.writes else writes_of w.history f) j) (sym q))
       slots f j b near m below false q =
-          r.runs.slots f j b (let s = next in omega arith) (sym (ap (λ (b : Bool). if b then true else has_entry w.history f) q) ∙ m) below ∙ ap (λ (b : Bool). F.word (if b then (w.views n).ring_commit.writes else writes_of w.history f) j) (sym q)
+          r.runs.slots f j b (let s = next in omega arith) (sym (ap (λ (b : Bool). if b then true else has_entry w.history f) q) ∙ m) below
+          ∙ ap (λ (b : Bool). F.word (if b then (w.views n).ring_commit.writes else writes_of w.history f) j) (sym q)
 
       sees : Explains (word_now w.history) (w.views n).attempt.reads
       sees a = subst (λ (k : ℕ). over (w.views n).attempt.reads a k ≡ k) (word_at-all w.history (w.clock + 1) (w.views n).attempt.start a r.history.below (let s = start in omega arith)) (k.sees a)
@@ -334,7 +405,28 @@ module _ (F : Filters) (good : (ℕ → ℕ) → Type 0) (c : Config) (n : ℕ) 
         covered = λ l. r.runs.covered (late-before (ring_projection w).views n (ring_view v) (λ q. q) l);
         level = λ l q. r.runs.level (late-before (ring_projection w).views n (ring_view v) (λ q. q) l) (entered-before (ring_projection w).views n (ring_view v) refl q);
         reader = put-all (ring_projection w).views n (ring_view v) (λ m q. q.read.inside ≡ true → RingReader F c.ring c.words w.clock w.done w.base w.history q)
-            (λ t. let k = r.runs.reader n t in record { start = k.start; vouched = k.vouched; front = k.front; sees = k.sees; reads_inside = k.reads_inside; unstored = k.unstored; watched = k.watched; aim = k.aim; from = k.from; after = k.after; before = k.before; found = k.found; looked = k.looked; onward = k.onward; covers = k.covers; timely = k.timely; clear = k.clear; sure = k.sure })
+            (λ t.
+            let k = r.runs.reader n t in
+            record {
+              start = k.start;
+              vouched = k.vouched;
+              front = k.front;
+              sees = k.sees;
+              reads_inside = k.reads_inside;
+              unstored = k.unstored;
+              watched = k.watched;
+              aim = k.aim;
+              from = k.from;
+              after = k.after;
+              before = k.before;
+              found = k.found;
+              looked = k.looked;
+              onward = k.onward;
+              covers = k.covers;
+              timely = k.timely;
+              clear = k.clear;
+              sure = k.sure;
+            })
             (λ m d. r.runs.reader m);
         turn = turns w (ring_view v) w.clock w.done w.slots (put w.heap a z) w.history r.lock taken
             (λ t. record {
@@ -386,11 +478,36 @@ module _ (F : Filters) (good : (ℕ → ℕ) → Type 0) (c : Config) (n : ℕ) 
         since = λ f l m. absurd (let b = entry-before w.history (w.clock + 1) f r.history.below m in let k = now in omega arith);
         slots = r.runs.slots;
         free = r.runs.free;
-        fresh = put-all (ring_projection w).views n (ring_view v) (λ m q. late q ≡ false → q.front ≤ t) (λ l. subst (λ (k : ℕ). (w.views n).history.front ≤ k) (sym now) (r.history.known n).front) (λ m d l. le_trans (r.runs.fresh m l) up);
+        fresh =
+            put-all (ring_projection w).views n (ring_view v) (λ m q. late q ≡ false → q.front ≤ t)
+            (λ l. subst (λ (k : ℕ). (w.views n).history.front ≤ k) (sym now) (r.history.known n).front) (λ m d l.
+            le_trans (r.runs.fresh m l) up);
         covered = λ l. subst (λ (k : ℕ). Below w.history (k + 1)) (sym now) r.history.below;
         level = λ l q. now;
         reader = put-all (ring_projection w).views n (ring_view v) (λ m q. q.read.inside ≡ true → RingReader F c.ring c.words w.clock t w.base w.history q)
-            (λ e. let k = r.runs.reader n e in let d = reader-done F c.ring c.words w.clock w.done t w.base w.history (ring_view (w.views n)) up k in record { start = d.start; vouched = k.vouched; front = k.front; sees = k.sees; reads_inside = k.reads_inside; unstored = k.unstored; watched = k.watched; aim = k.aim; from = k.from; after = k.after; before = k.before; found = k.found; looked = k.looked; onward = k.onward; covers = k.covers; timely = k.timely; clear = k.clear; sure = k.sure })
+            (λ e.
+            let k = r.runs.reader n e in
+            let d = reader-done F c.ring c.words w.clock w.done t w.base w.history (ring_view (w.views n)) up k in
+            record {
+              start = d.start;
+              vouched = k.vouched;
+              front = k.front;
+              sees = k.sees;
+              reads_inside = k.reads_inside;
+              unstored = k.unstored;
+              watched = k.watched;
+              aim = k.aim;
+              from = k.from;
+              after = k.after;
+              before = k.before;
+              found = k.found;
+              looked = k.looked;
+              onward = k.onward;
+              covers = k.covers;
+              timely = k.timely;
+              clear = k.clear;
+              sure = k.sure;
+            })
             (λ m d e. reader-done F c.ring c.words w.clock w.done t w.base w.history (ring_view (w.views m)) up (r.runs.reader m e));
         turn = turns w (ring_view v) w.clock t w.slots w.heap w.history r.lock taken
             (λ e. record {
@@ -452,7 +569,28 @@ module _ (F : Filters) (good : (ℕ → ℕ) → Type 0) (c : Config) (n : ℕ) 
         covered = λ l. r.runs.covered (late-before (ring_projection w).views n (ring_view v) (λ q. before (w.views n).ring_commit.committed refl) l);
         level = λ l q. r.runs.level (late-before (ring_projection w).views n (ring_view v) (λ q. before (w.views n).ring_commit.committed refl) l) (entered-before (ring_projection w).views n (ring_view v) refl q);
         reader = put-all (ring_projection w).views n (ring_view v) (λ m q. q.read.inside ≡ true → RingReader F c.ring c.words w.clock w.done w.base w.history q)
-            (λ t. let k = r.runs.reader n t in record { start = k.start; vouched = k.vouched; front = k.front; sees = k.sees; reads_inside = k.reads_inside; unstored = k.unstored; watched = k.watched; aim = k.aim; from = k.from; after = k.after; before = k.before; found = k.found; looked = k.looked; onward = k.onward; covers = k.covers; timely = k.timely; clear = k.clear; sure = k.sure })
+            (λ t.
+            let k = r.runs.reader n t in
+            record {
+              start = k.start;
+              vouched = k.vouched;
+              front = k.front;
+              sees = k.sees;
+              reads_inside = k.reads_inside;
+              unstored = k.unstored;
+              watched = k.watched;
+              aim = k.aim;
+              from = k.from;
+              after = k.after;
+              before = k.before;
+              found = k.found;
+              looked = k.looked;
+              onward = k.onward;
+              covers = k.covers;
+              timely = k.timely;
+              clear = k.clear;
+              sure = k.sure;
+            })
             (λ m d. r.runs.reader m);
         turn = turns w (ring_view v) w.clock w.done w.slots w.heap w.history r.lock may.taken (λ t. absurd cc);
         locked = put-all (ring_projection w).views n (ring_view v) (λ m q. q.turn.committed ≡ true → q.lock.taken ≡ true) (λ t. absurd cc) (λ m d. r.runs.locked m);

@@ -12,11 +12,46 @@ use Rattle.rule_ring.specs.Filters.{Filters}
 use Rattle.rule_ring.specs.RingRule.{RingPart, ring_view, RingProjection, ring_projection, late, RingReader, RingTurn, RingRule}
 use Rattle.rule_ring.specs.Slots.{slot_place, writes_of, has_entry, entry-before, word_at-later, entry-later, writes-later}
 
-pub ring_projection-put : (w x : World) (n : ℕ) (v : View) → x.views ≡ put w.views n v → ring_projection x ≡ record { clock = x.clock; lock = x.lock; base = x.base; done = x.done; slots = x.slots; heap = x.heap; history = x.history; views = put (ring_projection w).views n (ring_view v) }
-ring_projection-put w x n v is = λ i. record { clock = x.clock; lock = x.lock; base = x.base; done = x.done; slots = x.slots; heap = x.heap; history = x.history; views = (ap (parts ring_view) is ∙ parts-put ring_view w.views n v) i }
+pub ring_projection-put : (w x : World) (n : ℕ) (v : View) → x.views ≡ put w.views n v
+    → ring_projection x
+    ≡ record {
+      clock = x.clock;
+      lock = x.lock;
+      base = x.base;
+      done = x.done;
+      slots = x.slots;
+      heap = x.heap;
+      history = x.history;
+      views = put (ring_projection w).views n (ring_view v);
+    }
+ring_projection-put w x n v is =
+    λ i.
+    record {
+      clock = x.clock;
+      lock = x.lock;
+      base = x.base;
+      done = x.done;
+      slots = x.slots;
+      heap = x.heap;
+      history = x.history;
+      views = (ap (parts ring_view) is ∙ parts-put ring_view w.views n v) i;
+    }
 
-pub ring_projection-kept : (w x : World) (n : ℕ) (v : View) → x.views ≡ put w.views n v → x.clock ≡ w.clock → x.lock ≡ w.lock → x.base ≡ w.base → x.done ≡ w.done → x.slots ≡ w.slots → x.heap ≡ w.heap → x.history ≡ w.history → ring_view v ≡ ring_view (w.views n) → ring_projection x ≡ ring_projection w
-ring_projection-kept w x n v is clock lock base done slots heap history own = λ i. record { clock = clock i; lock = lock i; base = base i; done = done i; slots = slots i; heap = heap i; history = history i; views = (ap (parts ring_view) is ∙ parts-kept ring_view w.views n v own) i }
+pub ring_projection-kept : (w x : World) (n : ℕ) (v : View) → x.views ≡ put w.views n v → x.clock ≡ w.clock → x.lock ≡ w.lock
+    → x.base ≡ w.base → x.done ≡ w.done → x.slots ≡ w.slots → x.heap ≡ w.heap → x.history ≡ w.history → ring_view v ≡ ring_view (w.views n)
+    → ring_projection x ≡ ring_projection w
+ring_projection-kept w x n v is clock lock base done slots heap history own =
+    λ i.
+    record {
+      clock = clock i;
+      lock = lock i;
+      base = base i;
+      done = done i;
+      slots = slots i;
+      heap = heap i;
+      history = history i;
+      views = (ap (parts ring_view) is ∙ parts-kept ring_view w.views n v own) i;
+    }
 
 -- nobody is late where the change made nobody late
 pub late-before : (vs : ℕ → RingPart) (n : ℕ) (u : RingPart) → (late u ≡ false → late (vs n) ≡ false) → ((m : ℕ) → late (put vs n u m) ≡ false) → (m : ℕ) → late (vs m) ≡ false
@@ -54,8 +89,11 @@ module _ (F : Filters) (ring words : ℕ) where
   }
 
   -- a caller changes its part: it isn't late now if it wasn't, and what it has as a reader and in its turn stands
-  pub ring-own : (n : ℕ) (s : RingProjection) (u : RingPart) → u.lock.taken ≡ (s.views n).lock.taken → late u ≡ late (s.views n) → u.attempt.entered ≡ (s.views n).attempt.entered → u.turn.committed ≡ (s.views n).turn.committed
-      → (late u ≡ false → u.front ≤ s.done) → (u.read.inside ≡ true → RingReader F ring words s.clock s.done s.base s.history u) → (u.lock.taken ≡ true → RingTurn F ring s.clock s.done s.slots s.heap s.history u.turn) → RingRule F ring words s → RingRule F ring words (record s { views = put s.views n u })
+  pub ring-own : (n : ℕ) (s : RingProjection) (u : RingPart) → u.lock.taken ≡ (s.views n).lock.taken → late u ≡ late (s.views n)
+      → u.attempt.entered ≡ (s.views n).attempt.entered → u.turn.committed ≡ (s.views n).turn.committed
+      → (late u ≡ false → u.front ≤ s.done) → (u.read.inside ≡ true → RingReader F ring words s.clock s.done s.base s.history u)
+      → (u.lock.taken ≡ true → RingTurn F ring s.clock s.done s.slots s.heap s.history u.turn) → RingRule F ring words s
+      → RingRule F ring words (record s { views = put s.views n u })
   ring-own n s u lock same entered committed fresh reader turn r = record {
     base = r.base;
     done = r.done;
@@ -94,7 +132,8 @@ module _ (F : Filters) (ring words : ℕ) where
   }
 
   -- an entry came
-  pub reader-entry : (clock done base : ℕ) (history : List Entry) (e : Entry) (v : RingPart) → clock < e.time → done ≤ clock → base ≤ clock → RingReader F ring words clock done base history v → RingReader F ring words e.time done base (e ∷ history) v
+  pub reader-entry : (clock done base : ℕ) (history : List Entry) (e : Entry) (v : RingPart) → clock < e.time → done ≤ clock → base ≤ clock
+      → RingReader F ring words clock done base history v → RingReader F ring words e.time done base (e ∷ history) v
   reader-entry clock done base history e v later low under k = record {
     start = k.start;
     vouched = λ t l m. vouched t l m (e.time == t) refl;

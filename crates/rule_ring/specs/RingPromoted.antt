@@ -16,10 +16,12 @@ pub record RingKeeps (ring n : ℕ) (s : RunProjection) : Type 0 where
   pub fresh : (m : ℕ) → m ≢ n → (s.views m).front ≤ s.done
   -- until its entry DONE is the clock, and the slots stand as they were
   pub level : (s.views n).attempt.entered ≡ false → s.done ≡ s.clock
-  pub slots : (s.views n).attempt.entered ≡ false → (e i : ℕ) → s.base < e → s.clock + 1 < e + ring → has_entry s.history e ≡ true → i < SLOT_WORDS → s.slots (slot_place ring e i) ≡ slot_filter.word (writes_of s.history e) i
+  pub slots : (s.views n).attempt.entered ≡ false → (e i : ℕ) → s.base < e → s.clock + 1 < e + ring → has_entry s.history e ≡ true
+      → i < SLOT_WORDS → s.slots (slot_place ring e i) ≡ slot_filter.word (writes_of s.history e) i
 
 -- a step of caller m that leaves these words and its own entry's mark alone, and by which it sees no more than is done
-pub keeps-put : (ring n m : ℕ) (s : RunProjection) (heap : ℕ → ℕ) (u : RunView) → u.attempt.entered ≡ (s.views m).attempt.entered → (m ≢ n → u.front ≤ s.done) → RingKeeps ring n s → RingKeeps ring n (record s { heap = heap; views = put s.views m u })
+pub keeps-put : (ring n m : ℕ) (s : RunProjection) (heap : ℕ → ℕ) (u : RunView) → u.attempt.entered ≡ (s.views m).attempt.entered
+    → (m ≢ n → u.front ≤ s.done) → RingKeeps ring n s → RingKeeps ring n (record s { heap = heap; views = put s.views m u })
 keeps-put ring n m s heap u same front k = record {
   base = k.base;
   done = k.done;

@@ -177,10 +177,14 @@ module _ (F : Filters) (good : (ℕ → ℕ) → Type 0) (c : Config) (n : ℕ) 
       go true l = inside-more c.words (record { at = v.ring_read.from; value = v.ring_read.value }) v.attempt.reads (from l) inside
       go false l = inside
 
-  read_watched : (v : View) → (v.ring_read.loaded ≡ true → touches v.ring_read.watched v.ring_read.from ≡ true) → ((a : ℕ) → touches v.attempt.reads a ≡ true → touches v.ring_read.watched a ≡ true) → (a : ℕ) → touches (read_in v) a ≡ true → touches v.ring_read.watched a ≡ true
+  read_watched : (v : View) → (v.ring_read.loaded ≡ true → touches v.ring_read.watched v.ring_read.from ≡ true)
+      → ((a : ℕ) → touches v.attempt.reads a ≡ true → touches v.ring_read.watched a ≡ true) → (a : ℕ) → touches (read_in v) a ≡ true
+      → touches v.ring_read.watched a ≡ true
   read_watched v aim watched = go v.ring_read.loaded refl
     where
-      go : (b : Bool) → v.ring_read.loaded ≡ b → (a : ℕ) → touches (if b then record { at = v.ring_read.from; value = v.ring_read.value } ∷ v.attempt.reads else v.attempt.reads) a ≡ true → touches v.ring_read.watched a ≡ true
+      go : (b : Bool) → v.ring_read.loaded ≡ b → (a : ℕ)
+          → touches (if b then record { at = v.ring_read.from; value = v.ring_read.value } ∷ v.attempt.reads else v.attempt.reads) a ≡ true
+          → touches v.ring_read.watched a ≡ true
       go true l a t = grind (arith, aim l, watched a, t)
       go false l a t = watched a t
 
@@ -188,7 +192,15 @@ module _ (F : Filters) (good : (ℕ → ℕ) → Type 0) (c : Config) (n : ℕ) 
   ended : (w : World) (t : ℕ) (u : RingPart) → (w.views n).ring_read.inside ≡ true → Ruled w → t ≤ w.done → (w.views n).attempt.start ≤ t
       → ((a : ℕ) → touches (w.views n).ring_read.watched a ≡ true → word_at w.history t a ≡ word_at w.history (w.views n).attempt.start a)
       → ((w.views n).ring_read.loaded ≡ true → word_at w.history (w.views n).ring_read.at (w.views n).ring_read.from ≡ word_at w.history (w.views n).attempt.start (w.views n).ring_read.from)
-      → u ≡ record { attempt = record { start = t; reads = read_in (w.views n); stores = (w.views n).attempt.stores; entered = (w.views n).attempt.entered }; lock = (w.views n).lock; read = passed (w.views n).ring_read; turn = (w.views n).ring_commit; front = t }
+      → u
+      ≡ record {
+        attempt =
+            record { start = t; reads = read_in (w.views n); stores = (w.views n).attempt.stores; entered = (w.views n).attempt.entered };
+        lock = (w.views n).lock;
+        read = passed (w.views n).ring_read;
+        turn = (w.views n).ring_commit;
+        front = t;
+      }
       → RingReader F c.ring c.words w.clock w.done w.base w.history u
   ended w t u inside r low up same under is = subst (λ (q : RingPart). RingReader F c.ring c.words w.clock w.done w.base w.history q) (sym is) (record {
     start = low;
@@ -267,7 +279,9 @@ module _ (F : Filters) (good : (ℕ → ℕ) → Type 0) (c : Config) (n : ℕ) 
       }
 
       -- with the clock at the start, the word under way is that at the start
-      under : w.clock ≡ (w.views n).attempt.start → (w.views n).ring_read.loaded ≡ true → word_at w.history (w.views n).ring_read.at (w.views n).ring_read.from ≡ word_at w.history (w.views n).attempt.start (w.views n).ring_read.from
+      under : w.clock ≡ (w.views n).attempt.start → (w.views n).ring_read.loaded ≡ true
+          → word_at w.history (w.views n).ring_read.at (w.views n).ring_read.from
+          ≡ word_at w.history (w.views n).attempt.start (w.views n).ring_read.from
       under e l = ap (λ (s : ℕ). word_at w.history s (w.views n).ring_read.from) (let a = k.after l in let b = k.before l in let o : (w.views n).ring_read.at ≡ (w.views n).attempt.start = omega arith in o)
 
       pass : w.clock ≡ (w.views n).attempt.start → RingReader F c.ring c.words w.clock w.done w.base w.history (part true)
@@ -416,7 +430,10 @@ module _ (F : Filters) (good : (ℕ → ℕ) → Type 0) (c : Config) (n : ℕ) 
       records = records-stay w x n v refl (le_refl w.clock) refl refl refl r.records;
       lock = subst LockRule (sym (lock_projection-kept w x n v refl refl refl refl)) r.lock;
       attempts = attempts-in w x n v refl may.has.runs.phase r.attempts;
-      runs = subst (RingRule F c.ring c.words) (sym (ring_projection-put w x n v refl)) (ring-own F c.ring c.words n (ring_projection w) (ring_view v) refl refl refl refl (λ e. m.1.0) (λ e. reads) (r.runs.turn n) r.runs);
+      runs =
+          subst (RingRule F c.ring c.words) (sym (ring_projection-put w x n v refl))
+          (ring-own F c.ring c.words n (ring_projection w) (ring_view v) refl refl refl refl (λ e. m.1.0) (λ e. reads) (r.runs.turn n)
+          r.runs);
     };
     advances = advances-same w x refl (le_refl w.clock) (le_refl w.done) refl;
     shown = record {

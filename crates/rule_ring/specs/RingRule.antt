@@ -72,7 +72,8 @@ module _ (F : Filters) where
     pub covers : v.read.checking ≡ true → v.read.loaded ≡ true → v.read.at ≤ v.read.clock
     pub timely : (e i : ℕ) → v.read.checking ≡ true → has_word v.read.words e i ≡ true → e ≤ v.read.clock
     -- the slot words loaded are of the filters of the entries, if no later entry has taken their slots; the second load of the clock makes that sure
-    pub clear : (e i : ℕ) → v.read.checking ≡ true → clock < v.attempt.start + ring → v.attempt.start < e → has_word v.read.words e i ≡ true → has_entry history e ≡ true → loaded_word v.read.words e i ≡ F.word (writes_of history e) i
+    pub clear : (e i : ℕ) → v.read.checking ≡ true → clock < v.attempt.start + ring → v.attempt.start < e → has_word v.read.words e i ≡ true
+        → has_entry history e ≡ true → loaded_word v.read.words e i ≡ F.word (writes_of history e) i
     pub sure : (e i : ℕ) → v.read.checking ≡ true → v.read.sure ≡ true → v.attempt.start < e → has_word v.read.words e i ≡ true → has_entry history e ≡ true → loaded_word v.read.words e i ≡ F.word (writes_of history e) i
 
   -- what stands of the turn of who has the lock
@@ -110,7 +111,18 @@ module _ (F : Filters) where
 
 -- of the projection of what runs
 abbrev pub ring_part : RunProjection → RingProjection
-ring_part s = record { clock = s.clock; lock = s.lock; base = s.base; done = s.done; slots = s.slots; heap = s.heap; history = s.history; views = parts (λ (v : RunView). record { attempt = v.attempt; lock = v.lock; read = v.ring_read; turn = v.ring_commit; front = v.front }) s.views }
+ring_part s =
+    record {
+      clock = s.clock;
+      lock = s.lock;
+      base = s.base;
+      done = s.done;
+      slots = s.slots;
+      heap = s.heap;
+      history = s.history;
+      views = parts
+          (λ (v : RunView). record { attempt = v.attempt; lock = v.lock; read = v.ring_read; turn = v.ring_commit; front = v.front }) s.views;
+    }
 
 abbrev pub RingRuns : Filters → Config → RunProjection → Type 0
 RingRuns F c s = RingRule F c.ring c.words (ring_part s)

@@ -174,7 +174,10 @@ ring_move = record {
 
 -- none of the slots since the start meets the filter, whatever those of their words are that were not loaded
 abbrev pub AllClear : Filters → View → Type 0
-AllClear F v = (e : ℕ) → v.attempt.start < e → e ≤ v.ring_read.clock → (slot : ℕ → ℕ) → ((i : ℕ) → i < SLOT_WORDS → has_word v.ring_read.words e i ≡ true → loaded_word v.ring_read.words e i ≡ slot i) → F.meets slot (F.word v.ring_read.watched) ≡ false
+AllClear F v =
+    (e : ℕ) → v.attempt.start < e → e ≤ v.ring_read.clock → (slot : ℕ → ℕ)
+    → ((i : ℕ) → i < SLOT_WORDS → has_word v.ring_read.words e i ≡ true → loaded_word v.ring_read.words e i ≡ slot i)
+    → F.meets slot (F.word v.ring_read.watched) ≡ false
 
 pub record CanRingMove (F : Filters) (v : View) : Type 0 where
   pub has : HasRing v

@@ -68,14 +68,18 @@ in_filter : (cs : List Cell) (a i k : ℕ) → touches cs a ≡ true → bit_at 
 in_filter [] a i k t e = absurd cc
 in_filter (c ∷ cs) a i k t e = bit_at_or (address_word c.at i) (filter_word cs i) k ∙ go (c.at == a) refl t (in_filter cs a i k)
   where
-    go : (b : Bool) → (c.at == a) ≡ b → (if b then true else touches cs a) ≡ true → (touches cs a ≡ true → bit_at (address_word a i) k ≡ 1 → bit_at (filter_word cs i) k ≡ 1) → max (bit_at (address_word c.at i) k) (bit_at (filter_word cs i) k) ≡ 1
+    go : (b : Bool) → (c.at == a) ≡ b → (if b then true else touches cs a) ≡ true
+        → (touches cs a ≡ true → bit_at (address_word a i) k ≡ 1 → bit_at (filter_word cs i) k ≡ 1)
+        → max (bit_at (address_word c.at i) k) (bit_at (filter_word cs i) k) ≡ 1
     go true q m rec = bit_one (bit_at (address_word c.at i) k) (bit_at (filter_word cs i) k) (subst (λ n. bit_at (address_word n i) k ≡ 1) (sym (eqb-true c.at a q)) e) (bit_at-lt (filter_word cs i) k)
     go false q m rec = bit_other (bit_at (address_word c.at i) k) (bit_at (filter_word cs i) k) (rec m e) (bit_at-lt (address_word c.at i) k)
 
 some_first : (a b c d : ℕ) → (a ≡ 0 → ⊥) ⊎ ((b ≡ 0 → ⊥) ⊎ ((c ≡ 0 → ⊥) ⊎ (d ≡ 0 → ⊥))) → some_of a b c d ≡ true
 some_first a b c d e = go (a == 0) (b == 0) (c == 0) (d == 0) refl refl refl refl e
   where
-    go : (w x y z : Bool) → (a == 0) ≡ w → (b == 0) ≡ x → (c == 0) ≡ y → (d == 0) ≡ z → (a ≡ 0 → ⊥) ⊎ ((b ≡ 0 → ⊥) ⊎ ((c ≡ 0 → ⊥) ⊎ (d ≡ 0 → ⊥))) → (if w then (if x then (if y then not z else true) else true) else true) ≡ true
+    go : (w x y z : Bool) → (a == 0) ≡ w → (b == 0) ≡ x → (c == 0) ≡ y → (d == 0) ≡ z
+        → (a ≡ 0 → ⊥) ⊎ ((b ≡ 0 → ⊥) ⊎ ((c ≡ 0 → ⊥) ⊎ (d ≡ 0 → ⊥)))
+        → (if w then (if x then (if y then not z else true) else true) else true) ≡ true
     go false x y z p q r s e = refl
     go true false y z p q r s e = refl
     go true true false z p q r s e = refl
@@ -107,7 +111,10 @@ pub filters-show : (xs ys : List Cell) (a : ℕ) → touches xs a ≡ true → t
 filters-show xs ys a t u = λ i. all_of (part_shows 0 xs ys a t u i) (part_shows 1 xs ys a t u i) (part_shows 2 xs ys a t u i) (part_shows 3 xs ys a t u i)
 
 part_same : (f g k : ℕ → ℕ) (p : ℕ) → p + 3 < 16 → ((i : ℕ) → i < 16 → f i ≡ g i) → part_meets f k p ≡ part_meets g k p
-part_same f g k p l h = λ i. some_of (bit_and (h p (omega arith) i) (k p)) (bit_and (h (p + 1) (omega arith) i) (k (p + 1))) (bit_and (h (p + 2) (omega arith) i) (k (p + 2))) (bit_and (h (p + 3) (omega arith) i) (k (p + 3)))
+part_same f g k p l h =
+    λ i.
+    some_of (bit_and (h p (omega arith) i) (k p)) (bit_and (h (p + 1) (omega arith) i) (k (p + 1)))
+    (bit_and (h (p + 2) (omega arith) i) (k (p + 2))) (bit_and (h (p + 3) (omega arith) i) (k (p + 3)))
 
 pub filters-same : (f g k : ℕ → ℕ) → ((i : ℕ) → i < SLOT_WORDS → f i ≡ g i) → filters_meet f k ≡ filters_meet g k
 filters-same f g k h = λ i. all_of (part_same f g k 0 (omega arith) h i) (part_same f g k 4 (omega arith) h i) (part_same f g k 8 (omega arith) h i) (part_same f g k 12 (omega arith) h i)

@@ -9,5 +9,6 @@ use stm_model::rule::MemRule;
 
 /// Whatever steps of RingSW any callers take, each allowed where it comes, the rule holds after each.
 pub fn ring_keeps_along<K: MemRule>()
-    ensures { (rule : K) (c : Config) → RingKeepsAlong slot_filter (of_words (K.good rule) c.words) c }
+    ensures { (rule : K) (c : Config)
+        → RingKeepsAlong slot_filter (of_words (K.good rule) c.words) c }
 {}

@@ -41,7 +41,19 @@ cgl_commits_lem good c gates a x phase alg unheld callers clock inside small kee
       (
         (callers, record { has = record { phase = phase; algorithm = ap takes_lock alg; taken = refl }; started = refl; inside = inside }),
         (
-          (callers, record { has = record { phase = phase; algorithm = ap takes_lock alg; taken = refl }; started = refl; inside = inside; small = small; undoable = λ e. absurd (let f : irrevocable_under (gates 0).algorithm false false ≡ true = ap (λ (a : Alg). irrevocable_under a false false) alg in let g : true ≡ false = sym f ∙ e in cc) }),
+          (
+            callers,
+            record {
+              has = record { phase = phase; algorithm = ap takes_lock alg; taken = refl };
+              started = refl;
+              inside = inside;
+              small = small;
+              undoable = λ e.
+                  absurd (let f : irrevocable_under (gates 0).algorithm false false ≡ true =
+                  ap (λ (a : Alg). irrevocable_under a false false) alg in
+                  let g : true ≡ false = sym f ∙ e in cc);
+            },
+          ),
           (
             (callers, record { has = record { phase = phase; algorithm = ap takes_lock alg; taken = refl }; started = refl; free = unheld; time = refl; limit = omega arith; wrote = λ e. cc; keeps = keeps }),
             (

@@ -27,7 +27,8 @@ pub idle-busy : (v : View) → v.tml.inside ≡ false → v.tml.writer ≡ false
 idle-busy v a b o c d = grind (arith, a, b, o, c, d)
 
 -- who is inside afterwards is in its attempt
-pub attempts-after : (w x : World) (n : ℕ) (v : View) → x.views ≡ put w.views n v → (is_busy v ≡ true → v.gate.phase ≡ In) → (v.attempt.entered ≡ true → may_hold v.gate.phase ≡ true) → AttemptRule (attempt_projection w) → AttemptRule (attempt_projection x)
+pub attempts-after : (w x : World) (n : ℕ) (v : View) → x.views ≡ put w.views n v → (is_busy v ≡ true → v.gate.phase ≡ In)
+    → (v.attempt.entered ≡ true → may_hold v.gate.phase ≡ true) → AttemptRule (attempt_projection w) → AttemptRule (attempt_projection x)
 attempts-after w x n v is inside entered r = subst AttemptRule (sym path) (record {
   busy = put-all w.views n v (λ k u. is_busy u ≡ true → u.gate.phase ≡ In) inside (λ k d. r.busy k);
   entered = put-all w.views n v (λ k u. u.attempt.entered ≡ true → may_hold u.gate.phase ≡ true) entered (λ k d. r.entered k);
@@ -37,7 +38,9 @@ attempts-after w x n v is inside entered r = subst AttemptRule (sym path) (recor
     path = λ i. record { busy = ap (parts is_busy) is i; entered = ap (parts (λ (u : View). u.attempt.entered)) is i; phases = ap (parts (λ (u : View). u.gate.phase)) is i }
 
 -- a step that leaves these flags and the phase alone
-pub attempts-stay : (w x : World) (n : ℕ) (v : View) → x.views ≡ put w.views n v → is_busy v ≡ is_busy (w.views n) → v.attempt.entered ≡ (w.views n).attempt.entered → v.gate.phase ≡ (w.views n).gate.phase → AttemptRule (attempt_projection w) → AttemptRule (attempt_projection x)
+pub attempts-stay : (w x : World) (n : ℕ) (v : View) → x.views ≡ put w.views n v → is_busy v ≡ is_busy (w.views n)
+    → v.attempt.entered ≡ (w.views n).attempt.entered → v.gate.phase ≡ (w.views n).gate.phase → AttemptRule (attempt_projection w)
+    → AttemptRule (attempt_projection x)
 attempts-stay w x n v is own same phase r = attempts-after w x n v is (λ e. phase ∙ r.busy n (sym own ∙ e)) (λ e. ap may_hold phase ∙ r.entered n (sym same ∙ e)) r
 
 -- a step of a caller in its attempt

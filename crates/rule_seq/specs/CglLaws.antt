@@ -25,10 +25,13 @@ use Rattle.rule_seq.specs.CglRule.{CglView, cgl_view, CglProjection, cgl_project
 use Rattle.rule_seq.specs.CglSteps.{no_attempt, fresh_lock, take_lock, CanTakeLock, load_start, CanLoadStart, Begins, logged, load_heap, CanLoadHeap, Loads, store_heap, CanStoreHeap, cgl_entry, store_clock, CanStoreClock, Commits, free_lock, CanFreeLock, load_undo, CanLoadUndo, fixed_lock, load_limit, LoadsLimit, CanLoadLimit, store_back, CanStoreBack}
 use Rattle.rule_seq.specs.LockLemmas.{one-taker, lock_projection-put, lock_projection-kept}
 
-pub cgl_projection-put : (w x : World) (n : ℕ) (v : View) → x.views ≡ put w.views n v → cgl_projection x ≡ record { clock = x.clock; lock = x.lock; heap = x.heap; history = x.history; views = put (cgl_projection w).views n (cgl_view v) }
+pub cgl_projection-put : (w x : World) (n : ℕ) (v : View) → x.views ≡ put w.views n v
+    → cgl_projection x
+    ≡ record { clock = x.clock; lock = x.lock; heap = x.heap; history = x.history; views = put (cgl_projection w).views n (cgl_view v) }
 cgl_projection-put w x n v is = λ i. record { clock = x.clock; lock = x.lock; heap = x.heap; history = x.history; views = (ap (parts cgl_view) is ∙ parts-put cgl_view w.views n v) i }
 
-pub cgl_projection-kept : (w x : World) (n : ℕ) (v : View) → x.views ≡ put w.views n v → x.clock ≡ w.clock → x.lock ≡ w.lock → x.heap ≡ w.heap → x.history ≡ w.history → cgl_view v ≡ cgl_view (w.views n) → cgl_projection x ≡ cgl_projection w
+pub cgl_projection-kept : (w x : World) (n : ℕ) (v : View) → x.views ≡ put w.views n v → x.clock ≡ w.clock → x.lock ≡ w.lock
+    → x.heap ≡ w.heap → x.history ≡ w.history → cgl_view v ≡ cgl_view (w.views n) → cgl_projection x ≡ cgl_projection w
 cgl_projection-kept w x n v is clock lock heap history own = λ i. record { clock = clock i; lock = lock i; heap = heap i; history = history i; views = (ap (parts cgl_view) is ∙ parts-kept cgl_view w.views n v own) i }
 
 pub logged_sees : (m : ℕ → ℕ) (t : Attempt) (a x : ℕ) → x ≡ over t.stores a (m a) → Explains m t.reads → Explains m (logged t a x)

@@ -26,14 +26,17 @@ use Rattle.rule_seq.specs.CglSteps.{logged, cgl_entry, Commits}
 use Rattle.rule_seq.specs.TmlRule.{TmlPart, tml_view, TmlProjection, tml_projection, TmlReader, TmlWriter, TmlRule, TmlWorld}
 use Rattle.rule_seq.specs.TmlSteps.{fresh_tml, tml_begin, CanTmlBegin, TmlBegins, tml_load, CanTmlLoad, TmlSees, TmlLoads, still_at, tml_again, CanTmlAgain, TmlAgain, tml_write, CanTmlWrite, tml_store, CanTmlStore, tml_commit, CanTmlCommit}
 
-pub tml_projection-put : (w x : World) (n : ℕ) (v : View) → x.views ≡ put w.views n v → tml_projection x ≡ record { clock = x.clock; heap = x.heap; history = x.history; views = put (tml_projection w).views n (tml_view v) }
+pub tml_projection-put : (w x : World) (n : ℕ) (v : View) → x.views ≡ put w.views n v
+    → tml_projection x ≡ record { clock = x.clock; heap = x.heap; history = x.history; views = put (tml_projection w).views n (tml_view v) }
 tml_projection-put w x n v is = λ i. record { clock = x.clock; heap = x.heap; history = x.history; views = (ap (parts tml_view) is ∙ parts-put tml_view w.views n v) i }
 
-pub tml_projection-kept : (w x : World) (n : ℕ) (v : View) → x.views ≡ put w.views n v → x.clock ≡ w.clock → x.heap ≡ w.heap → x.history ≡ w.history → tml_view v ≡ tml_view (w.views n) → tml_projection x ≡ tml_projection w
+pub tml_projection-kept : (w x : World) (n : ℕ) (v : View) → x.views ≡ put w.views n v → x.clock ≡ w.clock → x.heap ≡ w.heap
+    → x.history ≡ w.history → tml_view v ≡ tml_view (w.views n) → tml_projection x ≡ tml_projection w
 tml_projection-kept w x n v is clock heap history own = λ i. record { clock = clock i; heap = heap i; history = history i; views = (ap (parts tml_view) is ∙ parts-kept tml_view w.views n v own) i }
 
 -- nobody is in an attempt, the clock is even, and the heap is the memory: whatever ran before, TML may run
-pub tml-from-rest : (words : ℕ) (s : TmlProjection) → ((n : ℕ) → (s.views n).tml.inside ≡ true → ⊥) → ((n : ℕ) → (s.views n).tml.writer ≡ true → ⊥) → s.clock % 2 ≡ 0 → ((a : ℕ) → s.heap a ≡ word_now s.history a) → TmlRule words s
+pub tml-from-rest : (words : ℕ) (s : TmlProjection) → ((n : ℕ) → (s.views n).tml.inside ≡ true → ⊥)
+    → ((n : ℕ) → (s.views n).tml.writer ≡ true → ⊥) → s.clock % 2 ≡ 0 → ((a : ℕ) → s.heap a ≡ word_now s.history a) → TmlRule words s
 tml-from-rest words s nobody none even heap = record {
   free = λ e. (even, heap);
   reader = λ n t. absurd (nobody n t);
@@ -43,7 +46,8 @@ tml-from-rest words s nobody none even heap = record {
 
 module _ (words n : ℕ) where
   -- a caller that isn't the writer changes its part: it is still no writer, and what it has as a reader stands
-  pub tml-own : (s : TmlProjection) (u : TmlPart) → (s.views n).tml.writer ≡ false → u.tml.writer ≡ false → (u.tml.inside ≡ true → TmlReader words s.clock s.history u) → TmlRule words s → TmlRule words (record s { views = put s.views n u })
+  pub tml-own : (s : TmlProjection) (u : TmlPart) → (s.views n).tml.writer ≡ false → u.tml.writer ≡ false
+      → (u.tml.inside ≡ true → TmlReader words s.clock s.history u) → TmlRule words s → TmlRule words (record s { views = put s.views n u })
   tml-own s u was is own r = record {
     free = λ e. r.free (λ m t. e m (grind (arith, t, was)));
     reader = put-all s.views n u (λ m k. k.tml.inside ≡ true → TmlReader words s.clock s.history k) own (λ m d. r.reader m);
@@ -78,7 +82,11 @@ reader-entry words clock history e v later k = record {
   start = let s = k.start in omega arith;
   even = k.even;
   front = k.front;
-  sees = λ a. let same : word_at (e ∷ history) v.attempt.start a ≡ word_at history v.attempt.start a = word_at-later history e v.attempt.start a (let s = k.start in omega arith) in subst (λ (x : ℕ). over v.attempt.reads a x ≡ x) (sym same) (k.sees a);
+  sees =
+      λ a.
+      let same : word_at (e ∷ history) v.attempt.start a ≡ word_at history v.attempt.start a =
+      word_at-later history e v.attempt.start a (let s = k.start in omega arith) in
+      subst (λ (x : ℕ). over v.attempt.reads a x ≡ x) (sym same) (k.sees a);
   reads_inside = k.reads_inside;
   unstored = k.unstored;
   pending = λ l q. absurd (let s = k.start in omega arith);
@@ -95,7 +103,9 @@ module _ (good : (ℕ → ℕ) → Type 0) (c : Config) (n : ℕ) where
 
   pub tml_begins : StepLaw (TmlWorld good c) tml_begin (TmlBegins good c) n CanTmlBegin
   tml_begins w r may = record {
-    rule = whole_of x (go (w.clock % 2 == 0) (λ e. eqb-true (w.clock % 2) 0 e)) (steps-kept c tml_begin n w refl refl refl r.steps) (records-stay w x n (view_after tml_begin w (w.views n) w.clock) refl (le_refl w.clock) refl refl refl r.records);
+    rule =
+        whole_of x (go (w.clock % 2 == 0) (λ e. eqb-true (w.clock % 2) 0 e)) (steps-kept c tml_begin n w refl refl refl r.steps)
+        (records-stay w x n (view_after tml_begin w (w.views n) w.clock) refl (le_refl w.clock) refl refl refl r.records);
     advances = advances-same w x refl (le_refl w.clock) (le_refl w.done) refl;
     shown = record { legal = r.history.legal; below = r.history.below; seen = (r.history.known n).seen; front = (r.history.known n).front; limit = r.history.limit };
   }
@@ -156,7 +166,9 @@ module _ (good : (ℕ → ℕ) → Type 0) (c : Config) (n : ℕ) where
 
   pub tml_loads : (a : ℕ) → StepLaw (TmlWorld good c) (tml_load a) (TmlLoads good c a) n (CanTmlLoad c.words a)
   tml_loads a w r may = record {
-    rule = whole_of x (go (w.views n).tml.writer refl) (steps-kept c (tml_load a) n w refl refl refl r.steps) (records-stay w x n (view_after (tml_load a) w (w.views n) (w.heap a)) refl (le_refl w.clock) refl refl refl r.records);
+    rule =
+        whole_of x (go (w.views n).tml.writer refl) (steps-kept c (tml_load a) n w refl refl refl r.steps)
+        (records-stay w x n (view_after (tml_load a) w (w.views n) (w.heap a)) refl (le_refl w.clock) refl refl refl r.records);
     advances = advances-same w x refl (le_refl w.clock) (le_refl w.done) refl;
     shown = record {
       value = λ t. value t ∙ ap (over (w.views n).attempt.stores a) (sym (seen_at w r may.has.inside a));
@@ -202,7 +214,10 @@ module _ (good : (ℕ → ℕ) → Type 0) (c : Config) (n : ℕ) where
       )
         where
           -- the writer changes its part
-          writes : (s : TmlProjection) (u : TmlPart) → TmlRule c.words s → (s.views n).tml.writer ≡ true → u.tml.writer ≡ (s.views n).tml.writer → TmlReader c.words s.clock s.history u → (u.tml.writer ≡ true → TmlWriter c.words (record s { views = put s.views n u }) u) → TmlRule c.words (record s { views = put s.views n u })
+          writes : (s : TmlProjection) (u : TmlPart) → TmlRule c.words s → (s.views n).tml.writer ≡ true
+              → u.tml.writer ≡ (s.views n).tml.writer → TmlReader c.words s.clock s.history u
+              → (u.tml.writer ≡ true → TmlWriter c.words (record s { views = put s.views n u }) u)
+              → TmlRule c.words (record s { views = put s.views n u })
           writes s u q was is own wr = record {
             free = λ e. q.free (λ m t. e m (grind (arith, t, is)));
             reader = put-all s.views n u (λ m k. k.tml.inside ≡ true → TmlReader c.words s.clock s.history k) (λ e. own) (λ m d. q.reader m);
@@ -246,7 +261,12 @@ module _ (good : (ℕ → ℕ) → Type 0) (c : Config) (n : ℕ) where
       }) r.runs);
     };
     advances = advances-same w x refl (le_refl w.clock) (le_refl w.done) refl;
-    shown = record { value = λ same l. value same l ∙ sym (seen_at w r may.has.inside (w.views n).tml.from); sees = sees_by w r may.has.inside (still_at w.clock (w.views n)) (sees (w.clock == (w.views n).attempt.start) (λ q. eqb-true w.clock (w.views n).attempt.start q) (w.views n).tml.loaded refl) };
+    shown =
+        record {
+          value = λ same l. value same l ∙ sym (seen_at w r may.has.inside (w.views n).tml.from);
+          sees = sees_by w r may.has.inside (still_at w.clock (w.views n))
+              (sees (w.clock == (w.views n).attempt.start) (λ q. eqb-true w.clock (w.views n).attempt.start q) (w.views n).tml.loaded refl);
+        };
   }
     where
       x : World
@@ -262,7 +282,9 @@ module _ (good : (ℕ → ℕ) → Type 0) (c : Config) (n : ℕ) where
       value same l = h.pending l same ∙ sym (at_start w.history (w.views n).attempt.start (w.views n).tml.from (subst (λ (k : ℕ). Below w.history (k + 1)) same r.history.below))
 
       sees : (b : Bool) → (b ≡ true → w.clock ≡ (w.views n).attempt.start) → (l : Bool) → (w.views n).tml.loaded ≡ l
-          → Explains (word_at w.history (w.views n).attempt.start) (if b then (if l then record { at = (w.views n).tml.from; value = (w.views n).tml.value } ∷ (w.views n).attempt.reads else (w.views n).attempt.reads) else (w.views n).attempt.reads)
+          → Explains (word_at w.history (w.views n).attempt.start) (if b then
+          (if l then record { at = (w.views n).tml.from; value = (w.views n).tml.value }
+          ∷ (w.views n).attempt.reads else (w.views n).attempt.reads) else (w.views n).attempt.reads)
       sees true same true l = λ a. grind (arith, value (same refl) l, h.sees a)
       sees true same false l = h.sees
       sees false same true k = h.sees
@@ -276,7 +298,10 @@ module _ (good : (ℕ → ℕ) → Type 0) (c : Config) (n : ℕ) where
 
   pub tml_writes : (start : ℕ) → n < c.callers → StepLaw (TmlWorld good c) (tml_write start) Nothing n (CanTmlWrite start)
   tml_writes start low w r may = record {
-    rule = whole_of x (go (w.clock == start) (λ e. eqb-true w.clock start e)) (steps (w.clock == start) refl (λ e. eqb-true w.clock start e)) (records-stay w x n (view_after (tml_write start) w (w.views n) w.clock) refl (up (w.clock == start) (λ e. eqb-true w.clock start e)) refl refl refl r.records);
+    rule =
+        whole_of x (go (w.clock == start) (λ e. eqb-true w.clock start e)) (steps (w.clock == start) refl (λ e. eqb-true w.clock start e))
+        (records-stay w x n (view_after (tml_write start) w (w.views n) w.clock) refl
+        (up (w.clock == start) (λ e. eqb-true w.clock start e)) refl refl refl r.records);
     advances = advances-same w x refl (up (w.clock == start) (λ e. eqb-true w.clock start e)) (le_refl w.done) refl;
     shown = tt;
   }
@@ -305,8 +330,15 @@ module _ (good : (ℕ → ℕ) → Type 0) (c : Config) (n : ℕ) where
       step_trace false = refl
 
       steps : (b : Bool) → (w.clock == start) ≡ b → (b ≡ true → w.clock ≡ start) → StepsRule c (steps_projection x)
-      steps true q e = steps-raised c (tml_write start) n w 1 low (ap (λ (b : Bool). if b then start + 1 else w.clock) q ∙ ap (λ k. k + 1) (sym (e refl))) (step_trace (w.clock == start)) (ap (λ (b : Bool). (if b then record (w.views n).steps { rises = (w.views n).steps.rises + 1 } else (w.views n).steps).rises) q) r.steps
-      steps false q e = steps-kept c (tml_write start) n w (ap (λ (b : Bool). if b then start + 1 else w.clock) q) (step_trace (w.clock == start)) (ap (λ (b : Bool). (if b then record (w.views n).steps { rises = (w.views n).steps.rises + 1 } else (w.views n).steps).rises) q) r.steps
+      steps true q e =
+          steps-raised c (tml_write start) n w 1 low
+          (ap (λ (b : Bool). if b then start + 1 else w.clock) q ∙ ap (λ k. k + 1) (sym (e refl))) (step_trace (w.clock == start))
+          (ap (λ (b : Bool). (if b then record (w.views n).steps { rises = (w.views n).steps.rises + 1 } else (w.views n).steps).rises) q)
+          r.steps
+      steps false q e =
+          steps-kept c (tml_write start) n w (ap (λ (b : Bool). if b then start + 1 else w.clock) q) (step_trace (w.clock == start))
+          (ap (λ (b : Bool). (if b then record (w.views n).steps { rises = (w.views n).steps.rises + 1 } else (w.views n).steps).rises) q)
+          r.steps
 
       go : (b : Bool) → (b ≡ true → w.clock ≡ start) → Parts (at b)
       go true e = (

@@ -1,10 +1,8 @@
 -- Every list of TML's steps.
-use Rattle.std.specs.Prelude.{ℕ, ◌<◌}
+use Rattle.std.specs.Prelude.{ℕ}
 use Rattle.stm_model.specs.declared.config.Config.{Config}
 use Rattle.rule_base.specs.declared.views.View.{View}
-use Rattle.rule_base.specs.Runs.{KeepsAlong}
 use Rattle.rule_base.specs.StepKinds.{StepKind}
-use Rattle.rule_seq.specs.TmlRule.{TmlWorld}
 use Rattle.rule_seq.specs.TmlSteps.{tml_begin, CanTmlBegin, tml_load, CanTmlLoad, tml_again, CanTmlAgain, tml_write, CanTmlWrite, tml_store, CanTmlStore, tml_commit, CanTmlCommit}
 
 -- a step by its kind and its numbers

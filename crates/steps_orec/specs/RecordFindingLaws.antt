@@ -36,8 +36,14 @@ upto-upto [] f g l = refl
 upto-upto (e ∷ h) f g l = grind (arith, upto-upto h f g l)
 
 module _ (good : (ℕ → ℕ) → Type 0) (c : Config) (n : ℕ) where
-  record-found : (r : ℕ) (w : World) → Invariant good c w → (w.views n).gate.phase ≡ In → FindsRecord c n r w (w.views n) (w.records r)
-  record-found r w g inside = record {
+  full : (w : World) → Invariant good c w → HasOrec (w.views n) → Full (home_of c) c.words (orec_projection (without_fence w))
+  full w g has = full-world good c (without_fence w) (orec-world good c (without_fence w) n g.core has.runs)
+
+  own : (w : World) → Invariant good c w → HasOrec (w.views n) → Own (home_of c) c.words (orec_projection (without_fence w)) n (orec_view (w.views n))
+  own w g has = (full w g has).own n has.inside
+
+  record-found : (r : ℕ) (w : World) → Invariant good c w → HasOrec (w.views n) → FindsRecord c n r w (w.views n) (w.records r)
+  record-found r w g has = let inside = has.runs.phase in record {
     others = λ owned free.
         let k : ℕ = owner_of (w.records r) in
         let holds : touches (w.views k).owned.held r ≡ true = g.core.records.owned r owned in (
@@ -49,13 +55,8 @@ module _ (good : (ℕ → ℕ) → Type 0) (c : Config) (n : ℕ) where
     within = λ free. let l = g.core.records.free r free in let t = g.core.history.limit in omega arith;
     sole = λ one free. let l = g.core.records.free r free in let t = sole-of good c n (without_fence w) g.core inside one in omega arith;
     left = λ one y e. as-left good c (without_fence w) n r y g.core inside one e;
+    started = let s = (own w g has).attempt.start in let t = g.core.history.limit in omega arith;
   }
-
-  full : (w : World) → Invariant good c w → HasOrec (w.views n) → Full (home_of c) c.words (orec_projection (without_fence w))
-  full w g has = full-world good c (without_fence w) (orec-world good c (without_fence w) n g.core has.runs)
-
-  own : (w : World) → Invariant good c w → HasOrec (w.views n) → Own (home_of c) c.words (orec_projection (without_fence w)) n (orec_view (w.views n))
-  own w g has = (full w g has).own n has.inside
 
   clock-found : (w : World) → Invariant good c w → HasOrec (w.views n) → FindsClock c w (w.views n) w.clock
   clock-found w g has = record {
@@ -67,7 +68,9 @@ module _ (good : (ℕ → ℕ) → Type 0) (c : Config) (n : ℕ) where
   }
 
   -- the reads are of the memory at this number
-  moves-to : (w : World) (t : ℕ) → Invariant good c w → (w.views n).history.front ≤ t → t ≤ w.clock → ((a : ℕ) → over (w.views n).attempt.reads a (word_at w.history t a) ≡ word_at w.history t a) → Moves good c (upto w.history t) (w.views n) t
+  moves-to : (w : World) (t : ℕ) → Invariant good c w → (w.views n).history.front ≤ t → t ≤ w.clock
+      → ((a : ℕ) → over (w.views n).attempt.reads a (word_at w.history t a) ≡ word_at w.history t a)
+      → Moves good c (upto w.history t) (w.views n) t
   moves-to w t g front low sees = record {
     legal = legal-upto good c w.history (w.clock + 1) t g.core.history.below g.core.history.legal;
     below = below-upto w.history (w.clock + 1) t g.core.history.below;
@@ -78,23 +81,40 @@ module _ (good : (ℕ → ℕ) → Type 0) (c : Config) (n : ℕ) where
   }
 
   moves-now : (w : World) → Invariant good c w → ((a : ℕ) → over (w.views n).attempt.reads a (word_at w.history w.clock a) ≡ word_at w.history w.clock a) → Moves good c w.history (w.views n) w.clock
-  moves-now w g sees = subst (λ (h : List Entry). Moves good c h (w.views n) w.clock) (upto-all w.history (w.clock + 1) w.clock g.core.history.below (le_refl (w.clock + 1))) (moves-to w w.clock g (g.core.history.known n).front (le_refl w.clock) sees)
+  moves-now w g sees =
+      subst (λ (h : List Entry). Moves good c h (w.views n) w.clock)
+      (upto-all w.history (w.clock + 1) w.clock g.core.history.below (le_refl (w.clock + 1)))
+      (moves-to w w.clock g (g.core.history.known n).front (le_refl w.clock) sees)
 
   moves-all : (w : World) → Invariant good c w → CanOrecClock (home_of c) [] (w.views n) → Moves good c w.history (w.views n) w.clock
-  moves-all w g may = moves-now w g (validated-all (home_of c) c.words (orec_projection (without_fence w)) n may.opens.has.inside may.opens.open_yet (λ a t. may.mine a t refl) (λ a t. may.old a t refl) (full w g may.opens.has))
+  moves-all w g may =
+      moves-now w g (validated-all (home_of c) c.words (orec_projection (without_fence w)) n may.opens.has.inside may.opens.open_yet
+      (λ a t. may.mine a t refl) (λ a t. may.old a t refl) (full w g may.opens.has))
 
-  sees-last : (q b : ℕ) (w : World) → Invariant good c w → CanOrecLast (home_of c) q b (w.views n) → passes (w.records q) (w.views n) ≡ true → (a : ℕ) → over (w.views n).attempt.reads a (word_at w.history (w.views n).check.upto a) ≡ word_at w.history (w.views n).check.upto a
+  sees-last : (q b : ℕ) (w : World) → Invariant good c w → CanOrecLast (home_of c) q b (w.views n) → passes (w.records q) (w.views n) ≡ true
+      → (a : ℕ) → over (w.views n).attempt.reads a (word_at w.history (w.views n).check.upto a) ≡ word_at w.history (w.views n).check.upto a
   sees-last q b w g may e = let p = passed-at (w.records q) (w.views n) e in
-      validated (home_of c) c.words (orec_projection (without_fence w)) n b (version_of (w.records q)) may.opens.has.inside (ap (λ (k : ℕ). rec_of (w.records k)) may.its ∙ rec-free (w.records q) p.0) p.1 may.checking may.rest (full w g may.opens.has)
+      validated (home_of c) c.words (orec_projection (without_fence w)) n b (version_of (w.records q)) may.opens.has.inside
+      (ap (λ (k : ℕ). rec_of (w.records k)) may.its ∙ rec-free (w.records q) p.0) p.1 may.checking may.rest (full w g may.opens.has)
 
   pub begins_beside : StepLaw (Invariant good c) orec_begin (FindsStart good c) n CanOrecBegin
-  begins_beside w g may = let o = orec_begins good c n w g may in record { rule = o.rule; advances = o.advances; shown = record { begins = o.shown; sole = sole-of good c n (without_fence w) g.core may.runs.phase; not_quiescent = λ free. not_quiescent good c n (without_fence w) g.core free (w.views n).gate.quiescent refl } }
+  begins_beside w g may =
+      let o = orec_begins good c n w g may in
+      record {
+        rule = o.rule;
+        advances = o.advances;
+        shown = record {
+          begins = o.shown;
+          sole = sole-of good c n (without_fence w) g.core may.runs.phase;
+          not_quiescent = λ free. not_quiescent good c n (without_fence w) g.core free (w.views n).gate.quiescent refl;
+        };
+      }
 
   pub samples_beside : (r a : ℕ) → StepLaw (Invariant good c) (orec_sample r a) (FindsRecord c n r) n (CanOrecSample (home_of c) r a)
-  samples_beside r a w g may = let o = orec_samples good c n r a w g may in record { rule = o.rule; advances = o.advances; shown = record-found r w g may.has.runs.phase }
+  samples_beside r a w g may = let o = orec_samples good c n r a w g may in record { rule = o.rule; advances = o.advances; shown = record-found r w g may.has }
 
   pub confirms_beside : (r : ℕ) → StepLaw (Invariant good c) (orec_confirm r) (FindsAgain good c n r) n (CanOrecConfirm (home_of c) c.words r)
-  confirms_beside r w g may = let o = orec_confirms good c n r w g may in record { rule = o.rule; advances = o.advances; shown = record { found = record-found r w g may.opens.has.runs.phase; confirms = o.shown } }
+  confirms_beside r w g may = let o = orec_confirms good c n r w g may in record { rule = o.rule; advances = o.advances; shown = record { found = record-found r w g may.opens.has; confirms = o.shown } }
 
   pub clocks_beside : (todo : List Cell) → StepLaw (Invariant good c) (orec_clock todo) (FindsClock c) n (CanOrecClock (home_of c) todo)
   clocks_beside todo w g may = let o = orec_clocks good c n todo w g may in record { rule = o.rule; advances = o.advances; shown = clock-found w g may.opens.has }
@@ -103,7 +123,7 @@ module _ (good : (ℕ → ℕ) → Type 0) (c : Config) (n : ℕ) where
   clocks_all_beside w g may = let o = orec_clocks_all good c n w g may in record { rule = o.rule; advances = o.advances; shown = record { clock = clock-found w g may.opens.has; moves = moves-all w g may } }
 
   pub passes_beside : (r b : ℕ) → StepLaw (Invariant good c) (orec_pass r b) (FindsRead c n r) n (CanOrecPass (home_of c) r b)
-  passes_beside r b w g may = let o = orec_passes good c n r b w g may in record { rule = o.rule; advances = o.advances; shown = record { found = record-found r w g may.has.runs.phase; fails = o.shown } }
+  passes_beside r b w g may = let o = orec_passes good c n r b w g may in record { rule = o.rule; advances = o.advances; shown = record { found = record-found r w g may.has; fails = o.shown } }
 
   pub lasts_beside : (r b : ℕ) → StepLaw (Invariant good c) (orec_last r b) (FindsLast good c n r) n (CanOrecLast (home_of c) r b)
   lasts_beside r b w g may = let o = orec_lasts good c n r b w g may in
@@ -111,21 +131,23 @@ module _ (good : (ℕ → ℕ) → Type 0) (c : Config) (n : ℕ) where
         rule = o.rule;
         advances = o.advances;
         shown = record {
-          read = record { found = record-found r w g may.opens.has.runs.phase; fails = let f = fails good c n r (without_fence w) g.core in record { own = f.own; later = f.later } };
+          read = record { found = record-found r w g may.opens.has; fails = let f = fails good c n r (without_fence w) g.core in record { own = f.own; later = f.later } };
           moves = λ e. moves-to w (w.views n).check.upto g (let s = u.front may.opens.open_yet in let l = u.check.onward may.checking in omega arith) (u.check.upto may.checking) (sees-last r b w g may e);
         };
       }
 
   pub looks_beside : (r : ℕ) → StepLaw (Invariant good c) (orec_look r) (FindsRecord c n r) n HasOrec
-  looks_beside r w g may = let o = orec_looks good c n r w g may in record { rule = o.rule; advances = o.advances; shown = record-found r w g may.runs.phase }
+  looks_beside r w g may = let o = orec_looks good c n r w g may in record { rule = o.rule; advances = o.advances; shown = record-found r w g may }
 
   pub limits_beside : StepLaw (Invariant good c) orec_limit (FindsClock c) n HasOrec
   limits_beside w g may = let o = orec_limits good c n w g may in record { rule = o.rule; advances = o.advances; shown = clock-found w g may }
 
   pub locks_beside : (r version : ℕ) → StepLaw (Invariant good c) (orec_lock n r version) (FindsRecord c n r) n (CanOrecLock version)
-  locks_beside r version w g may = let o = orec_locks good c n r version w g may in record { rule = o.rule; advances = o.advances; shown = record-found r w g may.opens.has.runs.phase }
+  locks_beside r version w g may = let o = orec_locks good c n r version w g may in record { rule = o.rule; advances = o.advances; shown = record-found r w g may.opens.has }
 
-  pub commits_beside : (start : ℕ) (writes back : List Cell) → n < c.callers → StepLaw (Invariant good c) (orec_commit n start writes back) (FindsCommit good c n start writes) n (λ v. CanOrecCommit (home_of c) good c.words start writes back v × AreSpared writes v)
+  pub commits_beside : (start : ℕ) (writes back : List Cell) → n < c.callers
+      → StepLaw (Invariant good c) (orec_commit n start writes back) (FindsCommit good c n start writes) n (λ v.
+      CanOrecCommit (home_of c) good c.words start writes back v × AreSpared writes v)
   commits_beside start writes back low w g may = let o = orec_commits good c n start writes back low w g may in record {
     rule = o.rule;
     advances = o.advances;
@@ -144,8 +166,16 @@ module _ (good : (ℕ → ℕ) → Type 0) (c : Config) (n : ℕ) where
   }
 
   -- what an attempt has stored in place is spared
-  pub commits_placed : (start : ℕ) (stores : List Cell) → n < c.callers → StepLaw (Invariant good c) (orec_commit n start stores []) (FindsCommit good c n start stores) n (λ v. CanOrecCommit (home_of c) good c.words start stores [] v × (v.owned.in_place ≡ stores))
-  commits_placed start stores low w g may = commits_beside start stores [] low w g (may.0, λ a e. ap (λ k. fenced k a) (sym (g.core.gate.spared n may.0.has.runs.phase)) ∙ g.fence.apart n a may.0.has.runs.phase (grind (arith, may.0.has.inside, ap (λ (l : List Cell). touches l a) may.1, e)))
+  pub commits_placed : (start : ℕ) (stores : List Cell) → n < c.callers
+      → StepLaw (Invariant good c) (orec_commit n start stores []) (FindsCommit good c n start stores) n (λ v.
+      CanOrecCommit (home_of c) good c.words start stores [] v × (v.owned.in_place ≡ stores))
+  commits_placed start stores low w g may =
+      commits_beside start stores [] low w g (
+        may.0,
+        λ a e.
+            ap (λ k. fenced k a) (sym (g.core.gate.spared n may.0.has.runs.phase))
+            ∙ g.fence.apart n a may.0.has.runs.phase (grind (arith, may.0.has.inside, ap (λ (l : List Cell). touches l a) may.1, e)),
+      )
 
   pub raises_clock_beside : (least : ℕ) → n < c.callers → StepLaw (Invariant good c) (orec_raise_clock least) (FindsClock c) n (CanOrecRaiseClock least)
   raises_clock_beside least low w g may = let o = orec_raises_clock good c n least low w g may in record { rule = o.rule; advances = o.advances; shown = clock-found w g may.has }
@@ -167,7 +197,7 @@ module _ (good : (ℕ → ℕ) → Type 0) (c : Config) (n : ℕ) where
         rule = o.rule;
         advances = o.advances;
         shown = record {
-          read = record { found = record-found r w g may.last.opens.has.runs.phase; fails = o.shown };
+          read = record { found = record-found r w g may.last.opens.has; fails = o.shown };
           moves = λ e. subst (λ (t : ℕ). Moves good c w.history (w.views n) t) now (moves-now w g
               (subst (λ (t : ℕ). (a : ℕ) → over (w.views n).attempt.reads a (word_at w.history t a) ≡ word_at w.history t a) (may.upto ∙ sym now) (sees-last r b w g may.last e)));
         };

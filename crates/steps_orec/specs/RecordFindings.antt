@@ -23,6 +23,8 @@ pub record FindsRecord (c : Config) (n r : ℕ) (w : World) (v : View) (x : ℕ)
   pub sole : c.callers ≡ 1 → is_owned x ≡ false → version_of x ≤ c.clock + v.steps.rises
   -- and the record is as its last step there left it
   pub left : c.callers ≡ 1 → (y : ℕ) → left_at r v.steps.step_trace ≡ Some y → x ≡ y
+  -- the start is a number of the clock
+  pub started : v.attempt.start ≤ CLOCK_LIMIT
 
 -- the clock
 pub record FindsClock (c : Config) (w : World) (v : View) (x : ℕ) : Type 0 where

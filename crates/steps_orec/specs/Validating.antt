@@ -40,7 +40,9 @@ module _ (home : ℕ → ℕ) where
       by a read free = go (touches v.owned.held (home a)) refl (nat_le (over v.owned.held (home a) 0) v.attempt.start) refl
           (sym (ap (λ (t : Bool). if is_vouched v a then false else t) read) ∙ (sym (touches-unvouched v v.attempt.reads a) ∙ free))
         where
-          go : (h : Bool) → touches v.owned.held (home a) ≡ h → (o : Bool) → nat_le (over v.owned.held (home a) 0) v.attempt.start ≡ o → (if (if h then o else false) then false else true) ≡ false → (touches v.owned.held (home a) ≡ true) × (over v.owned.held (home a) 0 ≤ v.attempt.start)
+          go : (h : Bool) → touches v.owned.held (home a) ≡ h → (o : Bool) → nat_le (over v.owned.held (home a) 0) v.attempt.start ≡ o
+              → (if (if h then o else false) then false else true) ≡ false
+              → (touches v.owned.held (home a) ≡ true) × (over v.owned.held (home a) 0 ≤ v.attempt.start)
           go true p true q e = (p, grind (arith, nat_tests))
           go true p false q e = absurd cc
           go false p true q e = absurd cc

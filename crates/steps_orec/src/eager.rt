@@ -20,10 +20,13 @@ use stm_rule::stm::{Stm, Token};
 /// read.
 pub fn own_load<K: MemRule>(stm: &Stm<K>, seat: &mut Token<K>, caller: usize, a: usize) -> u64
     requires seat { IsSeatOf stm.now caller seat.old }
-    requires view { CanOrecOwnLoad (home_of stm.now.config) stm.now.config.words a (view_of seat.old) }
+    requires view { CanOrecOwnLoad (home_of stm.now.config) stm.now.config.words a
+        (view_of seat.old) }
     requires spared { IsSpared a (view_of seat.old) }
     ensures same { IsSameSeat seat.old seat.new }
-    ensures step { SeatTells (orec_own_load a) (OrecOwnLoads (good_of K.good stm.now.config stm.now.rule) stm.now.config a) seat.old.me.0 result seat.new.me.0 }
+    ensures step { SeatTells (orec_own_load a)
+        (OrecOwnLoads (good_of K.good stm.now.config stm.now.rule) stm.now.config a) seat.old.me.0
+        result seat.new.me.0 }
 {
     stm.load_as::<Brand, usize>(seat, At::Heap(a), &caller)
 }
@@ -61,9 +64,13 @@ pub fn commit_placed<K: MemRule>(
 ) -> u64
     requires seat { IsSeatOf stm.now caller seat.old }
     requires caller { caller < stm.now.config.callers }
-    requires view { CanOrecCommit (home_of stm.now.config) (good_of K.good stm.now.config stm.now.rule) stm.now.config.words start (view_of seat.old).owned.in_place [] (view_of seat.old) }
+    requires view { CanOrecCommit (home_of stm.now.config)
+        (good_of K.good stm.now.config stm.now.rule) stm.now.config.words start
+        (view_of seat.old).owned.in_place [] (view_of seat.old) }
     ensures same { IsSameSeat seat.old seat.new }
-    ensures step { SeatTells (orec_commit caller start (view_of seat.old).owned.in_place []) (FindsCommit (good_of K.good stm.now.config stm.now.rule) stm.now.config caller start (view_of seat.old).owned.in_place) seat.old.me.0 result seat.new.me.0 }
+    ensures step { SeatTells (orec_commit caller start (view_of seat.old).owned.in_place [])
+        (FindsCommit (good_of K.good stm.now.config stm.now.rule) stm.now.config caller start
+        (view_of seat.old).owned.in_place) seat.old.me.0 result seat.new.me.0 }
 {
     stm.exchange_as::<Brand, usize>(seat, At::Clock, start, start + 1, &caller)
 }
@@ -85,7 +92,8 @@ pub fn raise_clock<K: MemRule>(stm: &Stm<K>, seat: &mut Token<K>, caller: usize,
     requires caller { caller < stm.now.config.callers }
     requires view { CanOrecRaiseClock least (view_of seat.old) }
     ensures same { IsSameSeat seat.old seat.new }
-    ensures step { SeatTells (orec_raise_clock least) (FindsClock stm.now.config) seat.old.me.0 result seat.new.me.0 }
+    ensures step { SeatTells (orec_raise_clock least) (FindsClock stm.now.config) seat.old.me.0
+        result seat.new.me.0 }
 {
     stm.raise_as::<Brand, usize>(seat, At::Clock, least, &caller)
 }
@@ -103,7 +111,8 @@ pub fn release_above<K: MemRule>(
     requires limit { version ≤ CLOCK_LIMIT }
     requires view { CanOrecUp (home_of stm.now.config) r version (view_of seat.old) }
     ensures same { IsSameSeat seat.old seat.new }
-    ensures step { SeatTells (orec_release r version) Nothing seat.old.me.0 (free_record version) seat.new.me.0 }
+    ensures step { SeatTells (orec_release r version) Nothing seat.old.me.0 (free_record version)
+        seat.new.me.0 }
 {
     stm.store_as::<Brand, (usize, u64)>(
         seat,

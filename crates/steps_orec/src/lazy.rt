@@ -24,7 +24,8 @@ pub fn look<K: MemRule>(stm: &Stm<K>, seat: &mut Token<K>, caller: usize, r: usi
     requires place { r < stm.now.config.records }
     requires view { HasOrec (view_of seat.old) }
     ensures same { IsSameSeat seat.old seat.new }
-    ensures step { SeatTells (orec_look r) (FindsRecord stm.now.config caller r) seat.old.me.0 result seat.new.me.0 }
+    ensures step { SeatTells (orec_look r) (FindsRecord stm.now.config caller r) seat.old.me.0
+        result seat.new.me.0 }
 {
     stm.load_as::<Brand, usize>(seat, At::Record(r), &caller)
 }
@@ -34,7 +35,8 @@ pub fn limit<K: MemRule>(stm: &Stm<K>, seat: &mut Token<K>, caller: usize) -> u6
     requires seat { IsSeatOf stm.now caller seat.old }
     requires view { HasOrec (view_of seat.old) }
     ensures same { IsSameSeat seat.old seat.new }
-    ensures step { SeatTells orec_limit (FindsClock stm.now.config) seat.old.me.0 result seat.new.me.0 }
+    ensures step { SeatTells orec_limit (FindsClock stm.now.config) seat.old.me.0 result
+        seat.new.me.0 }
 {
     stm.load_as::<Brand, usize>(seat, At::Clock, &caller)
 }
@@ -53,7 +55,8 @@ pub fn lock<K: MemRule>(
     requires limit { version ≤ CLOCK_LIMIT }
     requires view { CanOrecLock version (view_of seat.old) }
     ensures same { IsSameSeat seat.old seat.new }
-    ensures step { SeatTells (orec_lock caller r version) (FindsRecord stm.now.config caller r) seat.old.me.0 result seat.new.me.0 }
+    ensures step { SeatTells (orec_lock caller r version) (FindsRecord stm.now.config caller r)
+        seat.old.me.0 result seat.new.me.0 }
 {
     stm.exchange_as::<Brand, (usize, u64)>(
         seat,
@@ -75,10 +78,15 @@ pub fn commit<K: MemRule>(
 ) -> u64
     requires seat { IsSeatOf stm.now caller seat.old }
     requires caller { caller < stm.now.config.callers }
-    requires view { CanOrecCommit (home_of stm.now.config) (good_of K.good stm.now.config stm.now.rule) stm.now.config.words start (cells_of writes.now.items) (cells_of writes.now.items) (view_of seat.old) }
+    requires view { CanOrecCommit (home_of stm.now.config)
+        (good_of K.good stm.now.config stm.now.rule) stm.now.config.words start
+        (cells_of writes.now.items) (cells_of writes.now.items) (view_of seat.old) }
     requires spared { AreSpared (cells_of writes.now.items) (view_of seat.old) }
     ensures same { IsSameSeat seat.old seat.new }
-    ensures step { SeatTells (orec_commit caller start (cells_of writes.now.items) (cells_of writes.now.items)) (FindsCommit (good_of K.good stm.now.config stm.now.rule) stm.now.config caller start (cells_of writes.now.items)) seat.old.me.0 result seat.new.me.0 }
+    ensures step { SeatTells
+        (orec_commit caller start (cells_of writes.now.items) (cells_of writes.now.items))
+        (FindsCommit (good_of K.good stm.now.config stm.now.rule) stm.now.config caller start
+        (cells_of writes.now.items)) seat.old.me.0 result seat.new.me.0 }
 {
     stm.exchange_as::<Brand, (usize, &WriteLog)>(
         seat,
@@ -107,7 +115,8 @@ pub fn release<K: MemRule>(stm: &Stm<K>, seat: &mut Token<K>, caller: usize, r: 
     requires limit { time ≤ CLOCK_LIMIT }
     requires view { CanOrecTime (home_of stm.now.config) r time (view_of seat.old) }
     ensures same { IsSameSeat seat.old seat.new }
-    ensures step { SeatTells (orec_release r time) Nothing seat.old.me.0 (free_record time) seat.new.me.0 }
+    ensures step { SeatTells (orec_release r time) Nothing seat.old.me.0 (free_record time)
+        seat.new.me.0 }
 {
     stm.store_as::<Brand, (usize, u64)>(seat, At::Record(r), free_record(time), &(caller, time));
 }
@@ -119,7 +128,8 @@ pub fn release_old<K: MemRule>(stm: &Stm<K>, seat: &mut Token<K>, caller: usize,
     requires limit { old ≤ CLOCK_LIMIT }
     requires view { CanOrecOld (home_of stm.now.config) r old (view_of seat.old) }
     ensures same { IsSameSeat seat.old seat.new }
-    ensures step { SeatTells (orec_release r old) Nothing seat.old.me.0 (free_record old) seat.new.me.0 }
+    ensures step { SeatTells (orec_release r old) Nothing seat.old.me.0 (free_record old)
+        seat.new.me.0 }
 {
     stm.store_as::<Brand, (usize, u64)>(seat, At::Record(r), free_record(old), &(caller, old));
 }

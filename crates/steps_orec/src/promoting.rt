@@ -28,9 +28,12 @@ pub fn grant<K: MemRule>(
 ) -> u64
     requires seat { IsSeatOf stm.now caller seat.old }
     requires place { r < stm.now.config.records }
-    requires view { CanOrecGrant (home_of stm.now.config) stm.now.config.words r b (view_of seat.old) }
+    requires view { CanOrecGrant (home_of stm.now.config) stm.now.config.words r b
+        (view_of seat.old) }
     ensures same { IsSameSeat seat.old seat.new }
-    ensures step { SeatTells (orec_grant r b) (FindsGrant (good_of K.good stm.now.config stm.now.rule) stm.now.config caller r) seat.old.me.0 result seat.new.me.0 }
+    ensures step { SeatTells (orec_grant r b)
+        (FindsGrant (good_of K.good stm.now.config stm.now.rule) stm.now.config caller r)
+        seat.old.me.0 result seat.new.me.0 }
 {
     stm.load_as::<Brand, (usize, usize)>(seat, At::Record(r), &(caller, b))
 }
@@ -38,9 +41,12 @@ pub fn grant<K: MemRule>(
 /// Loads the clock where no record is to be loaded: below its limit, the attempt is promoted. Answers the clock.
 pub fn grant_all<K: MemRule>(stm: &Stm<K>, seat: &mut Token<K>, caller: usize) -> u64
     requires seat { IsSeatOf stm.now caller seat.old }
-    requires view { CanOrecGrantAll (home_of stm.now.config) stm.now.config.words stm.now.config.callers caller (view_of seat.old) }
+    requires view { CanOrecGrantAll (home_of stm.now.config) stm.now.config.words
+        stm.now.config.callers caller (view_of seat.old) }
     ensures same { IsSameSeat seat.old seat.new }
-    ensures step { SeatTells orec_grant_all (FindsAll (good_of K.good stm.now.config stm.now.rule) stm.now.config) seat.old.me.0 result seat.new.me.0 }
+    ensures step { SeatTells orec_grant_all
+        (FindsAll (good_of K.good stm.now.config stm.now.rule) stm.now.config) seat.old.me.0 result
+        seat.new.me.0 }
 {
     stm.load_as::<Brand, usize>(seat, At::Clock, &caller)
 }
@@ -58,7 +64,8 @@ pub fn direct_release<K: MemRule>(
     requires limit { time ≤ CLOCK_LIMIT }
     requires view { CanDirectRelease r time (view_of seat.old) }
     ensures same { IsSameSeat seat.old seat.new }
-    ensures step { SeatTells (direct_release r time) Nothing seat.old.me.0 (free_record time) seat.new.me.0 }
+    ensures step { SeatTells (direct_release r time) Nothing seat.old.me.0 (free_record time)
+        seat.new.me.0 }
 {
     stm.store_as::<Brand, (usize, u64)>(seat, At::Record(r), free_record(time), &(caller, time));
 }
@@ -75,7 +82,8 @@ pub fn direct_raise_clock<K: MemRule>(
     requires caller { caller < stm.now.config.callers }
     requires view { CanDirectRaiseClock least (view_of seat.old) }
     ensures same { IsSameSeat seat.old seat.new }
-    ensures step { SeatTells (direct_raise_clock least) (FindsStill stm.now.config) seat.old.me.0 result seat.new.me.0 }
+    ensures step { SeatTells (direct_raise_clock least) (FindsStill stm.now.config) seat.old.me.0
+        result seat.new.me.0 }
 {
     stm.raise_as::<Brand, usize>(seat, At::Clock, least, &caller)
 }
@@ -93,7 +101,8 @@ pub fn direct_release_above<K: MemRule>(
     requires limit { version ≤ CLOCK_LIMIT }
     requires view { CanDirectUp r version (view_of seat.old) }
     ensures same { IsSameSeat seat.old seat.new }
-    ensures step { SeatTells (direct_up r version) Nothing seat.old.me.0 (free_record version) seat.new.me.0 }
+    ensures step { SeatTells (direct_up r version) Nothing seat.old.me.0 (free_record version)
+        seat.new.me.0 }
 {
     stm.store_as::<Brand, (usize, u64)>(
         seat,

@@ -19,7 +19,9 @@ pub fn begin<K: MemRule>(stm: &Stm<K>, seat: &mut Token<K>, caller: usize) -> u6
     requires seat { IsSeatOf stm.now caller seat.old }
     requires view { CanOrecBegin (view_of seat.old) }
     ensures same { IsSameSeat seat.old seat.new }
-    ensures step { SeatTells orec_begin (FindsStart (good_of K.good stm.now.config stm.now.rule) stm.now.config) seat.old.me.0 result seat.new.me.0 }
+    ensures step { SeatTells orec_begin
+        (FindsStart (good_of K.good stm.now.config stm.now.rule) stm.now.config) seat.old.me.0
+        result seat.new.me.0 }
 {
     stm.load_as::<Brand, usize>(seat, At::Clock, &caller)
 }
@@ -36,7 +38,8 @@ pub fn sample<K: MemRule>(
     requires place { r < stm.now.config.records }
     requires view { CanOrecSample (home_of stm.now.config) r a (view_of seat.old) }
     ensures same { IsSameSeat seat.old seat.new }
-    ensures step { SeatTells (orec_sample r a) (FindsRecord stm.now.config caller r) seat.old.me.0 result seat.new.me.0 }
+    ensures step { SeatTells (orec_sample r a) (FindsRecord stm.now.config caller r) seat.old.me.0
+        result seat.new.me.0 }
 {
     stm.load_as::<Brand, (usize, usize)>(seat, At::Record(r), &(caller, a))
 }
@@ -57,9 +60,12 @@ pub fn load<K: MemRule>(stm: &Stm<K>, seat: &mut Token<K>, caller: usize, a: usi
 pub fn confirm<K: MemRule>(stm: &Stm<K>, seat: &mut Token<K>, caller: usize, r: usize) -> u64
     requires seat { IsSeatOf stm.now caller seat.old }
     requires place { r < stm.now.config.records }
-    requires view { CanOrecConfirm (home_of stm.now.config) stm.now.config.words r (view_of seat.old) }
+    requires view { CanOrecConfirm (home_of stm.now.config) stm.now.config.words r
+        (view_of seat.old) }
     ensures same { IsSameSeat seat.old seat.new }
-    ensures step { SeatTells (orec_confirm r) (FindsAgain (good_of K.good stm.now.config stm.now.rule) stm.now.config caller r) seat.old.me.0 result seat.new.me.0 }
+    ensures step { SeatTells (orec_confirm r)
+        (FindsAgain (good_of K.good stm.now.config stm.now.rule) stm.now.config caller r)
+        seat.old.me.0 result seat.new.me.0 }
 {
     stm.load_as::<Brand, usize>(seat, At::Record(r), &caller)
 }
@@ -70,7 +76,8 @@ pub fn clock<K: MemRule>(stm: &Stm<K>, seat: &mut Token<K>, caller: usize) -> u6
     requires seat { IsSeatOf stm.now caller seat.old }
     requires view { HasOpen (view_of seat.old) }
     ensures same { IsSameSeat seat.old seat.new }
-    ensures step { SeatTells (orec_clock (to_validate (home_of stm.now.config) (view_of seat.old))) (FindsClock stm.now.config) seat.old.me.0 result seat.new.me.0 }
+    ensures step { SeatTells (orec_clock (to_validate (home_of stm.now.config) (view_of seat.old)))
+        (FindsClock stm.now.config) seat.old.me.0 result seat.new.me.0 }
 {
     stm.load_as::<Brand, usize>(seat, At::Clock, &caller)
 }
@@ -80,7 +87,9 @@ pub fn clock_all<K: MemRule>(stm: &Stm<K>, seat: &mut Token<K>, caller: usize) -
     requires seat { IsSeatOf stm.now caller seat.old }
     requires view { CanOrecClock (home_of stm.now.config) [] (view_of seat.old) }
     ensures same { IsSameSeat seat.old seat.new }
-    ensures step { SeatTells orec_clock_all (FindsAll (good_of K.good stm.now.config stm.now.rule) stm.now.config) seat.old.me.0 result seat.new.me.0 }
+    ensures step { SeatTells orec_clock_all
+        (FindsAll (good_of K.good stm.now.config stm.now.rule) stm.now.config) seat.old.me.0 result
+        seat.new.me.0 }
 {
     stm.load_as::<Brand, usize>(seat, At::Clock, &caller)
 }
@@ -92,7 +101,8 @@ pub fn pass<K: MemRule>(stm: &Stm<K>, seat: &mut Token<K>, caller: usize, r: usi
     requires place { r < stm.now.config.records }
     requires view { CanOrecPass (home_of stm.now.config) r b (view_of seat.old) }
     ensures same { IsSameSeat seat.old seat.new }
-    ensures step { SeatTells (orec_pass r b) (FindsRead stm.now.config caller r) seat.old.me.0 result seat.new.me.0 }
+    ensures step { SeatTells (orec_pass r b) (FindsRead stm.now.config caller r) seat.old.me.0
+        result seat.new.me.0 }
 {
     stm.load_as::<Brand, (usize, usize)>(seat, At::Record(r), &(caller, b))
 }
@@ -103,7 +113,9 @@ pub fn last<K: MemRule>(stm: &Stm<K>, seat: &mut Token<K>, caller: usize, r: usi
     requires place { r < stm.now.config.records }
     requires view { CanOrecLast (home_of stm.now.config) r b (view_of seat.old) }
     ensures same { IsSameSeat seat.old seat.new }
-    ensures step { SeatTells (orec_last r b) (FindsLast (good_of K.good stm.now.config stm.now.rule) stm.now.config caller r) seat.old.me.0 result seat.new.me.0 }
+    ensures step { SeatTells (orec_last r b)
+        (FindsLast (good_of K.good stm.now.config stm.now.rule) stm.now.config caller r)
+        seat.old.me.0 result seat.new.me.0 }
 {
     stm.load_as::<Brand, (usize, usize)>(seat, At::Record(r), &(caller, b))
 }

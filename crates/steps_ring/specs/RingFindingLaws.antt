@@ -53,11 +53,18 @@ module _ (good : (ℕ → ℕ) → Type 0) (c : Config) (n : ℕ) where
   -- with one caller alone, who has no entry under way, DONE is the clock
   done-sole : (w : World) → Core good c w → RunsRing (w.views n) → (w.views n).ring_commit.committed ≡ false → (w.views n).attempt.entered ≡ false → c.callers ≡ 1 → w.done ≡ w.clock
   done-sole w g runs early plain one = (rule-of w g runs).level
-      (λ m. unlate w m (λ t. let same = same-caller w g runs.phase one m (λ idle. let i : In ≡ Idle = sym (g.attempts.busy m (busy-turn (w.views m) t)) ∙ idle in cc) in let f : true ≡ false = sym t ∙ (ap (λ (k : ℕ). (w.views k).ring_commit.committed) (sym same) ∙ early) in cc))
+      (λ m.
+      unlate w m (λ t.
+      let same =
+      same-caller w g runs.phase one m (λ idle. let i : In ≡ Idle = sym (g.attempts.busy m (busy-turn (w.views m) t)) ∙ idle in cc) in
+      let f : true ≡ false = sym t ∙ (ap (λ (k : ℕ). (w.views k).ring_commit.committed) (sym same) ∙ early) in cc))
       (λ m. by m (w.views m).attempt.entered refl)
     where
       by : (m : ℕ) (b : Bool) → (w.views m).attempt.entered ≡ b → b ≡ false
-      by m true t = absurd (let same = same-caller w g runs.phase one m (λ idle. let f : true ≡ false = sym (g.attempts.entered m t) ∙ ap may_hold idle in cc) in let f : true ≡ false = sym t ∙ (ap (λ (k : ℕ). (w.views k).attempt.entered) (sym same) ∙ plain) in cc)
+      by m true t =
+          absurd (let same =
+          same-caller w g runs.phase one m (λ idle. let f : true ≡ false = sym (g.attempts.entered m t) ∙ ap may_hold idle in cc) in
+          let f : true ≡ false = sym t ∙ (ap (λ (k : ℕ). (w.views k).attempt.entered) (sym same) ∙ plain) in cc)
       by m false t = refl
 
   -- nobody has raised the clock as the gate's holder while an attempt runs that doesn't know it so
@@ -77,7 +84,9 @@ module _ (good : (ℕ → ℕ) → Type 0) (c : Config) (n : ℕ) where
   reads-stand w g m a = subst (λ (k : ℕ). over (w.views n).attempt.reads a k ≡ k) (sym (word_now-upto w.history (w.views n).attempt.start a)) ((reader-of w g m).sees a)
 
   -- what is watched is the same at all times from the start to the clock that the check loaded
-  still : (w : World) → Core good c w → CanRingMove slot_filter (w.views n) → (t a : ℕ) → (w.views n).attempt.start ≤ t → t ≤ (w.views n).ring_read.clock → touches (w.views n).ring_read.watched a ≡ true → word_at w.history t a ≡ word_at w.history (w.views n).attempt.start a
+  still : (w : World) → Core good c w → CanRingMove slot_filter (w.views n) → (t a : ℕ) → (w.views n).attempt.start ≤ t
+      → t ≤ (w.views n).ring_read.clock → touches (w.views n).ring_read.watched a ≡ true
+      → word_at w.history t a ≡ word_at w.history (w.views n).attempt.start a
   still w g may t a low up watched =
       let sum : t ≡ (w.views n).attempt.start + (t - (w.views n).attempt.start) = omega arith in
       ap (λ (s : ℕ). word_at w.history s a) sum ∙ clear slot_filter w.history (w.clock + 1) (w.views n).attempt.start a g.history.below (t - (w.views n).attempt.start)

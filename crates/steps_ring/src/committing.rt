@@ -1,5 +1,7 @@
 //! The steps of a commit of RingSW.
 ghost use Rattle.rule_base.specs.StepKinds.{Nothing};
+ghost use Rattle.rule_base.specs.Places.{offset};
+ghost use Rattle.rule_base.specs.declared.layout.At.TheVariants.{Slot};
 ghost use Rattle.rule_ring.specs.RingSteps.{ring_lock, CanRingLock, ring_tick, HasTurn, ring_slot, CanRingSlot, ring_enter, CanRingEnter, RingEnters, ring_write, CanRingWrite, ring_done, CanRingDone, ring_free, CanRingFree};
 ghost use Rattle.rule_ring.specs.SlotFilter.{slot_filter};
 ghost use Rattle.rule_base.specs.declared.layout.TheConstants.{SLOT_WORDS};
@@ -23,7 +25,8 @@ pub fn lock<K: MemRule>(stm: &Stm<K>, seat: &mut Token<K>, caller: usize) -> u64
     requires caller { caller < stm.now.config.callers }
     requires view { CanRingLock (view_of seat.old) }
     ensures same { IsSameSeat seat.old seat.new }
-    ensures step { SeatTells (ring_lock caller) (FindsLock stm.now.config caller) seat.old.me.0 result seat.new.me.0 }
+    ensures step { SeatTells (ring_lock caller) (FindsLock stm.now.config caller) seat.old.me.0
+        result seat.new.me.0 }
 {
     stm.exchange_as::<Brand, usize>(seat, At::Lock, 0, 1 + caller as u64, &caller)
 }
@@ -33,7 +36,9 @@ pub fn tick<K: MemRule>(stm: &Stm<K>, seat: &mut Token<K>, caller: usize) -> u64
     requires seat { IsSeatOf stm.now caller seat.old }
     requires view { HasTurn (view_of seat.old) }
     ensures same { IsSameSeat seat.old seat.new }
-    ensures step { SeatTells ring_tick (FindsTick (good_of K.good stm.now.config stm.now.rule) stm.now.config) seat.old.me.0 result seat.new.me.0 }
+    ensures step { SeatTells ring_tick
+        (FindsTick (good_of K.good stm.now.config stm.now.rule) stm.now.config) seat.old.me.0 result
+        seat.new.me.0 }
 {
     stm.load_as::<Brand, usize>(seat, At::Clock, &caller)
 }
@@ -50,15 +55,17 @@ pub fn slot<K: MemRule>(
     writes: &WriteLog,
 )
     requires seat { IsSeatOf stm.now caller seat.old }
-    requires first { first ≡ time % stm.now.config.ring * SLOT_WORDS }
+    requires first { first ≡ offset stm.now.config (Slot (time % stm.now.config.ring * SLOT_WORDS)) }
     requires word { x ≡ slot_filter.word (cells_of writes.now.items) index }
     requires view { CanRingSlot time index (cells_of writes.now.items) (view_of seat.old) }
     ensures same { IsSameSeat seat.old seat.new }
-    ensures step { SeatTells (ring_slot slot_filter stm.now.config.ring time index (cells_of writes.now.items)) Nothing seat.old.me.0 x seat.new.me.0 }
+    ensures step { SeatTells
+        (ring_slot slot_filter stm.now.config.ring time index (cells_of writes.now.items)) Nothing
+        seat.old.me.0 x seat.new.me.0 }
 {
-    stm.store_as::<Brand, (usize, u64, usize, &WriteLog)>(
+    stm.store_at::<Brand, (usize, u64, usize, &WriteLog)>(
         seat,
-        At::Slot(first + index),
+        first + index,
         x,
         &(caller, time, index, writes),
     );
@@ -68,10 +75,13 @@ pub fn slot<K: MemRule>(
 pub fn enter<K: MemRule>(stm: &Stm<K>, seat: &mut Token<K>, caller: usize, time: u64)
     requires seat { IsSeatOf stm.now caller seat.old }
     requires caller { caller < stm.now.config.callers }
-    requires view { CanRingEnter (good_of K.good stm.now.config stm.now.rule) stm.now.config.words time (view_of seat.old) }
+    requires view { CanRingEnter (good_of K.good stm.now.config stm.now.rule) stm.now.config.words
+        time (view_of seat.old) }
     requires spared { AreSpared (view_of seat.old).ring_commit.writes (view_of seat.old) }
     ensures same { IsSameSeat seat.old seat.new }
-    ensures step { SeatTells (ring_enter caller time) (RingEnters (good_of K.good stm.now.config stm.now.rule) stm.now.config caller time) seat.old.me.0 time seat.new.me.0 }
+    ensures step { SeatTells (ring_enter caller time)
+        (RingEnters (good_of K.good stm.now.config stm.now.rule) stm.now.config caller time)
+        seat.old.me.0 time seat.new.me.0 }
 {
     stm.store_as::<Brand, usize>(seat, At::Clock, time, &caller);
 }

@@ -16,7 +16,9 @@ pub fn look_grant<K: MemRule>(stm: &Stm<K>, seat: &mut Token<K>, caller: usize) 
     requires seat { IsSeatOf stm.now caller seat.old }
     requires view { CanRingGrant (view_of seat.old) }
     ensures same { IsSameSeat seat.old seat.new }
-    ensures step { SeatTells ring_look_grant (FindsLook (good_of K.good stm.now.config stm.now.rule) stm.now.config) seat.old.me.0 result seat.new.me.0 }
+    ensures step { SeatTells ring_look_grant
+        (FindsLook (good_of K.good stm.now.config stm.now.rule) stm.now.config) seat.old.me.0 result
+        seat.new.me.0 }
 {
     stm.load_as::<Brand, usize>(seat, At::Clock, &caller)
 }
@@ -27,7 +29,9 @@ pub fn advance_grant<K: MemRule>(stm: &Stm<K>, seat: &mut Token<K>, caller: usiz
     requires seat { IsSeatOf stm.now caller seat.old }
     requires view { CanRingMoveGrant slot_filter (view_of seat.old) }
     ensures same { IsSameSeat seat.old seat.new }
-    ensures step { SeatTells ring_move_grant (FindsLevel (good_of K.good stm.now.config stm.now.rule) stm.now.config) seat.old.me.0 result seat.new.me.0 }
+    ensures step { SeatTells ring_move_grant
+        (FindsLevel (good_of K.good stm.now.config stm.now.rule) stm.now.config) seat.old.me.0
+        result seat.new.me.0 }
 {
     stm.load_as::<Brand, usize>(seat, At::Done, &caller)
 }

@@ -1,5 +1,7 @@
 //! The steps by which an attempt of RingSW begins, reads and checks.
 ghost use Rattle.rule_base.specs.StepKinds.{Nothing};
+ghost use Rattle.rule_base.specs.Places.{offset};
+ghost use Rattle.rule_base.specs.declared.layout.At.TheVariants.{Slot};
 ghost use Rattle.rule_ring.specs.RingSteps.{ring_begin, CanRingBegin, ring_load, CanRingLoad, ring_look, CanRingLook, ring_word, CanRingWord, ring_again, CanRingAgain, ring_move, CanRingMove};
 ghost use Rattle.rule_ring.specs.SlotFilter.{slot_filter};
 ghost use Rattle.rule_base.specs.declared.layout.TheConstants.{SLOT_WORDS};
@@ -19,7 +21,9 @@ pub fn begin<K: MemRule>(stm: &Stm<K>, seat: &mut Token<K>, caller: usize) -> u6
     requires seat { IsSeatOf stm.now caller seat.old }
     requires view { CanRingBegin (view_of seat.old) }
     ensures same { IsSameSeat seat.old seat.new }
-    ensures step { SeatTells ring_begin (FindsStart (good_of K.good stm.now.config stm.now.rule) stm.now.config) seat.old.me.0 result seat.new.me.0 }
+    ensures step { SeatTells ring_begin
+        (FindsStart (good_of K.good stm.now.config stm.now.rule) stm.now.config) seat.old.me.0
+        result seat.new.me.0 }
 {
     stm.load_as::<Brand, usize>(seat, At::Done, &caller)
 }
@@ -40,18 +44,19 @@ pub fn look<K: MemRule>(stm: &Stm<K>, seat: &mut Token<K>, caller: usize) -> u64
     requires seat { IsSeatOf stm.now caller seat.old }
     requires view { CanRingLook (view_of seat.old) }
     ensures same { IsSameSeat seat.old seat.new }
-    ensures step { SeatTells ring_look (FindsLook (good_of K.good stm.now.config stm.now.rule) stm.now.config) seat.old.me.0 result seat.new.me.0 }
+    ensures step { SeatTells ring_look
+        (FindsLook (good_of K.good stm.now.config stm.now.rule) stm.now.config) seat.old.me.0 result
+        seat.new.me.0 }
 {
     stm.load_as::<Brand, usize>(seat, At::Clock, &caller)
 }
 
-/// The place of the first word of the slot of `time` among the words of a ring of so many slots. It takes a division, so
-/// that a caller asks once for all 16 words.
-pub fn first_word(ring: usize, time: u64) -> usize
-    requires ring { (0 < ring) × (ring ≤ 64) }
-    ensures { result ≡ time % ring * SLOT_WORDS }
+/// The index in the table of the first word of the slot of `time`. It takes a division, so that a caller asks once for all
+/// 16 words.
+pub fn first_word<K: MemRule>(stm: &Stm<K>, time: u64) -> usize
+    ensures { result ≡ offset stm.now.config (Slot (time % stm.now.config.ring * SLOT_WORDS)) }
 {
-    (time % ring as u64) as usize * SLOT_WORDS
+    stm.ring_place((time % stm.config.ring as u64) as usize * SLOT_WORDS)
 }
 
 /// Loads word `index` of the slot of `time`, whose words begin at `first`, and answers it.
@@ -64,12 +69,13 @@ pub fn word<K: MemRule>(
     index: usize,
 ) -> u64
     requires seat { IsSeatOf stm.now caller seat.old }
-    requires first { first ≡ time % stm.now.config.ring * SLOT_WORDS }
+    requires first { first ≡ offset stm.now.config (Slot (time % stm.now.config.ring * SLOT_WORDS)) }
     requires view { CanRingWord stm.now.config.ring time index (view_of seat.old) }
     ensures same { IsSameSeat seat.old seat.new }
-    ensures step { SeatTells (ring_word stm.now.config.ring time index) Nothing seat.old.me.0 result seat.new.me.0 }
+    ensures step { SeatTells (ring_word stm.now.config.ring time index) Nothing seat.old.me.0 result
+        seat.new.me.0 }
 {
-    stm.load_as::<Brand, (usize, u64, usize)>(seat, At::Slot(first + index), &(caller, time, index))
+    stm.load_at::<Brand, (usize, u64, usize)>(seat, first + index, &(caller, time, index))
 }
 
 /// Loads the clock after the slots, and answers it.
@@ -77,7 +83,9 @@ pub fn again<K: MemRule>(stm: &Stm<K>, seat: &mut Token<K>, caller: usize) -> u6
     requires seat { IsSeatOf stm.now caller seat.old }
     requires view { CanRingAgain (view_of seat.old) }
     ensures same { IsSameSeat seat.old seat.new }
-    ensures step { SeatTells (ring_again stm.now.config.ring) (FindsAgain (good_of K.good stm.now.config stm.now.rule) stm.now.config) seat.old.me.0 result seat.new.me.0 }
+    ensures step { SeatTells (ring_again stm.now.config.ring)
+        (FindsAgain (good_of K.good stm.now.config stm.now.rule) stm.now.config) seat.old.me.0
+        result seat.new.me.0 }
 {
     stm.load_as::<Brand, usize>(seat, At::Clock, &caller)
 }
@@ -87,7 +95,9 @@ pub fn advance<K: MemRule>(stm: &Stm<K>, seat: &mut Token<K>, caller: usize) -> 
     requires seat { IsSeatOf stm.now caller seat.old }
     requires view { CanRingMove slot_filter (view_of seat.old) }
     ensures same { IsSameSeat seat.old seat.new }
-    ensures step { SeatTells ring_move (FindsMove (good_of K.good stm.now.config stm.now.rule) stm.now.config) seat.old.me.0 result seat.new.me.0 }
+    ensures step { SeatTells ring_move
+        (FindsMove (good_of K.good stm.now.config stm.now.rule) stm.now.config) seat.old.me.0 result
+        seat.new.me.0 }
 {
     stm.load_as::<Brand, usize>(seat, At::Done, &caller)
 }

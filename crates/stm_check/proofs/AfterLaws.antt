@@ -209,7 +209,8 @@ parted-at line (b ∷ t) x before lacks is none =
     first lf = sym (ap (λ n. lines_of (line ++ n ∷ t)) lf ∙ lines_of-first line t lacks) ∙ is
 
     by : (Goes t → parted_by [] (t ++ x) ≡ (t, x)) → (b ≢ 10 → parted_by (line ++ b ∷ []) (t ++ x) ≡ (t, x)) → (lf : Bool) → (b == 10) ≡ lf → (done : Bool) → bytes_eq line (codes "done") ≡ done
-        → (if lf then (if done then two (b ∷ []) (t ++ x) else two (b ∷ (parted_by [] (t ++ x)).0) (parted_by [] (t ++ x)).1) else two (b ∷ (parted_by (line ++ b ∷ []) (t ++ x)).0) (parted_by (line ++ b ∷ []) (t ++ x)).1) ≡ two (b ∷ t) x
+        → (if lf then (if done then two (b ∷ []) (t ++ x) else two (b ∷ (parted_by [] (t ++ x)).0) (parted_by [] (t ++ x)).1) else two
+        (b ∷ (parted_by (line ++ b ∷ []) (t ++ x)).0) (parted_by (line ++ b ∷ []) (t ++ x)).1) ≡ two (b ∷ t) x
     by new on true e true d =
         let lf : b ≡ 10 = grind (arith, nat_tests) in
         let gone = at-done line t before ((bytes_eq-Decides line (codes "done")).0 d) (first lf) none in
@@ -256,7 +257,8 @@ read-stepwise read written is_parsed m text w is =
     let b' : IsParsed Stepwise w = record { header = b.header; count = b.count; items = b.items; schedule = any-schedule m w.header w.schedule b.schedule } in
     read Stepwise w text b' (of.0, any-lines m w of.0 of.1, of.2) (parsed-so m text w is).0
 
-pub behind-confirmed : TextIsRead → TextIsWritten → TextIsParsed → (m : Mode) (text : List ℕ) (w : Workload) (r : Report) → Parses m text w → Replays w r → report_of (report_bytes r) ≡ Ok r → IsYes (text ++ report_bytes r)
+pub behind-confirmed : TextIsRead → TextIsWritten → TextIsParsed → (m : Mode) (text : List ℕ) (w : Workload) (r : Report) → Parses m text w
+    → Replays w r → report_of (report_bytes r) ≡ Ok r → IsYes (text ++ report_bytes r)
 behind-confirmed read written is_parsed m text w r is replays reads =
     let x = report_bytes r in
     let parts = text-parted m text x w is (written m text w is) in

@@ -1,5 +1,5 @@
 -- The faults of a report's text.
-use Rattle.std.proofs.Common.{ℕ, ◌≡◌, ◌≤◌, ◌<◌, ◌+◌, ◌⊎◌, inl, inr, List, [], ◌∷◌, Bool, true, false, Result, Ok, Err, refl, subst, arith, length}
+use Rattle.std.proofs.Common.{ℕ, ◌≡◌, ◌≤◌, ◌+◌, ◌⊎◌, inl, inr, List, [], ◌∷◌, Bool, true, false, Result, Ok, Err, refl, subst, arith, length}
 use Rattle.std.specs.Prelude.{Option, Some, None, if◌then◌else◌, ltb}
 use Rattle.stm_script.specs.declared.report.Report.{Report}
 use Rattle.stm_text.specs.declared.code.TheConstants.{UNENDED, LONG_REPORT}

@@ -41,7 +41,8 @@ within-set : (ws : List PlainWord) (touched : List ℕ) (a : ℕ) (w : PlainWord
 within-set ws touched a w h = λ k d kt. let l = length-set ws a w in let one = h k d kt in omega arith
 
 -- a word that is written for the first time
-pub touched-new : (ws : List PlainWord) (touched : List ℕ) (a : ℕ) (w : PlainWord) (v : ℕ) → AreTouched ws touched → a < length ws → is_some (get_or ws a zero_word).own ≡ false → w.own ≡ Some v → AreTouched (set ws a w) (touched ++ a ∷ [])
+pub touched-new : (ws : List PlainWord) (touched : List ℕ) (a : ℕ) (w : PlainWord) (v : ℕ) → AreTouched ws touched → a < length ws
+    → is_some (get_or ws a zero_word).own ≡ false → w.own ≡ Some v → AreTouched (set ws a w) (touched ++ a ∷ [])
 touched-new ws touched a w v h lt none own =
     let l = length-set ws a w in
     let s = sum_by-set (λ (x : PlainWord). one_where x.own) ws a w zero_word lt in
@@ -62,7 +63,8 @@ touched-new ws touched a w v h lt none own =
         Contains-append_left touched (a ∷ []) b (h.all b bt (ap (λ (x : PlainWord). is_some x.own) (sym (get_or-set_other ws a b w zero_word n)) ∙ some))
 
 -- a word that is written again
-pub touched-again : (ws : List PlainWord) (touched : List ℕ) (a : ℕ) (w : PlainWord) (v : ℕ) → AreTouched ws touched → a < length ws → is_some (get_or ws a zero_word).own ≡ true → w.own ≡ Some v → AreTouched (set ws a w) touched
+pub touched-again : (ws : List PlainWord) (touched : List ℕ) (a : ℕ) (w : PlainWord) (v : ℕ) → AreTouched ws touched → a < length ws
+    → is_some (get_or ws a zero_word).own ≡ true → w.own ≡ Some v → AreTouched (set ws a w) touched
 touched-again ws touched a w v h lt is own =
     let l = length-set ws a w in
     let s = sum_by-set (λ (x : PlainWord). one_where x.own) ws a w zero_word lt in
@@ -104,7 +106,9 @@ left-one ws touched a w h own =
 
     at : (b : ℕ) → b < length ws → is_some (get_or (set ws a w) b zero_word).own ≡ true → (t : Bool) → (b == a) ≡ t → Contains touched b
     at b bt some true e =
-        let q : a ≡ b = grind (arith, nat_tests) in absurd (not-some w.own own (ap (λ (x : PlainWord). is_some x.own) (sym (get_or-set_same ws b w zero_word bt) ∙ ap (λ i. get_or (set ws i w) b zero_word) (sym q)) ∙ some))
+        let q : a ≡ b = grind (arith, nat_tests) in
+        absurd (not-some w.own own (ap (λ (x : PlainWord). is_some x.own)
+        (sym (get_or-set_same ws b w zero_word bt) ∙ ap (λ i. get_or (set ws i w) b zero_word) (sym q)) ∙ some))
       where
         not-some : (o : Option ℕ) → o ≡ None → is_some o ≡ true → ⊥
         not-some o e s = cc

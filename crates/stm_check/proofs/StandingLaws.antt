@@ -64,7 +64,9 @@ none-of [] k h = omega arith
 none-of (y ∷ ys) zero h = absurd cc
 none-of (y ∷ ys) (suc k) h = let r = none-of ys k h in omega arith
 
-pub is-next : (w : Workload) (above : List Row) (r : Row) (c : Cursor) (item : ℕ) (script : List Op) → ItemsFit (regions_of w.header) w.header w.items → r.caller < w.header.callers → IsAt w.items above r.caller c → c.seq ≡ r.seq → item ≤ length w.items
+pub is-next : (w : Workload) (above : List Row) (r : Row) (c : Cursor) (item : ℕ) (script : List Op)
+    → ItemsFit (regions_of w.header) w.header w.items → r.caller < w.header.callers → IsAt w.items above r.caller c → c.seq ≡ r.seq
+    → item ≤ length w.items
     → scripts_of r.caller (drop c.item w.items) ≡ script ∷ scripts_of r.caller (drop item w.items) → IsNext w above r item script
 is-next w above r c item script fit lt at same within found =
     let f = first-of (scripts_of r.caller w.items) r.seq script (scripts_of r.caller (drop item w.items)) [] (ap (λ k. drop k (scripts_of r.caller w.items)) (sym same) ∙ (sym at.left ∙ found)) in
@@ -185,9 +187,14 @@ pub wants-more : (w : Workload) (rows : List Row) (i : ℕ) (r : Row) (m now : L
 wants-more w rows i r m now lt at right is n wanted h =
     let d : drop i rows ≡ r ∷ drop (i + 1) rows = drop_more rows i r lt ∙ ap (λ x. x ∷ drop (i + 1) rows) (sym at) in
     let t : take (i + 1) rows ≡ take i rows ++ r ∷ [] = rw add-one (take-suc rows i r lt) ∙ ap (λ x. take i rows ++ x ∷ []) (sym at) in
-    subst (λ l. WantsAt w (take i rows) m l (suc n) wanted) (sym d) (right, subst (λ k. WantsAt w (take i rows ++ r ∷ []) k (drop (i + 1) rows) n wanted) is (subst (λ l. WantsAt w l now (drop (i + 1) rows) n wanted) t h))
+    subst (λ l. WantsAt w (take i rows) m l (suc n) wanted) (sym d) (
+      right,
+      subst (λ k. WantsAt w (take i rows ++ r ∷ []) k (drop (i + 1) rows) n wanted) is
+          (subst (λ l. WantsAt w l now (drop (i + 1) rows) n wanted) t h),
+    )
 
-pub wants-here : (w : Workload) (rows : List Row) (i : ℕ) (r : Row) (m : List ℕ) (wanted : Wanted) → i < length rows → r ≡ get_or rows i r → WantsOf w (take i rows) m r wanted → WantsAt w (take i rows) m (drop i rows) 0 wanted
+pub wants-here : (w : Workload) (rows : List Row) (i : ℕ) (r : Row) (m : List ℕ) (wanted : Wanted) → i < length rows → r ≡ get_or rows i r
+    → WantsOf w (take i rows) m r wanted → WantsAt w (take i rows) m (drop i rows) 0 wanted
 wants-here w rows i r m wanted lt at wrong =
     let d : drop i rows ≡ r ∷ drop (i + 1) rows = drop_more rows i r lt ∙ ap (λ x. x ∷ drop (i + 1) rows) (sym at) in
     subst (λ l. WantsAt w (take i rows) m l 0 wanted) (sym d) wrong

@@ -17,7 +17,9 @@ long-title d w v rest lt = let s = some-left rest lt in ap (λ ws. step_by Title
 pub word-line : (d : Reading) (w rest : List ℕ) → 0 < length rest → step_by Words d (w ∷ words_left rest) ≡ one_word d (w ∷ words_left rest)
 word-line d w rest lt = let s = some-left rest lt in ap (λ ws. step_by Words d (w ∷ ws)) s.2 ∙ ap (λ ws. one_word d (w ∷ ws)) (sym s.2)
 
-by-mem : (d : Reading) (w : List ℕ) (ws : List (List ℕ)) (b : Bool) → bytes_eq w (codes "mem") ≡ b → (if bytes_eq w (codes "mem") then one_word d (w ∷ ws) else one_row d (w ∷ ws)) ≡ (if b then one_word d (w ∷ ws) else one_row d (w ∷ ws))
+by-mem : (d : Reading) (w : List ℕ) (ws : List (List ℕ)) (b : Bool) → bytes_eq w (codes "mem") ≡ b
+    → (if bytes_eq w (codes "mem") then one_word d (w ∷ ws) else one_row d (w ∷ ws))
+    ≡ (if b then one_word d (w ∷ ws) else one_row d (w ∷ ws))
 by-mem d w ws b e = ap (λ c. if c then one_word d (w ∷ ws) else one_row d (w ∷ ws)) e
 
 pub mem-line : (d : Reading) (w rest : List ℕ) → 0 < length rest → bytes_eq w (codes "mem") ≡ true → step_by Rows d (w ∷ words_left rest) ≡ one_word d (w ∷ words_left rest)

@@ -136,7 +136,8 @@ kind_of-letter W = refl
 kind_of-letter R = refl
 kind_of-letter C = refl
 
-row-by : (kw pw cw sw : List ℕ) (outs : List (List ℕ)) (r : Row) → kind_of kw ≡ Some r.kind → number_of pw ≡ Some r.place → number_of cw ≡ Some r.caller → number_of sw ≡ Some r.seq → outputs_of outs ≡ Some (r.replies, r.emits)
+row-by : (kw pw cw sw : List ℕ) (outs : List (List ℕ)) (r : Row) → kind_of kw ≡ Some r.kind → number_of pw ≡ Some r.place
+    → number_of cw ≡ Some r.caller → number_of sw ≡ Some r.seq → outputs_of outs ≡ Some (r.replies, r.emits)
     → row_of (kw ∷ pw ∷ cw ∷ sw ∷ codes ":" ∷ outs) ≡ Some r
 row-by kw pw cw sw outs r k p c s o = rw (k, p, c, s, o) refl
 
@@ -197,7 +198,8 @@ IsOpen After = ⊥
 told-above : (d : Reading) (p : ℕ × ℕ) → above_last d.memory p.0 ≡ true → told d p ≡ Some (at Words d.rows (d.memory ++ p ∷ []))
 told-above d p above = rw above refl
 
-word-step : (place : NextReportLine) (d : Reading) (p : ℕ × ℕ) → IsOpen place → IsWord p.0 → IsWord p.1 → 0 < p.1 → above_last d.memory p.0 ≡ true → step_by place d (memory_words p) ≡ Some (at Words d.rows (d.memory ++ p ∷ []))
+word-step : (place : NextReportLine) (d : Reading) (p : ℕ × ℕ) → IsOpen place → IsWord p.0 → IsWord p.1 → 0 < p.1
+    → above_last d.memory p.0 ≡ true → step_by place d (memory_words p) ≡ Some (at Words d.rows (d.memory ++ p ∷ []))
 word-step Title d p opened a v some above = absurd opened
 word-step Rows d p opened a v some above = ap (λ o. o >>= told d) (memory_word_of-words p a v some) ∙ told-above d p above
 word-step Words d p opened a v some above = ap (λ o. o >>= told d) (memory_word_of-words p a v some) ∙ told-above d p above

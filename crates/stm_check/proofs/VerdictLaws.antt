@@ -122,7 +122,10 @@ numbered-one above r h next n = rw (rows-append n above (r ∷ [])) (by (r.calle
         let l = length-append (rows_of n above) (r ∷ []) in
         let longer : suc (length (rows_of n above)) ≡ length (rows_of n above ++ r ∷ []) = omega arith in
         let s : r.seq ≡ length (rows_of n above) = next ∙ ap (λ k. length (rows_of k above)) q in
-        map-push (rows_of n above) r ∙ (ap (λ l. l ++ r.seq ∷ []) (h n) ∙ (ap (λ k. counted 0 (length (rows_of n above)) ++ k ∷ []) s ∙ (sym (counted-push 0 (length (rows_of n above)) (length (rows_of n above)) (omega arith)) ∙ ap (counted 0) longer)))
+        map-push (rows_of n above) r
+        ∙ (ap (λ l. l ++ r.seq ∷ []) (h n)
+        ∙ (ap (λ k. counted 0 (length (rows_of n above)) ++ k ∷ []) s
+        ∙ (sym (counted-push 0 (length (rows_of n above)) (length (rows_of n above)) (omega arith)) ∙ ap (counted 0) longer)))
     by false e = ap (map (λ (x : Row). x.seq)) (append-nil (rows_of n above)) ∙ (h n ∙ ap (λ l. counted 0 (length l)) (sym (append-nil (rows_of n above))))
 
 -- what rows without a fault are
@@ -215,7 +218,9 @@ next-of w above r rs h =
     let a = at.0 in let b = at.1 in
     (omega arith, omega arith)
 
-right-of : (w : Workload) (above : List Row) (m : List ℕ) (rs : List Row) (last : List ℕ) → Ordered (above ++ rs) → Apart (writers (above ++ rs)) → Complete w (above ++ rs) → Replay (regions_of w.header) (script_of w.items) m rs last → AreRight w above m rs last
+right-of : (w : Workload) (above : List Row) (m : List ℕ) (rs : List Row) (last : List ℕ) → Ordered (above ++ rs)
+    → Apart (writers (above ++ rs)) → Complete w (above ++ rs) → Replay (regions_of w.header) (script_of w.items) m rs last
+    → AreRight w above m rs last
 right-of w above m [] last o a c replay = replay
 right-of w above m (r ∷ rs) last o a c replay =
     let next = next-of w above r rs c in

@@ -1,5 +1,5 @@
 -- What is wanted is of a row that has a fault.
-use Rattle.std.proofs.Common.{ℕ, zero, suc, ◌≡◌, List, [], ◌∷◌, ◌++◌, Bool, true, false, refl, sym, ap, ◌∙◌}
+use Rattle.std.proofs.Common.{ℕ, zero, suc, ◌≡◌, List, [], ◌∷◌, ◌++◌, Bool, true, false, refl, sym, ◌∙◌}
 use Rattle.tx_regions.specs.declared.region.Region.{Region}
 use Rattle.stm_script.specs.declared.op.Op.{Op}
 use Rattle.stm_script.specs.declared.report.Kind.{Kind}
@@ -7,7 +7,7 @@ use Rattle.stm_script.specs.declared.report.Kind.TheVariants.{W, R, C}
 use Rattle.stm_script.specs.declared.report.Row.{Row}
 use Rattle.stm_script.specs.declared.workload.Workload.{Workload}
 use Rattle.stm_script.specs.Reports.{RowFits}
-use Rattle.stm_script.specs.Scripts.{run_row, KindFits}
+use Rattle.stm_script.specs.Scripts.{run_row}
 use Rattle.stm_check.specs.Runs.{CanEnd, ended_as, told_by}
 use Rattle.stm_check.specs.Verdicts.{IsRight, IsWrongAt, memory_after}
 use Rattle.stm_check.specs.Wanted.{IsWantedRow, WantsOf, WantsAt}

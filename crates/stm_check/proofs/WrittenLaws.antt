@@ -120,7 +120,12 @@ row-says (k ∷ p ∷ c ∷ s ∷ []) = tt
 row-says (k ∷ p ∷ c ∷ s ∷ colon ∷ ws) =
     let Q : Row → Type 0 = IsRow (k ∷ p ∷ c ∷ s ∷ colon ∷ ws) in
     then-says (λ x. k ≡ letter_of x) Q (kind_of k)
-    (λ kind. number_of p >>= λ place. number_of c >>= λ caller. number_of s >>= λ seq. named (codes ":") colon (outputs_of ws >>= λ o. Some (record { kind = kind; place = place; caller = caller; seq = seq; replies = o.0; emits = o.1 })))
+    (λ kind.
+    number_of p >>= λ place.
+    number_of c >>= λ caller.
+    number_of s >>= λ seq.
+    named (codes ":") colon
+    (outputs_of ws >>= λ o. Some (record { kind = kind; place = place; caller = caller; seq = seq; replies = o.0; emits = o.1 })))
     (kind-says k)
     (λ kind hk. then-says (IsNumber p) Q (number_of p)
     (λ place. number_of c >>= λ caller. number_of s >>= λ seq. named (codes ":") colon (outputs_of ws >>= λ o. Some (record { kind = kind; place = place; caller = caller; seq = seq; replies = o.0; emits = o.1 })))
@@ -212,7 +217,8 @@ row-grows d ws r place s h =
 pair-regroup : (t a b c : List ℕ) → t ++ (a ++ (b ++ (c ++ []))) ≡ (t ++ (a ++ b)) ++ c
 pair-regroup t a b c = simp (append_assoc, append-nil)
 
-pair-grows : (d : Reading) (ws : List (List ℕ)) (p : ℕ × ℕ) → IsReadable (report_so_far d) → IsPair ws p → above_last d.memory p.0 ≡ true → Grows Words d ws (record { place = Words; rows = d.rows; memory = d.memory ++ p ∷ [] })
+pair-grows : (d : Reading) (ws : List (List ℕ)) (p : ℕ × ℕ) → IsReadable (report_so_far d) → IsPair ws p → above_last d.memory p.0 ≡ true
+    → Grows Words d ws (record { place = Words; rows = d.rows; memory = d.memory ++ p ∷ [] })
 pair-grows d ws p s h above = (
   ap (λ t. codes "report 1\n" ++ (row_lines d.rows ++ t)) (memory_lines-append d.memory (p ∷ []))
       ∙ (pair-regroup (codes "report 1\n") (row_lines d.rows) (memory_lines d.memory) (memory_line p) ∙ ap (λ t. text_at Words d ++ t) (memory_line-words p ∙ ap line (sym h.0))),

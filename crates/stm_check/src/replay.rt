@@ -52,10 +52,12 @@ fn next_of<'a>(
     above: &[Row],
     row: &Row,
 ) -> Option<(usize, &'a Script)>
-    requires items { ItemsFit (regions_of workload.now.header) workload.now.header workload.now.items }
+    requires items { ItemsFit (regions_of workload.now.header) workload.now.header
+        workload.now.items }
     requires stands { StandsAfter workload.now above.now standing.now }
     ensures some { IfSome result (λ n. IsNext workload.now above.now row.now n.0 n.1.now) }
-    ensures none { IfNone result (row.now.seq ≡ length (rows_of row.now.caller above.now) → row.now.seq < length (scripts_of row.now.caller workload.now.items) → ⊥) }
+    ensures none { IfNone result (row.now.seq ≡ length (rows_of row.now.caller above.now)
+        → row.now.seq < length (scripts_of row.now.caller workload.now.items) → ⊥) }
 {
     if standing.cursors.len() <= row.caller {
         return None;
@@ -72,7 +74,9 @@ fn pass(standing: &mut Standing, row: &Row, item: usize)
     requires caller { row.now.caller < length standing.old.cursors.items }
     requires seq { row.now.seq + 1 < 2 ^ 64 }
     ensures ledger { standing.new.ledger ≡ standing.old.ledger }
-    ensures cursors { standing.new.cursors.items ≡ slice_set standing.old.cursors.items row.now.caller (record { item = item; seq = row.now.seq + 1 }) }
+    ensures cursors { standing.new.cursors.items
+        ≡ slice_set standing.old.cursors.items row.now.caller
+        (record { item = item; seq = row.now.seq + 1 }) }
     ensures wrote { standing.new.wrote ≡ wrote_after row.now.kind row.now.place standing.old.wrote }
 {
     standing.cursors[row.caller] = Cursor {
@@ -87,7 +91,8 @@ fn pass(standing: &mut Standing, row: &Row, item: usize)
 
 /// How many rows a caller has above.
 fn rows_had(standing: &Standing, caller: usize) -> usize
-    ensures { (w : Workload) (above : List Row) → StandsAfter w above standing.now → result ≡ length (rows_of caller above) }
+    ensures { (w : Workload) (above : List Row) → StandsAfter w above standing.now
+        → result ≡ length (rows_of caller above) }
 {
     match standing.cursors.get(caller) {
         Some(cursor) => cursor.seq,
@@ -108,13 +113,20 @@ fn wanted_for(
     above: &[Row],
     row: &Row,
 ) -> Result<Option<Wanted>, Memory>
-    requires items { ItemsFit (regions_of workload.now.header) workload.now.header workload.now.items }
+    requires items { ItemsFit (regions_of workload.now.header) workload.now.header
+        workload.now.items }
     requires regions { regions.now ≡ regions_of workload.now.header }
     requires count { length above.now + 1 < 2 ^ 64 }
     requires stands { StandsAfter workload.now above.now standing.old }
-    ensures wanted { IfOk result (λ o. MatchOption o (IsRight workload.now above.now (openings standing.old.ledger) row.now) (WantsOf workload.now above.now (openings standing.old.ledger) row.now)) }
-    ensures stands { IfOk result (λ o. o ≡ None → StandsAfter workload.now (above.now ++ row.now ∷ []) standing.new) }
-    ensures memory { IfOk result (λ o. o ≡ None → openings standing.new.ledger ≡ memory_after workload.now (openings standing.old.ledger) row.now) }
+    ensures wanted { IfOk result (λ o.
+        MatchOption o (IsRight workload.now above.now (openings standing.old.ledger) row.now)
+        (WantsOf workload.now above.now (openings standing.old.ledger) row.now)) }
+    ensures stands { IfOk result (λ o.
+        o ≡ None → StandsAfter workload.now (above.now ++ row.now ∷ []) standing.new) }
+    ensures memory { IfOk result (λ o.
+        o ≡ None
+        → openings standing.new.ledger
+        ≡ memory_after workload.now (openings standing.old.ledger) row.now) }
 {
     if !comes_after(above, row) {
         return Ok(Some(Wanted::Later));
@@ -154,9 +166,12 @@ fn start(alloc: Global, workload: &Workload) -> Result<Standing, Memory>
 
 /// The first caller with a transaction that has no row, and the number of that one.
 fn missing(workload: &Workload, standing: &Standing, above: &[Row]) -> Option<(usize, usize)>
-    requires items { ItemsFit (regions_of workload.now.header) workload.now.header workload.now.items }
+    requires items { ItemsFit (regions_of workload.now.header) workload.now.header
+        workload.now.items }
     requires stands { StandsAfter workload.now above.now standing.now }
-    ensures { MatchOption result (AllHaveRows workload.now above.now) (λ t. (t.1 ≡ length (rows_of t.0 above.now)) × (t.1 < length (scripts_of t.0 workload.now.items))) }
+    ensures { MatchOption result (AllHaveRows workload.now above.now) (λ t.
+        (t.1 ≡ length (rows_of t.0 above.now))
+        × (t.1 < length (scripts_of t.0 workload.now.items))) }
 {
     let items = workload.items.as_slice();
     for caller in 0..standing.cursors.len() {
@@ -212,9 +227,11 @@ fn judge_end(
     report: &Report,
     standing: &Standing,
 ) -> Result<Judged, Memory>
-    requires items { ItemsFit (regions_of workload.now.header) workload.now.header workload.now.items }
+    requires items { ItemsFit (regions_of workload.now.header) workload.now.header
+        workload.now.items }
     requires stands { StandsAfter workload.now report.now.rows standing.now }
-    requires right { AreRight workload.now [] (zeros workload.now.header.words) report.now.rows (openings standing.now.ledger) }
+    requires right { AreRight workload.now [] (zeros workload.now.header.words) report.now.rows
+        (openings standing.now.ledger) }
     ensures verdict { IfOk result (λ j. Judges workload.now report.now j.verdict) }
     ensures wanted { IfOk result (λ j. Wants workload.now report.now j.verdict j.wanted) }
 {
@@ -246,7 +263,8 @@ fn judge_end(
 /// # Errors
 /// Memory, where it is refused.
 pub fn replay(alloc: Global, workload: &Workload, report: &Report) -> Result<Judged, Memory>
-    requires items { ItemsFit (regions_of workload.now.header) workload.now.header workload.now.items }
+    requires items { ItemsFit (regions_of workload.now.header) workload.now.header
+        workload.now.items }
     ensures verdict { IfOk result (λ j. Judges workload.now report.now j.verdict) }
     ensures wanted { IfOk result (λ j. Wants workload.now report.now j.verdict j.wanted) }
 {

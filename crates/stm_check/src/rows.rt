@@ -46,7 +46,8 @@ pub fn comes_after(above: &[Row], row: &Row) -> bool
 
 /// Whether a row isn't a W row at the place of the W row above.
 pub fn is_apart(wrote: Option<u64>, row: &Row) -> bool
-    ensures { Decides result (by_kind row.now.kind (IfSome wrote (λ place. place ≢ row.now.place)) (Unit {0})) }
+    ensures { Decides result
+        (by_kind row.now.kind (IfSome wrote (λ place. place ≢ row.now.place)) (Unit {0})) }
 {
     match row.kind {
         Kind::R | Kind::C => true,

@@ -75,7 +75,8 @@ fn ended_as(kind: Kind, wrote: bool) -> Kind
 
 /// The transaction ends: the memory takes what it wrote, or not where it was cancelled.
 fn end(ledger: &mut Ledger, kind: Kind)
-    ensures left { openings ledger.new ≡ left_by kind (openings ledger.old) (own_writes ledger.old) }
+    ensures left { openings ledger.new
+        ≡ left_by kind (openings ledger.old) (own_writes ledger.old) }
     ensures settled { own_writes ledger.new ≡ [] }
     ensures length { length ledger.new ≡ length ledger.old }
 {
@@ -100,9 +101,12 @@ fn run(
     requires well { AllWellFormed regions.now (openings ledger.old) }
     requires within { ScriptFits regions.now (length ledger.old) script.now }
     requires ends { CanEnd kind script.now }
-    ensures replies { IfOk result (λ r. r.replies ≡ (run_row regions.now kind script.now (openings ledger.old)).replies) }
-    ensures emits { IfOk result (λ r. r.emits ≡ (run_row regions.now kind script.now (openings ledger.old)).emits) }
-    ensures wrote { IfOk result (λ r. r.wrote ≡ (run_row regions.now kind script.now (openings ledger.old)).wrote) }
+    ensures replies { IfOk result (λ r.
+        r.replies ≡ (run_row regions.now kind script.now (openings ledger.old)).replies) }
+    ensures emits { IfOk result (λ r.
+        r.emits ≡ (run_row regions.now kind script.now (openings ledger.old)).emits) }
+    ensures wrote { IfOk result (λ r.
+        r.wrote ≡ (run_row regions.now kind script.now (openings ledger.old)).wrote) }
     ensures after { OnOk result (IsAfter regions.now script.now kind ledger.old ledger.new) }
 {
     ledger.has_words();
@@ -123,7 +127,8 @@ fn run(
 
 /// Whether a row tells what its script gave.
 fn is_told(ran: &Ran, row: &Row) -> bool
-    ensures { Decides result ((row.now.replies ≡ ran.now.replies) × (row.now.emits ≡ ran.now.emits) × WroteAs row.now.kind ran.now.wrote) }
+    ensures { Decides result ((row.now.replies ≡ ran.now.replies) × (row.now.emits ≡ ran.now.emits)
+        × WroteAs row.now.kind ran.now.wrote) }
 {
     if !wrote_as(row.kind, ran.wrote) {
         return false;
@@ -149,8 +154,11 @@ pub fn wanted_row(
     requires settled { own_writes ledger.old ≡ [] }
     requires well { AllWellFormed regions.now (openings ledger.old) }
     requires within { ScriptFits regions.now (length ledger.old) script.now }
-    ensures wanted { IfOk result (λ o. MatchOption o (RowFits regions.now script.now row.now (openings ledger.old)) (IsWantedFor regions.now script.now (openings ledger.old) row.now)) }
-    ensures after { IfOk result (λ o. o ≡ None → IsAfter regions.now script.now row.now.kind ledger.old ledger.new) }
+    ensures wanted { IfOk result (λ o.
+        MatchOption o (RowFits regions.now script.now row.now (openings ledger.old))
+        (IsWantedFor regions.now script.now (openings ledger.old) row.now)) }
+    ensures after { IfOk result (λ o.
+        o ≡ None → IsAfter regions.now script.now row.now.kind ledger.old ledger.new) }
 {
     if !can_end(row.kind, script) {
         // a transaction that can't be cancelled commits

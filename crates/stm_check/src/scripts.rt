@@ -11,7 +11,9 @@ use stm_script::workload::Item;
 pub fn next_script(items: &[Item], caller: usize, from: usize) -> Option<(usize, &Script)>
     requires { from ≤ length items.now }
     ensures within { IfSome result (λ next. next.0 ≤ length items.now) }
-    ensures script { MatchOption result (scripts_of caller (drop from items.now) ≡ []) (λ next. scripts_of caller (drop from items.now) ≡ next.1.now ∷ scripts_of caller (drop next.0 items.now)) }
+    ensures script { MatchOption result (scripts_of caller (drop from items.now) ≡ []) (λ next.
+        scripts_of caller (drop from items.now)
+        ≡ next.1.now ∷ scripts_of caller (drop next.0 items.now)) }
 {
     for i in from..items.len() {
         match &items[i] {
@@ -31,7 +33,8 @@ pub fn next_script(items: &[Item], caller: usize, from: usize) -> Option<(usize,
 
 /// Whether a script may be cancelled: no irrev stands before its first cancel.
 pub fn may_cancel(ops: &[Op]) -> bool
-    ensures { Decides result ((has_cancel ops.now ≡ true) × (has_irrev (before_cancel ops.now) ≡ false)) }
+    ensures { Decides result
+        ((has_cancel ops.now ≡ true) × (has_irrev (before_cancel ops.now) ≡ false)) }
 {
     for op in ops {
         if op.is_cancel() {

@@ -20,7 +20,9 @@ use stm_profile::policy::Policy;
 /// What the words ask for, the first of them the program's name; `None` where they aren't in the grammar, also
 /// where they call for help. Memory may be refused.
 pub fn read_words(alloc: Global, words: &[&str]) -> Result<Option<Command>, Memory>
-    ensures { IfOk result (λ r. MatchOption r ((command : Command) → Asks (texts_of words.now) command → ⊥) (Asks (texts_of words.now))) }
+    ensures { IfOk result (λ r.
+        MatchOption r ((command : Command) → Asks (texts_of words.now) command → ⊥)
+        (Asks (texts_of words.now))) }
 {
     match bench_command(alloc)?.try_get_matches_from(words) {
         Ok(matches) => Ok(command_of(&matches)),
@@ -33,7 +35,9 @@ pub fn read_words(alloc: Global, words: &[&str]) -> Result<Option<Command>, Memo
 
 /// What the subcommand that clap found asks for.
 fn command_of(matches: &ArgMatches<'_>) -> Option<Command>
-    ensures { MatchOption result ((command : Command) → AsksIn (subcommand_rows_of matches.now) command → ⊥) (AsksIn (subcommand_rows_of matches.now)) }
+    ensures { MatchOption result
+        ((command : Command) → AsksIn (subcommand_rows_of matches.now) command → ⊥)
+        (AsksIn (subcommand_rows_of matches.now)) }
 {
     match matches.subcommand() {
         Some(("run", found)) => Some(Command::Run {
@@ -55,7 +59,9 @@ fn command_of(matches: &ArgMatches<'_>) -> Option<Command>
 
 /// The policy of `run`.
 fn policy_of(found: &ArgMatches<'_>) -> Option<Policy>
-    ensures { MatchOption result ((policy : Policy) → NamesPolicy (first_of (codes "policy") (rows_of (found_of found.now))) policy → ⊥) (NamesPolicy (first_of (codes "policy") (rows_of (found_of found.now)))) }
+    ensures { MatchOption result ((policy : Policy)
+        → NamesPolicy (first_of (codes "policy") (rows_of (found_of found.now))) policy → ⊥)
+        (NamesPolicy (first_of (codes "policy") (rows_of (found_of found.now)))) }
 {
     match text_of(found, "policy") {
         None => Some(Policy::Fixed),
@@ -68,7 +74,9 @@ fn policy_of(found: &ArgMatches<'_>) -> Option<Policy>
 
 /// The transactions, the callers and the seed of `gen`.
 fn gen_of(found: &ArgMatches<'_>) -> Option<(u32, u32, u64)>
-    ensures { MatchOption result ((n t seed : ℕ) → IsGen (rows_of (found_of found.now)) n t seed → ⊥) (λ g. IsGen (rows_of (found_of found.now)) g.0 g.1 g.2) }
+    ensures { MatchOption result
+        ((n t seed : ℕ) → IsGen (rows_of (found_of found.now)) n t seed → ⊥) (λ g.
+        IsGen (rows_of (found_of found.now)) g.0 g.1 g.2) }
 {
     let transactions = size_of(found, "N", MOST_TRANSACTIONS)?;
     let callers = size_of(found, "T", MAX_CALLERS as u32)?;
@@ -78,7 +86,9 @@ fn gen_of(found: &ArgMatches<'_>) -> Option<(u32, u32, u64)>
 
 /// The number of this name, from 1 to `most`.
 fn size_of(found: &ArgMatches<'_>, name: &str, most: u32) -> Option<u32>
-    ensures { MatchOption result ((n : ℕ) → IsUpTo most n → first_of name.now (rows_of (found_of found.now)) ≢ Some (decimal n)) (λ n. IsUpTo most n × (first_of name.now (rows_of (found_of found.now)) ≡ Some (decimal n))) }
+    ensures { MatchOption result ((n : ℕ) → IsUpTo most n
+        → first_of name.now (rows_of (found_of found.now)) ≢ Some (decimal n)) (λ n.
+        IsUpTo most n × (first_of name.now (rows_of (found_of found.now)) ≡ Some (decimal n))) }
 {
     number_up_to(most, text_of(found, name)?)
 }

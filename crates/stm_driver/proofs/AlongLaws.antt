@@ -181,17 +181,23 @@ module _ (regions : List Region) (script : Row → List Op) (es : List Entry) (o
 
   -- what is to be shown of the rows that are left
   abbrev Rest : List Row → Type 0
-  Rest rows = (m : List ℕ) (a : ℕ) (last : List ℕ) → m ≡ memory_at a es opening → AllFrom a rows → Ascends a (writers rows) → Placed a (writers rows) (times es) → All IsWritten rows → Ordered rows → Replay regions script m rows last → GoesAlong regions script es opening m rows
+  Rest rows =
+      (m : List ℕ) (a : ℕ) (last : List ℕ) → m ≡ memory_at a es opening → AllFrom a rows → Ascends a (writers rows)
+      → Placed a (writers rows) (times es) → All IsWritten rows → Ordered rows → Replay regions script m rows last
+      → GoesAlong regions script es opening m rows
 
   -- another row is run on the memory at its place, and leaves it
-  here : (r : Row) (k : Kind) → r.kind ≡ k → code k ≡ 1 → (rows : List Row) (m : List ℕ) (a : ℕ) → m ≡ memory_at a es opening → a ≤ r.place → Ascends a (writers rows) → Placed a (writers rows) (times es) → AllAfter r rows → m ≡ memory_at r.place es opening
+  here : (r : Row) (k : Kind) → r.kind ≡ k → code k ≡ 1 → (rows : List Row) (m : List ℕ) (a : ℕ) → m ≡ memory_at a es opening → a ≤ r.place
+      → Ascends a (writers rows) → Placed a (writers rows) (times es) → AllAfter r rows → m ≡ memory_at r.place es opening
   here r k is one rows m a at le asc placed after =
       at ∙ same-memory a r.place es opening (apart-from a r.place (writers rows) (times es) le asc (later-writers r rows (ap code is ∙ one) after) placed)
 
   quiet : (r : Row) (k : Kind) → r.kind ≡ k → code k ≡ 1 → (m : List ℕ) → RowFits regions (script r) r m → (run_row regions k (script r) m).memory ≡ m
   quiet r k is one m fits = row-quiet regions k (script r) m one (subst (λ j. KindFits j (script r) (run_row regions j (script r) m).wrote) is fits.kind)
 
-  along-by : (r : Row) (k : Kind) → r.kind ≡ k → (rows : List Row) → Rest rows → (m : List ℕ) (a : ℕ) (last : List ℕ) → m ≡ memory_at a es opening → AllFrom a (r ∷ rows) → Ascends a (writer_to k r.place (writers rows)) → Placed a (writer_to k r.place (writers rows)) (times es) → All IsWritten (r ∷ rows) → Ordered (r ∷ rows)
+  along-by : (r : Row) (k : Kind) → r.kind ≡ k → (rows : List Row) → Rest rows → (m : List ℕ) (a : ℕ) (last : List ℕ)
+      → m ≡ memory_at a es opening → AllFrom a (r ∷ rows) → Ascends a (writer_to k r.place (writers rows))
+      → Placed a (writer_to k r.place (writers rows)) (times es) → All IsWritten (r ∷ rows) → Ordered (r ∷ rows)
       → RowFits regions (script r) r m → Replay regions script (run_row regions k (script r) m).memory rows last
       → IsAt regions script es opening k r.place m (run_row regions k (script r) m).memory × GoesAlong regions script es opening (run_row regions k (script r) m).memory rows
   along-by r W is rows rest m a last at from asc placed all ord fits replay =
@@ -237,18 +243,24 @@ ascends-zero floor (t ∷ ts) asc = (let lt = asc.0 in omega (arith, lt), asc.1)
 
 module _ (good : List ℕ → Type 0) (w : Workload) (es : List Entry) (clock : ℕ) (parts : List Part) (report : Report) (g : IsGathered good w es clock parts report) where
   -- the W row of an entry
-  written : (r : Row) (e : Entry) → Contains es e → RowOf good (length (zeros w.header.words)) (regions_of w.header) (script_of w.items r) r e → IsWritten (regions_of w.header) (script_of w.items) es (zeros w.header.words) r
+  written : (r : Row) (e : Entry) → Contains es e
+      → RowOf good (length (zeros w.header.words)) (regions_of w.header) (script_of w.items r) r e
+      → IsWritten (regions_of w.header) (script_of w.items) es (zeros w.header.words) r
   written r e at row is =
       let opening = zeros w.header.words in
       let m = memory_at (e.time - 1) es opening in
       let reads : Explains m e.reads = All-contains (λ x. Explains (memory_at (x.time - 1) es opening) x.reads) es e g.legal.reads at in
       let left = row.left m (g.legal.good_always (e.time - 1)) (length-memory_at (e.time - 1) es opening) reads in
-      let step : memory_at e.time es opening ≡ overlay m e.writes = subst (λ x. memory_at x.time es opening ≡ overlay (memory_at (x.time - 1) es opening) x.writes) at.2 (memory_at-entry w.header.clock es opening at.0 e g.legal.ascending at.1) in
+      let step : memory_at e.time es opening ≡ overlay m e.writes = subst
+      (λ x. memory_at x.time es opening ≡ overlay (memory_at (x.time - 1) es opening) x.writes) at.2
+      (memory_at-entry w.header.clock es opening at.0 e g.legal.ascending at.1) in
       ap (λ k. (run_row (regions_of w.header) k (script_of w.items r) (memory_at (r.place - 1) es opening)).memory) (sym is)
       ∙ (ap (λ t. (run_row (regions_of w.header) r.kind (script_of w.items r) (memory_at (t - 1) es opening)).memory) (sym row.time)
       ∙ (left ∙ (sym step ∙ ap (λ t. memory_at t es opening) row.time)))
 
-  written-in : (p : Part) (r : Row) → PartIn good w es p → RowIn good (zeros w.header.words) (regions_of w.header) (script_of w.items) p.made p.seen p.front r → IsWritten (regions_of w.header) (script_of w.items) es (zeros w.header.words) r
+  written-in : (p : Part) (r : Row) → PartIn good w es p
+      → RowIn good (zeros w.header.words) (regions_of w.header) (script_of w.items) p.made p.seen p.front r
+      → IsWritten (regions_of w.header) (script_of w.items) es (zeros w.header.words) r
   written-in p r h row is =
       let at = subst (λ k. by_kind k ((e : Entry) × Contains p.made e × RowOf good (length (zeros w.header.words)) (regions_of w.header) (script_of w.items r) r e)
       ((r.place ≤ p.front) × RowFits (regions_of w.header) (script_of w.items r) r (memory_at r.place p.seen (zeros w.header.words)))) is row in
@@ -267,4 +279,6 @@ module _ (good : List ℕ → Type 0) (w : Workload) (es : List Entry) (clock : 
       let asc : Ascends 0 (times es) = ascends-zero w.header.clock (times es) (ascends-times w.header.clock es g.legal.ascending) in
       let all = All-permutation (IsWritten (regions_of w.header) (script_of w.items) es (zeros w.header.words)) (all_rows parts) report.rows g.moved (all-written parts g.each) in
       let start : zeros w.header.words ≡ memory_at 0 es (zeros w.header.words) = sym (memory_at-early 0 w.header.clock es (zeros w.header.words) (omega arith) g.legal.ascending) in
-      along (regions_of w.header) (script_of w.items) es (zeros w.header.words) report.rows (zeros w.header.words) 0 replays.last start (from-zero report.rows) (subst (Ascends 0) (sym times_are) asc) (subst (λ ws. Placed 0 ws (times es)) (sym times_are) (placed-all 0 (times es))) all replays.ordered replays.replay
+      along (regions_of w.header) (script_of w.items) es (zeros w.header.words) report.rows (zeros w.header.words) 0 replays.last start
+      (from-zero report.rows) (subst (Ascends 0) (sym times_are) asc)
+      (subst (λ ws. Placed 0 ws (times es)) (sym times_are) (placed-all 0 (times es))) all replays.ordered replays.replay

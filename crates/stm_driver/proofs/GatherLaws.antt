@@ -41,7 +41,10 @@ gone-one from left to more m =
 
 -- two lists change places
 past : (l x rest : List Row) → IsPermutation (l ++ (x ++ rest)) (x ++ (l ++ rest))
-past l x rest = subst (λ k. IsPermutation k (x ++ (l ++ rest))) (append_assoc l x rest) (subst (IsPermutation ((l ++ x) ++ rest)) (append_assoc x l rest) (IsPermutation-append_left rest (l ++ x) (x ++ l) (IsPermutation-append_comm l x)))
+past l x rest =
+    subst (λ k. IsPermutation k (x ++ (l ++ rest))) (append_assoc l x rest)
+    (subst (IsPermutation ((l ++ x) ++ rest)) (append_assoc x l rest)
+    (IsPermutation-append_left rest (l ++ x) (x ++ l) (IsPermutation-append_comm l x)))
 
 -- list n first
 first : (ls : List (List Row)) (n : ℕ) (l : List Row) → n < length ls → IsPermutation (joined (set ls n l)) (l ++ joined (set ls n []))
@@ -53,13 +56,17 @@ first (k ∷ ls) (suc n) l lt =
     (past k l (joined (set ls n [])))
 
 -- list n has given some rows: all are still there
-pub moves-some : (ls : List (List Row)) (n : ℕ) (d left to more all : List Row) → n < length ls → MovesSome (slice_index_or ls n d) left to more → IsPermutation all (to ++ joined ls) → IsPermutation all (more ++ joined (set ls n left))
+pub moves-some : (ls : List (List Row)) (n : ℕ) (d left to more all : List Row) → n < length ls
+    → MovesSome (slice_index_or ls n d) left to more → IsPermutation all (to ++ joined ls)
+    → IsPermutation all (more ++ joined (set ls n left))
 moves-some ls n d left to more all lt m before =
     let was = slice_index_or ls n d in
     let rest = joined (set ls n []) in
     let here : IsPermutation (joined ls) (was ++ rest) = subst (λ k. IsPermutation (joined k) (was ++ rest)) (set-get_or ls n d) (first ls n was lt) in
     let now : IsPermutation ((to ++ was) ++ rest) ((more ++ left) ++ rest) = IsPermutation-append_left rest (to ++ was) (more ++ left) m.moved in
-    let one : IsPermutation all ((to ++ was) ++ rest) = subst (IsPermutation all) (sym (append_assoc to was rest)) (IsPermutation-trans all (to ++ joined ls) (to ++ (was ++ rest)) before (IsPermutation-append_right to (joined ls) (was ++ rest) here)) in
+    let one : IsPermutation all ((to ++ was) ++ rest) = subst (IsPermutation all) (sym (append_assoc to was rest))
+    (IsPermutation-trans all (to ++ joined ls) (to ++ (was ++ rest)) before (IsPermutation-append_right to (joined ls) (was ++ rest) here))
+    in
     let two : IsPermutation all (more ++ (left ++ rest)) = subst (IsPermutation all) (append_assoc more left rest) (IsPermutation-trans all ((to ++ was) ++ rest) ((more ++ left) ++ rest) one now) in
     IsPermutation-trans all (more ++ (left ++ rest)) (more ++ joined (set ls n left)) two
     (IsPermutation-append_right more (left ++ rest) (joined (set ls n left)) (IsPermutation-sym (joined (set ls n left)) (left ++ rest) (first ls n left lt)))

@@ -107,14 +107,16 @@ module _ {K : Type 0} (good : List ℕ → Type 0) (stm : Stm K) where
       ap (λ x. x ∷ ws) (i.0.still (All-head P v vs h)) ∙ ap (λ xs. v ∷ xs) (idle-still vs ws (All-tail P v vs h) i.1)
 
   -- the same of runners
-  pub next-sound : (n : ℕ) (before now : List (CachePadded (Runner K))) (d : CachePadded (Runner K)) → n < length before → n < length now → AreIdleTo good stm n (workers_in before) (workers_in now) → AreSound good stm (workers_in before)
+  pub next-sound : (n : ℕ) (before now : List (CachePadded (Runner K))) (d : CachePadded (Runner K)) → n < length before → n < length now
+      → AreIdleTo good stm n (workers_in before) (workers_in now) → AreSound good stm (workers_in before)
       → Sound good stm (worker_in (get_or now n d))
   next-sound n before now d first lt h s =
       let low = subst (λ k. n < k) (sym (workers-length before)) first in
       let less = subst (λ k. n < k) (sym (workers-length now)) lt in
       subst (Sound good stm) (sym (next-was good stm n (workers_in before) (workers_in now) (worker_in d) h) ∙ worker-at now n d less) (s n (worker_in d) low)
 
-  pub next-idle : (n : ℕ) (before now : List (CachePadded (Runner K))) (d r : CachePadded (Runner K)) → n < length now → AreIdleTo good stm n (workers_in before) (workers_in now) → MadeIdle good stm (worker_in (get_or now n d)) (worker_in r)
+  pub next-idle : (n : ℕ) (before now : List (CachePadded (Runner K))) (d r : CachePadded (Runner K)) → n < length now
+      → AreIdleTo good stm n (workers_in before) (workers_in now) → MadeIdle good stm (worker_in (get_or now n d)) (worker_in r)
       → AreIdleTo good stm (n + 1) (workers_in before) (workers_in (set now n r))
   next-idle n before now d r lt h m =
       let less = subst (λ k. n < k) (sym (workers-length now)) lt in

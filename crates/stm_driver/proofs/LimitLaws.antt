@@ -84,7 +84,9 @@ module _ {K : Type 0} (good : List ℕ → Type 0) (cut : Bool) (policy : Policy
   -- one that met the limit has fewer rows than scripts
   met-short : (n : ℕ) (r : Worker K) (clock : ℕ) → Stood good cut policy w stm sized n r → MetLimit r clock → suc (length r.rows.items) ≤ length (scripts_of n w.items)
   met-short n r clock s met =
-      let own : All (λ i. caller_in i ≡ n) r.items_left.now = subst (λ k. All (λ i. caller_in i ≡ k) r.items_left.now) (stood-caller good cut policy w stm sized n r s) (own-items good stm.config.words (caller_of r.desc.who.role) r.regions.now r.items_left.now s.sound.fits) in
+      let own : All (λ i. caller_in i ≡ n) r.items_left.now = subst (λ k. All (λ i. caller_in i ≡ k) r.items_left.now)
+      (stood-caller good cut policy w stm sized n r s)
+      (own-items good stm.config.words (caller_of r.desc.who.role) r.regions.now r.items_left.now s.sound.fits) in
       let some = left-some n r.items_left.now met.2 own in
       let todo = ap length (stood-todo good cut policy w stm sized n r s) in
       drop-some (length r.rows.items) (scripts_of n w.items) (omega arith)
@@ -117,7 +119,9 @@ module _ {K : Type 0} (good : List ℕ → Type 0) (cut : Bool) (policy : Policy
       let l = rest.left in
       record { low = rest.low; high = rest.high; short = omega (arith, one, both, short); left = omega (arith, l) }
 
-  made-total : (n : ℕ) (rs : List (Worker K)) (closed : Ended) → Each (Stood good cut policy w stm sized) n rs → All (λ (r : Worker K). r.phase ≡ Between) rs → AllTold closed n (descs_of rs) → dealt (λ (e : Entry). 1) n (length rs) closed.history ≤ length (rows_of rs)
+  made-total : (n : ℕ) (rs : List (Worker K)) (closed : Ended) → Each (Stood good cut policy w stm sized) n rs
+      → All (λ (r : Worker K). r.phase ≡ Between) rs → AllTold closed n (descs_of rs)
+      → dealt (λ (e : Entry). 1) n (length rs) closed.history ≤ length (rows_of rs)
   made-total n [] closed h between told = omega arith
   made-total n (r ∷ rs) closed h between told =
       let P : Worker K → Type 0 = λ (r : Worker K). r.phase ≡ Between in
@@ -144,7 +148,9 @@ module _ {K : Type 0} (good : List ℕ → Type 0) (cut : Bool) (policy : Policy
   enough-first most u none (inr e) = inr (e.0, none, e.1)
 
   rises-total : (each most : ℕ) → IsEnough most → most + 3 ≤ each → ((a b : ℕ) → each * (a + b) ≡ each * a + each * b) → (n : ℕ) (us rs : List (Worker K)) → StartCovered w.header.alg n us → AreCoveredFor stm us rs
-      → Each (Stood good cut policy w stm sized) n rs → All (λ (r : Worker K). r.phase ≡ Between) rs → sum_by (λ (d : Handle K). d.view.steps.rises) (descs_of rs) ≤ each * all_items n (length rs) w.items + length (first_installs w.header.alg n)
+      → Each (Stood good cut policy w stm sized) n rs → All (λ (r : Worker K). r.phase ≡ Between) rs
+      → sum_by (λ (d : Handle K). d.view.steps.rises) (descs_of rs)
+      ≤ each * all_items n (length rs) w.items + length (first_installs w.header.alg n)
   rises-total each most much wide over n [] [] starts covered h between = omega arith
   rises-total each most much wide over n [] (r ∷ rs) starts covered h between = absurd covered
   rises-total each most much wide over n (u ∷ us) [] starts covered h between = absurd covered
@@ -178,7 +184,10 @@ module _ {K : Type 0} (good : List ℕ → Type 0) (cut : Bool) (policy : Policy
           omega (arith, r, f)
 
   -- none has anything open, and one met the limit
-  pub full : Forms good w → (us rs : List (Worker K)) (ws : List ℕ) (closed : Ended) (clock : ℕ) → RanSome false AreFirst policy w closed → StartCovered w.header.alg 0 us → AreCoveredFor stm us rs → Each (Stood good cut policy w stm sized) 0 rs → All (λ (r : Worker K). r.phase ≡ Between) rs → length rs ≡ stm.config.callers → MetSome rs clock → Closes good stm.config (descs_of rs) ws closed
+  pub full : Forms good w → (us rs : List (Worker K)) (ws : List ℕ) (closed : Ended) (clock : ℕ) → RanSome false AreFirst policy w closed
+      → StartCovered w.header.alg 0 us → AreCoveredFor stm us rs → Each (Stood good cut policy w stm sized) 0 rs
+      → All (λ (r : Worker K). r.phase ≡ Between) rs → length rs ≡ stm.config.callers → MetSome rs clock
+      → Closes good stm.config (descs_of rs) ws closed
       → IsFull policy w clock closed
   full forms us rs ws closed clock ran starts covered stood between len is c =
       let met = met-first 0 rs closed clock stood c.told is in
@@ -205,7 +214,9 @@ module _ {K : Type 0} (good : List ℕ → Type 0) (cut : Bool) (policy : Policy
   found-within n (v ∷ vs) (x ∷ ws) closed clock e t (inr f) = found-within (suc n) vs ws closed clock e.1 t.1 f
 
   -- a call of one found the clock full, whatever the others have open
-  pub cut-short : Forms good w → policy ≡ w.header.policy → (begun ran : List (Worker K)) (gos : List Go) (lines : List Line) (clock : ℕ) (closed : Ended) → gos ≡ w.schedule → Begun good cut policy w stm items sized begun → Drives stm.config gos begun ran lines (Err (ClockFull clock))
+  pub cut-short : Forms good w → policy ≡ w.header.policy
+      → (begun ran : List (Worker K)) (gos : List Go) (lines : List Line) (clock : ℕ) (closed : Ended) → gos ≡ w.schedule
+      → Begun good cut policy w stm items sized begun → Drives stm.config gos begun ran lines (Err (ClockFull clock))
       → CutShort good stm ran closed → RanSome true ArePart policy w closed → IsCut w lines clock closed
   cut-short forms ruled begun ran gos lines clock closed is b drives c some =
       let found = found-within 0 ran c.after closed clock c.idle c.closes.told drives.2 in

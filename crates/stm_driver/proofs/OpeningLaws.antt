@@ -32,10 +32,15 @@ module _ {K : Type 0} (stm : Stm K) (alg : Alg) where
   new-others n (d ∷ ds) h = (h.0, h.1, new-first d h.2 h.3, long-first d h.2 h.3, new-others (suc n) ds h.4)
 
   -- after caller 0 has installed
-  pub all-new : (ds : List (Handle K)) (x o d : Handle K) → AllOpened stm 0 ds → 0 < length ds → o ≡ get_or ds 0 x → IsSameCaller o d → IsNew (alg ∷ []) (known d) → SameLengths (known o) (known d) → AllNew stm alg 0 (set ds 0 d)
+  pub all-new : (ds : List (Handle K)) (x o d : Handle K) → AllOpened stm 0 ds → 0 < length ds → o ≡ get_or ds 0 x → IsSameCaller o d
+      → IsNew (alg ∷ []) (known d) → SameLengths (known o) (known d) → AllNew stm alg 0 (set ds 0 d)
   all-new [] x o d h some is same new long = absurd (omega arith)
   all-new (c ∷ ds) x o d h some is same new long = (
-    record { table = same.table ∙ (ap (λ (q : Handle K). q.table) is ∙ h.0.table); config = ap (λ q. q.config) same.who ∙ (ap (λ (q : Handle K). q.who.config) is ∙ h.0.config); rule = ap (λ q. q.rule) same.who ∙ (ap (λ (q : Handle K). q.who.rule) is ∙ h.0.rule) },
+    record {
+      table = same.table ∙ (ap (λ (q : Handle K). q.table) is ∙ h.0.table);
+      config = ap (λ q. q.config) same.who ∙ (ap (λ (q : Handle K). q.who.config) is ∙ h.0.config);
+      rule = ap (λ q. q.rule) same.who ∙ (ap (λ (q : Handle K). q.who.rule) is ∙ h.0.rule);
+    },
     ap (λ q. q.role) same.who ∙ (ap (λ (q : Handle K). q.who.role) is ∙ h.1),
     new,
     (long.0 ∙ (ap (λ (q : Handle K). (known q).reads_limit) is ∙ (long-first c h.2 h.3).0), long.1 ∙ (ap (λ (q : Handle K). (known q).writes_limit) is ∙ (long-first c h.2 h.3).1)),
@@ -43,7 +48,8 @@ module _ {K : Type 0} (stm : Stm K) (alg : Alg) where
   )
 
   -- where it is alone, it knows the algorithm
-  pub all-know : (ds : List (Handle K)) (d : Handle K) → 0 < length ds → length ds ≡ stm.config.callers → (stm.config.callers ≡ 1 → (known d).alg ≡ alg) → All (λ (x : Handle K). stm.config.callers ≡ 1 → (known x).alg ≡ alg) (set ds 0 d)
+  pub all-know : (ds : List (Handle K)) (d : Handle K) → 0 < length ds → length ds ≡ stm.config.callers
+      → (stm.config.callers ≡ 1 → (known d).alg ≡ alg) → All (λ (x : Handle K). stm.config.callers ≡ 1 → (known x).alg ≡ alg) (set ds 0 d)
   all-know [] d some long knows = absurd (omega arith)
   all-know (c ∷ ds) d some long knows = each
     where

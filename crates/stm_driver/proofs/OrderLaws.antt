@@ -45,7 +45,10 @@ outer r x (inl h) = let a = code-small r.kind in inl (omega arith)
 outer r x (inr h) = inner r x h.0 (step (code r.kind) (code x.kind) (ordering_then (nat_cmp x.caller r.caller) (nat_cmp x.seq r.seq)) h.1)
 
 -- what the sort says of two neighbours
-pub neighbours : (r x : Row) → is_lt (ordering_then (ordering_then (ordering_then (nat_cmp x.place r.place) (nat_cmp (code x.kind) (code r.kind))) (nat_cmp x.caller r.caller)) (nat_cmp x.seq r.seq)) ≡ false → IsBefore r x
+pub neighbours : (r x : Row)
+    → is_lt (ordering_then
+    (ordering_then (ordering_then (nat_cmp x.place r.place) (nat_cmp (code x.kind) (code r.kind))) (nat_cmp x.caller r.caller))
+    (nat_cmp x.seq r.seq)) ≡ false → IsBefore r x
 neighbours r x h =
     let a = nat_cmp x.place r.place in let b = nat_cmp (code x.kind) (code r.kind) in let c = nat_cmp x.caller r.caller in let d = nat_cmp x.seq r.seq in
     let e : ordering_then (ordering_then (ordering_then a b) c) d ≡ ordering_then a (ordering_then b (ordering_then c d)) =

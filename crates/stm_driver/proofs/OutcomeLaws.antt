@@ -121,7 +121,9 @@ module _ {K : Type 0} (good : List ℕ → Type 0) (cut : Bool) (policy : Policy
     pub is : left ≡ ran
     pub turned : Turned (workers_in left)
 
-  pub done : WorkloadKeeps good w → (parts : List (List Item)) → parts ≡ parted w.header.callers w.items → (rs lent ran : List (CachePadded (Runner K))) (n : ℕ) → IsPrepared w.header policy parts stm (workers_in rs) → lent ≡ rs → length lent ≡ n
+  pub done : WorkloadKeeps good w → (parts : List (List Item)) → parts ≡ parted w.header.callers w.items
+      → (rs lent ran : List (CachePadded (Runner K))) (n : ℕ) → IsPrepared w.header policy parts stm (workers_in rs) → lent ≡ rs
+      → length lent ≡ n
       → AreSame cut (workers_in lent) (workers_in ran) → AreSound good stm (workers_in ran) → Done rs ran (take n (ran ++ drop (length ran) rs))
   done keeps parts parting rs lent ran n p same long kept sound =
       let first = begun good cut policy w stm items sized keeps parts (workers_in rs) parting p in
@@ -186,17 +188,29 @@ module _ {K : Type 0} (good : List ℕ → Type 0) (cut : Bool) (policy : Policy
     }
 
     -- what `run` came to
-    pub has-run : cut ≡ false → (lent ran : List (CachePadded (Runner K))) (how : Result (Unit {0}) Halt) (outcome : RunOutcome) → Begun good cut policy w stm items sized (workers_in lent) → RanAll lent ran → Turned (workers_in ran) → how ≡ how_all ran → Came good stm (workers_in ran) how outcome → HasRun policy w outcome
+    pub has-run : cut ≡ false → (lent ran : List (CachePadded (Runner K))) (how : Result (Unit {0}) Halt) (outcome : RunOutcome)
+        → Begun good cut policy w stm items sized (workers_in lent) → RanAll lent ran → Turned (workers_in ran) → how ≡ how_all ran
+        → Came good stm (workers_in ran) how outcome → HasRun policy w outcome
     has-run uncut lent ran how outcome b r t is came = by how (sym is) outcome came
       where
         by : (h : Result (Unit {0}) Halt) → how_all ran ≡ h → (o : RunOutcome) → Came good stm (workers_in ran) h o → HasRun policy w o
-        by (Ok x) e (ToEnd report closed) c = subst (λ b. IsShown b policy w report closed) uncut (shown good cut policy w stm items sized theorem forms (workers_in ran) c.words closed report (stands (workers_in ran) t) t.count (none-left ran r.through r.between e) c.closes c.is)
+        by (Ok x) e (ToEnd report closed) c =
+            subst (λ b. IsShown b policy w report closed) uncut (shown good cut policy w stm items sized theorem forms (workers_in ran)
+            c.words closed report (stands (workers_in ran) t) t.count (none-left ran r.through r.between e) c.closes c.is)
         by (Ok x) e (ToLimit clock closed) c = absurd c
-        by (Ok x) e (OutOfMemory closed) c = (let q = c.1 in inl (c.0, subst (λ b. IsShown b policy w c.0 closed) uncut (shown good cut policy w stm items sized theorem forms (workers_in ran) q.words closed c.0 (stands (workers_in ran) t) t.count (none-left ran r.through r.between e) q.closes q.is)))
+        by (Ok x) e (OutOfMemory closed) c =
+            (let q = c.1 in
+            inl (
+              c.0,
+              subst (λ b. IsShown b policy w c.0 closed) uncut (shown good cut policy w stm items sized theorem forms (workers_in ran) q.words
+                  closed c.0 (stands (workers_in ran) t) t.count (none-left ran r.through r.between e) q.closes q.is),
+            ))
         by (Err (ClockFull found)) e (ToEnd report closed) c = absurd c
         by (Err (ClockFull found)) e (ToLimit clock closed) c =
             let after = idle-still good stm (workers_in ran) c.1.after r.between c.1.idle in
-            full good cut policy w stm items sized forms (workers_in lent) (workers_in ran) c.1.words closed clock (subst (λ b. RanSome b AreFirst policy w closed) uncut (ran-first (workers_in ran) closed t r.between c.1)) b.covered r.covered (stands (workers_in ran) t) r.between t.count (met-some ran clock r.through (e ∙ ap (λ k. Err (ClockFull k)) (sym c.0)))
+            full good cut policy w stm items sized forms (workers_in lent) (workers_in ran) c.1.words closed clock
+            (subst (λ b. RanSome b AreFirst policy w closed) uncut (ran-first (workers_in ran) closed t r.between c.1)) b.covered r.covered
+            (stands (workers_in ran) t) r.between t.count (met-some ran clock r.through (e ∙ ap (λ k. Err (ClockFull k)) (sym c.0)))
             (subst (λ ws. Closes good stm.config (descs_of ws) c.1.words closed) after c.1.closes)
         by (Err (ClockFull found)) e (OutOfMemory closed) c = absurd c
         by (Err Memory) e (ToEnd report closed) c = absurd c
@@ -205,9 +219,12 @@ module _ {K : Type 0} (good : List ℕ → Type 0) (cut : Bool) (policy : Policy
 
     module _ (ruled : policy ≡ w.header.policy) (may : cut ≡ true) where
       whole-shown : (ran : List (Worker K)) (report : Report) (closed : Ended) → Turned ran → All IsOver (places ran) → Reported good stm ran report closed → IsShown true w.header.policy w report closed
-      whole-shown ran report closed t over r = subst (λ b. IsShown b w.header.policy w report closed) may (subst (λ (p : Policy). IsShown cut p w report closed) ruled (shown good cut policy w stm items sized theorem forms ran r.words closed report (stands ran t) t.count over r.closes r.is))
+      whole-shown ran report closed t over r =
+          subst (λ b. IsShown b w.header.policy w report closed) may (subst (λ (p : Policy). IsShown cut p w report closed) ruled
+          (shown good cut policy w stm items sized theorem forms ran r.words closed report (stands ran t) t.count over r.closes r.is))
 
-      traced : (begun ran : List (Worker K)) (gos : List Go) (lines : List Line) (report : Report) (closed : Ended) → gos ≡ w.schedule → Begun good cut policy w stm items sized begun → Turned ran → Drives stm.config gos begun ran lines (Ok tt)
+      traced : (begun ran : List (Worker K)) (gos : List Go) (lines : List Line) (report : Report) (closed : Ended) → gos ≡ w.schedule
+          → Begun good cut policy w stm items sized begun → Turned ran → Drives stm.config gos begun ran lines (Ok tt)
           → Reported good stm ran report closed → IsTraced w lines report closed
       traced begun ran gos lines report closed is b t drives r =
           let whole = drives.0 w.header (sizes-of stm.config w.header sized) report.rows (subst (λ rows. IsPermutation rows report.rows) (sym (told-rows ran)) r.is.moved) in
@@ -218,7 +235,9 @@ module _ {K : Type 0} (good : List ℕ → Type 0) (cut : Bool) (policy : Policy
           }
 
       -- all was done, and no report of it was made
-      stopped-whole : (begun ran : List (Worker K)) (gos : List Go) (lines : List Line) (report : Report) (closed : Ended) → Begun good cut policy w stm items sized begun → Turned ran → Drives stm.config gos begun ran lines (Ok tt) → Reported good stm ran report closed
+      stopped-whole : (begun ran : List (Worker K)) (gos : List Go) (lines : List Line) (report : Report) (closed : Ended)
+          → Begun good cut policy w stm items sized begun → Turned ran → Drives stm.config gos begun ran lines (Ok tt)
+          → Reported good stm ran report closed
           → IsStopped true ArePart w.header.policy w closed
       stopped-whole begun ran gos lines report closed b t d r = record {
         opening = r.closes.opening ∙ ap (λ (x : Config). x.clock) sized;
@@ -233,19 +252,30 @@ module _ {K : Type 0} (good : List ℕ → Type 0) (cut : Bool) (policy : Policy
       }
 
       -- what `step` came to
-      pub has-stepped : (begun ran : List (Worker K)) (gos : List Go) (lines : List Line) (how : Result (Unit {0}) Halt) (outcome : RunOutcome) → gos ≡ w.schedule → Begun good cut policy w stm items sized begun → Turned ran → Drives stm.config gos begun ran lines how
+      pub has-stepped : (begun ran : List (Worker K)) (gos : List Go) (lines : List Line) (how : Result (Unit {0}) Halt)
+          (outcome : RunOutcome) → gos ≡ w.schedule → Begun good cut policy w stm items sized begun → Turned ran
+          → Drives stm.config gos begun ran lines how
           → Came good stm ran how outcome → HasStepped w lines outcome
       has-stepped begun ran gos lines (Ok x) (ToEnd report closed) is b t d c = traced begun ran gos lines report closed is b t d c
       has-stepped begun ran gos lines (Ok x) (ToLimit clock closed) is b t d c = absurd c
       has-stepped begun ran gos lines (Ok x) (OutOfMemory closed) is b t d c = stopped-whole begun ran gos lines c.0 closed b t d c.1
       has-stepped begun ran gos lines (Err (ClockFull found)) (ToEnd report closed) is b t d c = absurd c
       has-stepped begun ran gos lines (Err (ClockFull found)) (ToLimit clock closed) is b t d c =
-          cut-short good cut policy w stm items sized forms ruled begun ran gos lines clock closed is b (subst (λ k. Drives stm.config gos begun ran lines (Err (ClockFull k))) (sym c.0) d) c.1 (subst (λ b. RanSome b ArePart policy w closed) may (ran-part ran closed t c.1))
+          cut-short good cut policy w stm items sized forms ruled begun ran gos lines clock closed is b
+          (subst (λ k. Drives stm.config gos begun ran lines (Err (ClockFull k))) (sym c.0) d) c.1
+          (subst (λ b. RanSome b ArePart policy w closed) may (ran-part ran closed t c.1))
       has-stepped begun ran gos lines (Err (ClockFull found)) (OutOfMemory closed) is b t d c = absurd c
       has-stepped begun ran gos lines (Err Memory) (ToEnd report closed) is b t d c = absurd c
       has-stepped begun ran gos lines (Err Memory) (ToLimit clock closed) is b t d c = absurd c
-      has-stepped begun ran gos lines (Err Memory) (OutOfMemory closed) is b t d c = record { opening = c.closes.opening ∙ ap (λ (x : Config). x.clock) sized; history = history-of good w forms stm.config sized (descs_of c.after) c.words closed c.closes; ran = subst (λ b. RanSome b ArePart w.header.policy w closed) may (subst (λ (p : Policy). RanSome cut ArePart p w closed) ruled (ran-part ran closed t c)) }
+      has-stepped begun ran gos lines (Err Memory) (OutOfMemory closed) is b t d c =
+          record {
+            opening = c.closes.opening ∙ ap (λ (x : Config). x.clock) sized;
+            history = history-of good w forms stm.config sized (descs_of c.after) c.words closed c.closes;
+            ran = subst (λ b. RanSome b ArePart w.header.policy w closed) may
+                (subst (λ (p : Policy). RanSome cut ArePart p w closed) ruled (ran-part ran closed t c));
+          }
 
-pub driven-between : {K : Type 0} (config : Config) (gos : List Go) (begun ran : List (Worker K)) (lines : List Line) (how : Result (Unit {0}) Halt) → Drives config gos begun ran lines how → OnOk how (All (λ (w : Worker K). w.phase ≡ Between) ran)
+pub driven-between : {K : Type 0} (config : Config) (gos : List Go) (begun ran : List (Worker K)) (lines : List Line)
+    (how : Result (Unit {0}) Halt) → Drives config gos begun ran lines how → OnOk how (All (λ (w : Worker K). w.phase ≡ Between) ran)
 driven-between config gos begun ran lines (Ok x) d = over-between ran d.1
 driven-between config gos begun ran lines (Err halt) d = tt

@@ -134,13 +134,25 @@ module _ {K : Type 0} (good : List ℕ → Type 0) (cut : Bool) (policy : Policy
       let own = s.own in
       let left : own.start.left ≡ v.all.now = own.left ∙ sym own.all in
       let installed = all_installed own.course in
-      let by_policy : (done : Bool) → InstallsBy cut w.header.callers done own.start.policy w.header.alg h.did.items (kinds h.did.rows) installed → InstalledSome cut w.header.callers policy w.header.alg n h.did.items h.did.rows (known x.desc).installs =
-      λ done by. record { more = installed; first = h.keeps.installs ∙ own.installs; done = done; by = subst (λ p. InstallsBy cut w.header.callers done p w.header.alg h.did.items (kinds h.did.rows) installed) own.by by } in
+      let by_policy : (done : Bool) → InstallsBy cut w.header.callers done own.start.policy w.header.alg h.did.items (kinds h.did.rows)
+      installed → InstalledSome cut w.header.callers policy w.header.alg n h.did.items h.did.rows (known x.desc).installs =
+      λ done by.
+      record {
+        more = installed;
+        first = h.keeps.installs ∙ own.installs;
+        done = done;
+        by = subst (λ p. InstallsBy cut w.header.callers done p w.header.alg h.did.items (kinds h.did.rows) installed) own.by by;
+      } in
       of by_policy left h.did.behind
     where
-      of : ((done : Bool) → InstallsBy cut w.header.callers done s.own.start.policy w.header.alg h.did.items (kinds h.did.rows) (all_installed s.own.course) → InstalledSome cut w.header.callers policy w.header.alg n h.did.items h.did.rows (known x.desc).installs)
+      of : ((done : Bool)
+          → InstallsBy cut w.header.callers done s.own.start.policy w.header.alg h.did.items (kinds h.did.rows) (all_installed s.own.course)
+          → InstalledSome cut w.header.callers policy w.header.alg n h.did.items h.did.rows (known x.desc).installs)
           → s.own.start.left ≡ v.all.now
-          → ((v.all.now ≡ h.did.items ++ v.items_left.now) × (h.did.rows ≡ v.rows.items) ⊎ (v.phase ≡ Inside) × ((first : List Item) × (v.all.now ≡ first ++ v.items_left.now) × BeginsNext first v.items_left.now h.did.items) × ((row : Row) × (h.did.rows ≡ v.rows.items ++ row ∷ [])))
+          → ((v.all.now ≡ h.did.items ++ v.items_left.now) × (h.did.rows ≡ v.rows.items)
+          ⊎ (v.phase ≡ Inside)
+          × ((first : List Item) × (v.all.now ≡ first ++ v.items_left.now) × BeginsNext first v.items_left.now h.did.items)
+          × ((row : Row) × (h.did.rows ≡ v.rows.items ++ row ∷ [])))
           → InstalledSome cut w.header.callers policy w.header.alg n h.did.items h.did.rows (known x.desc).installs
       of give left (inl b) =
           let i = first-installs cut w.header s.own.start (place_of v) s.own.course w.header.alg (known v.desc).alg s.own.fresh s.own.went s.own.uncut s.own.alone h.did.items (left ∙ b.0) in
@@ -159,7 +171,8 @@ module _ {K : Type 0} (good : List ℕ → Type 0) (cut : Bool) (policy : Policy
     installs = (known x.desc).installs;
   }
 
-  did-is : (some : List Item → List Item → Type 0) (closed : Ended) (n : ℕ) (v x : Worker K) → Stood good cut policy w stm sized n v → (h : MadeIdle good stm v x) → Told closed n x.desc → some (items_of n w.items) h.did.items → IsDid some closed n (did-of n v x h)
+  did-is : (some : List Item → List Item → Type 0) (closed : Ended) (n : ℕ) (v x : Worker K) → Stood good cut policy w stm sized n v
+      → (h : MadeIdle good stm v x) → Told closed n x.desc → some (items_of n w.items) h.did.items → IsDid some closed n (did-of n v x h)
   unfolding did-of
   did-is some closed n v x s h told is =
       let did = h.did.items in
@@ -230,7 +243,11 @@ module _ {K : Type 0} (good : List ℕ → Type 0) (cut : Bool) (policy : Policy
     all-in n (d ∷ ds) h e = (
       record {
         did = h.0;
-        here = e n (omega arith) ∙ (items-append n d.items (all_of ds) ∙ (ap (λ l. l ++ items_of n (all_of ds)) (items-own n d.items h.0.own) ∙ (ap (λ l. d.items ++ l) (others-none n (suc n) ds (omega arith) h.1) ∙ append-nil d.items)));
+        here =
+            e n (omega arith)
+            ∙ (items-append n d.items (all_of ds)
+            ∙ (ap (λ l. l ++ items_of n (all_of ds)) (items-own n d.items h.0.own)
+            ∙ (ap (λ l. d.items ++ l) (others-none n (suc n) ds (omega arith) h.1) ∙ append-nil d.items)));
       },
       all-in (suc n) ds h.1 (λ k le. e k (omega (arith, le)) ∙ (items-append k d.items (all_of ds) ∙ ap (λ l. l ++ items_of k (all_of ds)) (items-others k n d.items (omega (arith, le)) h.0.own))),
     )
@@ -255,7 +272,9 @@ module _ {K : Type 0} (good : List ℕ → Type 0) (cut : Bool) (policy : Policy
       where
         all-both : (xs ys : List Item) → All (ItemFits (regions_of w.header) w.header) xs → All (ItemFits (regions_of w.header) w.header) ys → All (ItemFits (regions_of w.header) w.header) (xs ++ ys)
         all-both [] ys a b = b
-        all-both (x ∷ xs) ys a b = all-cons (ItemFits (regions_of w.header) w.header) x (xs ++ ys) (All-head (ItemFits (regions_of w.header) w.header) x xs a) (all-both xs ys (All-tail (ItemFits (regions_of w.header) w.header) x xs a) b)
+        all-both (x ∷ xs) ys a b =
+            all-cons (ItemFits (regions_of w.header) w.header) x (xs ++ ys) (All-head (ItemFits (regions_of w.header) w.header) x xs a)
+            (all-both xs ys (All-tail (ItemFits (regions_of w.header) w.header) x xs a) b)
 
     some_of : Workload
     some_of = record { header = w.header; items = whole; schedule = w.schedule }
@@ -284,7 +303,9 @@ module _ {K : Type 0} (good : List ℕ → Type 0) (cut : Bool) (policy : Policy
         let cons = sum_by-cons (λ (p : Part). sum_by count p.made) d.part (map (λ (e : Did). e.part) ds) in
         omega (arith, head, rest, cons)
 
-    installs-in : (rows : List Row) (n : ℕ) (ds : List Did) → Each IsIn n ds → Each (λ k p. kinds (own_rows k rows) ≡ kinds p.rows) n (map (λ (d : Did). d.part) ds) → AreInstalls cut false policy some_of rows n (map (λ (d : Did). d.installs) ds)
+    installs-in : (rows : List Row) (n : ℕ) (ds : List Did) → Each IsIn n ds
+        → Each (λ k p. kinds (own_rows k rows) ≡ kinds p.rows) n (map (λ (d : Did). d.part) ds)
+        → AreInstalls cut false policy some_of rows n (map (λ (d : Did). d.installs) ds)
     unfolding some_of
     installs-in rows n [] h told = tt
     installs-in rows n (d ∷ ds) h told =
@@ -294,13 +315,21 @@ module _ {K : Type 0} (good : List ℕ → Type 0) (cut : Bool) (policy : Policy
             first = i.first;
             done = i.done;
             all = λ e. absurd cc;
-            by = subst (λ k. InstallsBy cut w.header.callers i.done (policy_for policy n) w.header.alg (items_of n whole) k i.more) (sym told.0) (subst (λ l. InstallsBy cut w.header.callers i.done (policy_for policy n) w.header.alg l (kinds d.part.rows) i.more) (sym h.0.here) i.by);
+            by =
+                subst (λ k. InstallsBy cut w.header.callers i.done (policy_for policy n) w.header.alg (items_of n whole) k i.more)
+                (sym told.0) (subst
+                (λ l. InstallsBy cut w.header.callers i.done (policy_for policy n) w.header.alg l (kinds d.part.rows) i.more) (sym h.0.here)
+                i.by);
           },
           installs-in rows (suc n) ds h.1 told.1,
         )
 
-  pub ran-some : ReportReplays good → Forms good w → (some : List Item → List Item → Type 0) (P : Worker K → Type 0) → ((n : ℕ) (v x : Worker K) → Stood good cut policy w stm sized n v → (h : MadeIdle good stm v x) → P v → some (items_of n w.items) h.did.items)
-      → (vs xs : List (Worker K)) (ws : List ℕ) (closed : Ended) → Each (Stood good cut policy w stm sized) 0 vs → All P vs → AreMadeIdle good stm vs xs → length xs ≡ stm.config.callers → Closes good stm.config (descs_of xs) ws closed → RanSome cut some policy w closed
+  pub ran-some : ReportReplays good → Forms good w → (some : List Item → List Item → Type 0) (P : Worker K → Type 0)
+      → ((n : ℕ) (v x : Worker K) → Stood good cut policy w stm sized n v → (h : MadeIdle good stm v x) → P v
+      → some (items_of n w.items) h.did.items)
+      → (vs xs : List (Worker K)) (ws : List ℕ) (closed : Ended) → Each (Stood good cut policy w stm sized) 0 vs → All P vs
+      → AreMadeIdle good stm vs xs → length xs ≡ stm.config.callers → Closes good stm.config (descs_of xs) ws closed
+      → RanSome cut some policy w closed
   unfolding some_of
   ran-some theorem forms some P is vs xs ws closed stood p idle len c =
       let a = are-did some P is closed 0 vs xs stood p idle c.told in
@@ -320,7 +349,11 @@ module _ {K : Type 0} (good : List ℕ → Type 0) (cut : Bool) (policy : Policy
         times = c.times;
         callers = callers-in some closed whole 0 ds each ∙ ap (counted 0) callers;
         each = parts-in some closed whole 0 ds each;
-        gathers = λ count. sym (dealt-in some closed whole count 0 ds each ∙ (ap (λ m. dealt count 0 m closed.history) many ∙ dealt-all count stm.config.callers closed.history (all-below stm.config.callers closed.history c.nobody_else)));
+        gathers =
+            λ count.
+            sym (dealt-in some closed whole count 0 ds each
+            ∙ (ap (λ m. dealt count 0 m closed.history) many
+            ∙ dealt-all count stm.config.callers closed.history (all-below stm.config.callers closed.history c.nobody_else)));
         moved = rows.moved;
         ordered = rows.ordered;
         memory = refl;
@@ -337,6 +370,9 @@ module _ {K : Type 0} (good : List ℕ → Type 0) (cut : Bool) (policy : Policy
           history = history-of good part forms stm.config sized (descs_of xs) ws closed c;
           callers = ap length (c.installs ∙ a.installs) ∙ (length-map ds (λ (d : Did). d.installs) ∙ callers);
           along = goes-along good part closed.history closed.clock parts report gathered part.header.clock both.0 both.1;
-          installs = subst (AreInstalls cut false policy part report.rows 0) (sym (c.installs ∙ a.installs)) (installs-in some closed whole report.rows 0 ds each (kinds-each good part closed.history closed.clock parts report gathered both.0));
+          installs =
+              subst (AreInstalls cut false policy part report.rows 0) (sym (c.installs ∙ a.installs))
+              (installs-in some closed whole report.rows 0 ds each
+              (kinds-each good part closed.history closed.clock parts report gathered both.0));
         };
       }

@@ -135,7 +135,9 @@ total-more : (n m : ℕ) (i : Item) (items : List Item) → total n m (i ∷ ite
 total-more n zero i items = omega arith
 total-more n (suc m) (Tx caller script) items = by (caller == n) refl (total-more (suc n) m (Tx caller script) items)
   where
-    by : (b : Bool) → (caller == n) ≡ b → total (suc n) m (Tx caller script ∷ items) ≤ suc (total (suc n) m items) → length (scripts_of n (Tx caller script ∷ items)) + total (suc n) m (Tx caller script ∷ items) ≤ suc (length (scripts_of n items) + total (suc n) m items)
+    by : (b : Bool) → (caller == n) ≡ b → total (suc n) m (Tx caller script ∷ items) ≤ suc (total (suc n) m items)
+        → length (scripts_of n (Tx caller script ∷ items)) + total (suc n) m (Tx caller script ∷ items)
+        ≤ suc (length (scripts_of n items) + total (suc n) m items)
     by true e more =
         let own : caller ≡ n = grind (arith, nat_tests) in
         let rest = total-same (suc n) m (Tx caller script) items (omega arith) in
@@ -186,7 +188,8 @@ all_items-more : (n m : ℕ) (i : Item) (items : List Item) → all_items n m (i
 all_items-more n zero i items = omega arith
 all_items-more n (suc m) i items = by (caller_in i == n) refl (all_items-more (suc n) m i items)
   where
-    by : (b : Bool) → (caller_in i == n) ≡ b → all_items (suc n) m (i ∷ items) ≤ suc (all_items (suc n) m items) → length (items_of n (i ∷ items)) + all_items (suc n) m (i ∷ items) ≤ suc (length (items_of n items) + all_items (suc n) m items)
+    by : (b : Bool) → (caller_in i == n) ≡ b → all_items (suc n) m (i ∷ items) ≤ suc (all_items (suc n) m items)
+        → length (items_of n (i ∷ items)) + all_items (suc n) m (i ∷ items) ≤ suc (length (items_of n items) + all_items (suc n) m items)
     by true e more =
         let own : caller_in i ≡ n = grind (arith, nat_tests) in
         let rest = all_items-same (suc n) m i items (omega arith) in

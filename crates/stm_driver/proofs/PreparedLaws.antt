@@ -68,8 +68,14 @@ new-owes : (these : List Alg) (v : CallerState) → IsNew these v → owed v ≤
 new-owes these v new = subst (λ b. (if b then v.base + 2 else v.rises) ≤ length these) (sym new.idle.1) new.done.rises
 
 pub sizes-of : (config : Config) (h : Header) → config ≡ config_of h → HasSizes config h
-sizes-of config h e =
-    (sym (ap (λ (c : Config). c.words) e), sym (ap (λ (c : Config). c.records) e), sym (ap (λ (c : Config). c.ring) e), sym (ap (λ (c : Config). c.callers) e), sym (ap (λ (c : Config). c.reads) e), sym (ap (λ (c : Config). c.writes) e))
+sizes-of config h e = (
+  sym (ap (λ (c : Config). c.words) e),
+  sym (ap (λ (c : Config). c.records) e),
+  sym (ap (λ (c : Config). c.ring) e),
+  sym (ap (λ (c : Config). c.callers) e),
+  sym (ap (λ (c : Config). c.reads) e),
+  sym (ap (λ (c : Config). c.writes) e),
+)
 
 module _ {K : Type 0} where
   -- each is its caller's, from caller n on, has that caller's items, and went its course from the start
@@ -138,15 +144,18 @@ module _ {K : Type 0} where
   StartCovered alg n [] = Unit {0}
   StartCovered alg n (x ∷ ws) = ((each most : ℕ) → CoversBut (length (first_installs alg n)) each most x) × CountsNext x × (x.failed ≡ 0) × StartCovered alg (suc n) ws
 
-  start-covers : (d : Handle K) (items : List Item) (rs : List Region) (alg : Alg) (policy : Policy) (these : List Alg) (x : Worker K) → IsNew these (known d) → IsFreshWorker d items rs alg policy x → (each most : ℕ) → CoversBut (length these) each most x
+  start-covers : (d : Handle K) (items : List Item) (rs : List Region) (alg : Alg) (policy : Policy) (these : List Alg) (x : Worker K)
+      → IsNew these (known d) → IsFreshWorker d items rs alg policy x → (each most : ℕ) → CoversBut (length these) each most x
   start-covers d items rs alg policy these x new s each most =
-      let few : raised (known x.desc) ≤ length these = subst (λ (y : Handle K). raised (known y) ≤ length these) (sym s.is_desc) (subst (λ b. (if b then (known d).base else (known d).rises) ≤ length these) (sym new.idle.1) new.done.rises) in
+      let few : raised (known x.desc) ≤ length these = subst (λ (y : Handle K). raised (known y) ≤ length these) (sym s.is_desc)
+      (subst (λ b. (if b then (known d).base else (known d).rises) ≤ length these) (sym new.idle.1) new.done.rises) in
       let left : x.items_left.now ≡ x.all.now = ap (λ (p : CallerProgress). p.left) s.at ∙ sym s.all in
       let same : each * length x.items_left.now ≡ each * length x.all.now = ap (λ (l : List Item). each * length l) left in
       let due : due_of x.chosen ≡ 0 = ap (λ (p : CallerProgress). due_of p.chosen) s.at in
       omega (arith, few, same, due)
 
-  covered-start : (stm : Stm K) (items : List Item) (rs : List Region) (alg : Alg) (policy : Policy) (n : ℕ) (ds : List (Handle K)) (ws : List (Worker K)) → AllNew stm alg n ds → AreMade (λ k. items_of k items) rs alg policy n ds ws → StartCovered alg n ws
+  covered-start : (stm : Stm K) (items : List Item) (rs : List Region) (alg : Alg) (policy : Policy) (n : ℕ) (ds : List (Handle K))
+      (ws : List (Worker K)) → AllNew stm alg n ds → AreMade (λ k. items_of k items) rs alg policy n ds ws → StartCovered alg n ws
   covered-start stm items rs alg policy n [] [] o h = tt
   covered-start stm items rs alg policy n [] (x ∷ ws) o h = absurd h
   covered-start stm items rs alg policy n (d ∷ ds) [] o h = absurd h
@@ -158,7 +167,9 @@ module _ {K : Type 0} where
   )
 
   -- where the callers stand at first, where caller 0 goes by the text's policy
-  starts-at : (stm : Stm K) (policy : Policy) (w : Workload) → policy ≡ w.header.policy → stm.config ≡ config_of w.header → (n : ℕ) (ds : List (Handle K)) (ws : List (Worker K)) → AllNew stm w.header.alg n ds → AreMade (λ k. items_of k w.items) (regions_of w.header) w.header.alg policy n ds ws
+  starts-at : (stm : Stm K) (policy : Policy) (w : Workload) → policy ≡ w.header.policy → stm.config ≡ config_of w.header
+      → (n : ℕ) (ds : List (Handle K)) (ws : List (Worker K)) → AllNew stm w.header.alg n ds
+      → AreMade (λ k. items_of k w.items) (regions_of w.header) w.header.alg policy n ds ws
       → places ws ≡ map (first_place w) (counted n (length ws))
   starts-at stm policy w ruled sized n [] [] o h = refl
   starts-at stm policy w ruled sized n [] (x ∷ ws) o h = absurd h
@@ -172,7 +183,9 @@ module _ {K : Type 0} where
       ap (λ p. p ∷ places ws) at ∙ ap (λ ps. first_place w n ∷ ps) (starts-at stm policy w ruled sized (suc n) ds ws o.4 h.1)
 
 module _ {K : Type 0} (cut : Bool) (policy : Policy) (w : Workload) where
-  own-start : (stm : Stm K) → stm.config ≡ config_of w.header → (n : ℕ) (ds : List (Handle K)) (ws : List (Worker K)) → AllNew stm w.header.alg n ds → All (λ (d : Handle K). stm.config.callers ≡ 1 → (known d).alg ≡ w.header.alg) ds → AreMade (λ k. items_of k w.items) (regions_of w.header) w.header.alg policy n ds ws → AreOwn cut policy w n ws
+  own-start : (stm : Stm K) → stm.config ≡ config_of w.header → (n : ℕ) (ds : List (Handle K)) (ws : List (Worker K))
+      → AllNew stm w.header.alg n ds → All (λ (d : Handle K). stm.config.callers ≡ 1 → (known d).alg ≡ w.header.alg) ds
+      → AreMade (λ k. items_of k w.items) (regions_of w.header) w.header.alg policy n ds ws → AreOwn cut policy w n ws
   own-start stm sized n [] [] o knows h = tt
   own-start stm sized n [] (x ∷ ws) o knows h = absurd h
   own-start stm sized n (d ∷ ds) [] o knows h = absurd h
@@ -185,7 +198,13 @@ module _ {K : Type 0} (cut : Bool) (policy : Policy) (w : Workload) where
           over = s.over;
           sized = ap (λ (h : Handle K). h.who.config) s.is_desc ∙ (o.0.config ∙ sized);
           start = place_of x;
-          fresh = record { between = ap (λ (p : CallerProgress). p.phase) s.at; unasked = ap (λ (p : CallerProgress). p.chosen) s.at; noted = ap (λ (p : CallerProgress). p.profile) s.at; rows = ap (λ (p : CallerProgress). p.rows) s.at };
+          fresh =
+              record {
+                between = ap (λ (p : CallerProgress). p.phase) s.at;
+                unasked = ap (λ (p : CallerProgress). p.chosen) s.at;
+                noted = ap (λ (p : CallerProgress). p.profile) s.at;
+                rows = ap (λ (p : CallerProgress). p.rows) s.at;
+              };
           left = ap (λ (p : CallerProgress). p.left) s.at;
           by = ap (λ (p : CallerProgress). p.policy) s.at;
           course = [];
@@ -208,13 +227,18 @@ module _ {K : Type 0} (good : List ℕ → Type 0) (cut : Bool) (policy : Policy
     pub covered : StartCovered w.header.alg 0 ws
 
   module _ (keeps : WorkloadKeeps good w) where
-    sound-start : (alg : Alg) (n : ℕ) (d : Handle K) (u : Worker K) → IsOf d stm → d.who.role ≡ Caller n → IsNew (first_installs alg n) (known d) → IsFreshWorker d (items_of n w.items) (regions_of w.header) alg (policy_for policy n) u → Sound good stm u
+    sound-start : (alg : Alg) (n : ℕ) (d : Handle K) (u : Worker K) → IsOf d stm → d.who.role ≡ Caller n
+        → IsNew (first_installs alg n) (known d) → IsFreshWorker d (items_of n w.items) (regions_of w.header) alg (policy_for policy n) u
+        → Sound good stm u
     sound-start alg n d u own role new s =
         let mine = items_of n w.items in
         let words : stm.config.words ≡ w.header.words = ap (λ (c : Config). c.words) sized in
         let both : All (λ i. ParsedItem w.header i × ItemKeeps good w.header i) w.items = λ i d lt. (items i d lt, keeps i d lt) in
-        let owned : OwnItems good stm.config.words (regions_of w.header) n mine = subst (λ k. OwnItems good k (regions_of w.header) n mine) (sym words) (items-own good w.header n mine (own-all (λ i. ParsedItem w.header i × ItemKeeps good w.header i) n w.items both)) in
-        starts-sound good stm d mine (regions_of w.header) alg (policy_for policy n) (first_installs alg n) u (ap (λ (c : Config). c.fence) sized) own new (subst (λ k. OwnItems good stm.config.words (regions_of w.header) k mine) (sym (ap caller_of role)) owned) s
+        let owned : OwnItems good stm.config.words (regions_of w.header) n mine = subst (λ k. OwnItems good k (regions_of w.header) n mine)
+        (sym words) (items-own good w.header n mine (own-all (λ i. ParsedItem w.header i × ItemKeeps good w.header i) n w.items both)) in
+        starts-sound good stm d mine (regions_of w.header) alg (policy_for policy n) (first_installs alg n) u
+        (ap (λ (c : Config). c.fence) sized) own new
+        (subst (λ k. OwnItems good stm.config.words (regions_of w.header) k mine) (sym (ap caller_of role)) owned) s
 
     sound-all : (alg : Alg) (n : ℕ) (ds : List (Handle K)) (ws : List (Worker K)) → AllNew stm alg n ds → AreMade (λ k. items_of k w.items) (regions_of w.header) alg policy n ds ws → AreSound good stm ws
     sound-all alg n [] [] opened made = λ i d lt. absurd (omega (arith, lt))
@@ -226,7 +250,9 @@ module _ {K : Type 0} (good : List ℕ → Type 0) (cut : Bool) (policy : Policy
     pub begun : (parts : List (List Item)) (ws : List (Worker K)) → parts ≡ parted w.header.callers w.items → IsPrepared w.header policy parts stm ws → Begun ws
     begun parts ws is p =
         let callers = p.count in
-        let owned = made-same (λ n. slice_index_or parts n []) (λ n. items_of n w.items) (regions_of w.header) w.header.alg policy w.header.callers 0 p.descs ws (λ n lt. ap (λ l. slice_index_or l n []) is ∙ part-at w.header.callers w.items n [] lt) (omega (arith, callers)) p.made in
+        let owned = made-same (λ n. slice_index_or parts n []) (λ n. items_of n w.items) (regions_of w.header) w.header.alg policy
+        w.header.callers 0 p.descs ws (λ n lt. ap (λ l. slice_index_or l n []) is ∙ part-at w.header.callers w.items n [] lt)
+        (omega (arith, callers)) p.made in
         let long = made-length (λ n. items_of n w.items) (regions_of w.header) w.header.alg policy 0 p.descs ws owned ∙ callers in
         record {
           sound = sound-all w.header.alg 0 p.descs ws p.new owned;

@@ -66,11 +66,19 @@ reworked good opening regions all items n made seen front rows same h = record {
     row r own at = subst (λ s. by_kind r.kind ((e : Entry) × Contains made e × RowOf good (length opening) regions s r e) ((r.place ≤ front) × RowFits regions s r (memory_at r.place seen opening))) (script r own) at
 
 -- what is said of the history of a memory that was closed
-pub history-of : {K : Type 0} (good : List ℕ → Type 0) (w : Workload) → Forms good w → (config : Config) → config ≡ config_of w.header → (ds : List (Handle K)) (ws : List ℕ) (closed : Ended) → Closes good config ds ws closed → IsHistory w closed
+pub history-of : {K : Type 0} (good : List ℕ → Type 0) (w : Workload) → Forms good w → (config : Config) → config ≡ config_of w.header
+    → (ds : List (Handle K)) (ws : List ℕ) (closed : Ended) → Closes good config ds ws closed → IsHistory w closed
 history-of good w forms config sized ds ws closed c =
     let l = c.legal in
     let legal : IsLegal (AllWellFormed (regions_of w.header)) (zeros config.words) config.clock closed.history =
-    record { ascending = l.ascending; entries = l.entries; reads = l.reads; numbered = l.numbered; good_always = λ s. forms (memory_at s closed.history (zeros config.words)) (l.good_always s); words_always = l.words_always } in
+    record {
+      ascending = l.ascending;
+      entries = l.entries;
+      reads = l.reads;
+      numbered = l.numbered;
+      good_always = λ s. forms (memory_at s closed.history (zeros config.words)) (l.good_always s);
+      words_always = l.words_always;
+    } in
     record {
       legal = subst (λ (x : Config). IsLegal (AllWellFormed (regions_of w.header)) (zeros x.words) x.clock closed.history) sized legal;
       times = c.times;
@@ -103,7 +111,9 @@ module _ {K : Type 0} (good : List ℕ → Type 0) (cut : Bool) (policy : Policy
       let whole : length u.rows.items ≡ length (scripts_of n w.items) = omega arith in
       record {
         worked = subst (λ k. Worked good (zeros w.header.words) (regions_of w.header) (script_of w.items) k (known u.desc).made (known u.desc).seen (known u.desc).front u.rows.items) own
-            (reworked good (zeros w.header.words) (regions_of w.header) (items_of n w.items) w.items n (known u.desc).made (known u.desc).seen (known u.desc).front u.rows.items (scripts-own n w.items) (stood-works good cut policy w stm sized n r s over.0));
+            (reworked good (zeros w.header.words) (regions_of w.header) (items_of n w.items) w.items n (known u.desc).made
+            (known u.desc).seen (known u.desc).front u.rows.items (scripts-own n w.items)
+            (stood-works good cut policy w stm sized n r s over.0));
         begins = told.seen;
         within = λ e h. made-within n closed.history e (subst (λ l. Contains l e) made h);
         owned = subst (λ k. All (λ (e : Entry). e.caller ≡ k) (known u.desc).made) own (subst (All (λ (e : Entry). e.caller ≡ n)) (sym made) (made-own n closed.history));
@@ -113,9 +123,12 @@ module _ {K : Type 0} (good : List ℕ → Type 0) (cut : Bool) (policy : Policy
   parts-in : (n : ℕ) (rs : List (Worker K)) (closed : Ended) → Each (Stood good cut policy w stm sized) n rs → AllTold closed n (descs_of rs) → All IsOver (places rs) → All (PartIn good w closed.history) (map part_of rs)
   parts-in n [] closed h told over = λ i d lt. absurd (omega arith)
   parts-in n (r ∷ rs) closed h told over =
-      all-cons (PartIn good w closed.history) (part_of r) (map part_of rs) (part-in n r closed h.0 told.0 (All-head IsOver (place_of r) (places rs) over)) (parts-in (suc n) rs closed h.1 told.1 (All-tail IsOver (place_of r) (places rs) over))
+      all-cons (PartIn good w closed.history) (part_of r) (map part_of rs)
+      (part-in n r closed h.0 told.0 (All-head IsOver (place_of r) (places rs) over))
+      (parts-in (suc n) rs closed h.1 told.1 (All-tail IsOver (place_of r) (places rs) over))
 
-  dealt-parts : (count : Entry → ℕ) (n : ℕ) (rs : List (Worker K)) (closed : Ended) → AllTold closed n (descs_of rs) → sum_by (λ (p : Part). sum_by count p.made) (map part_of rs) ≡ dealt count n (length rs) closed.history
+  dealt-parts : (count : Entry → ℕ) (n : ℕ) (rs : List (Worker K)) (closed : Ended) → AllTold closed n (descs_of rs)
+      → sum_by (λ (p : Part). sum_by count p.made) (map part_of rs) ≡ dealt count n (length rs) closed.history
   unfolding part_of
   dealt-parts count n [] closed told = refl
   dealt-parts count n (r ∷ rs) closed told =
@@ -126,7 +139,8 @@ module _ {K : Type 0} (good : List ℕ → Type 0) (cut : Bool) (policy : Policy
       omega arith
 
   -- all that the callers made is the history, each entry once
-  pub all-made : (count : Entry → ℕ) (rs : List (Worker K)) (ws : List ℕ) (closed : Ended) → length rs ≡ stm.config.callers → Closes good stm.config (descs_of rs) ws closed → dealt count 0 (length rs) closed.history ≡ sum_by count closed.history
+  pub all-made : (count : Entry → ℕ) (rs : List (Worker K)) (ws : List ℕ) (closed : Ended) → length rs ≡ stm.config.callers
+      → Closes good stm.config (descs_of rs) ws closed → dealt count 0 (length rs) closed.history ≡ sum_by count closed.history
   all-made count rs ws closed len c = ap (λ m. dealt count 0 m closed.history) len ∙ dealt-all count stm.config.callers closed.history (all-below stm.config.callers closed.history c.nobody_else)
 
   -- each caller has installed what the text says, and what its policy asked for
@@ -153,7 +167,9 @@ module _ {K : Type 0} (good : List ℕ → Type 0) (cut : Bool) (policy : Policy
   descs-length [] = refl
   descs-length (r ∷ rs) = ap suc (descs-length rs)
 
-  pub shown : ReportReplays good → Forms good w → (rs : List (Worker K)) (ws : List ℕ) (closed : Ended) (report : Report) → Each (Stood good cut policy w stm sized) 0 rs → length rs ≡ stm.config.callers → All IsOver (places rs) → Closes good stm.config (descs_of rs) ws closed
+  pub shown : ReportReplays good → Forms good w → (rs : List (Worker K)) (ws : List ℕ) (closed : Ended) (report : Report)
+      → Each (Stood good cut policy w stm sized) 0 rs → length rs ≡ stm.config.callers → All IsOver (places rs)
+      → Closes good stm.config (descs_of rs) ws closed
       → IsReport (rows_of rs) ws report → IsShown cut policy w report closed
   shown theorem forms rs ws closed report stood len over c r =
       let parts = map part_of rs in

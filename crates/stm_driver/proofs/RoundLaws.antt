@@ -54,7 +54,10 @@ module _ {K : Type 0} (config : Config) (may : CallerProgress → Said → Type 
     -- the next caller's turns
     pub rounded-next : Goes config may holds vs ws b c n (Ok tt) → Rounded config may holds (n + 1) us ws a c
     rounded-next g = record {
-      round = λ h sizes. subst (λ (j : ℕ). WentRound h may holds j (places us) (places ws) a c) (sym (add-one n)) (round-next h may holds n g.0 (places us) (places vs) (places ws) a b c (round.round h sizes) (g.1.0 h sizes) g.2);
+      round =
+          λ h sizes.
+          subst (λ (j : ℕ). WentRound h may holds j (places us) (places ws) a c) (sym (add-one n))
+          (round-next h may holds n g.0 (places us) (places vs) (places ws) a b c (round.round h sizes) (g.1.0 h sizes) g.2);
       covered = (let x = round.covered in let y = g.1.1 in omega (arith, x, y));
     }
 
@@ -75,8 +78,12 @@ module _ {K : Type 0} (config : Config) (may : CallerProgress → Said → Type 
     again-plays q = plays-as config may us ws a c (replicate k n ++ n ∷ []) (replicate (k + 1) n) (replicate-next k n) (plays-next config may us vs ws a b c (replicate k n) (n ∷ []) p q)
 
     pub again-halts : (halt : Halt) → Plays config may vs ws b c (n ∷ []) (Err halt) → Goes config may holds us ws a c n (Err halt)
-    again-halts halt q =
-        (k + 1, plays-early config may us ws a c (replicate k n ++ n ∷ []) [] (replicate (k + 1) n) halt (append-nil (replicate k n ++ n ∷ []) ∙ replicate-next k n) (plays-halt config may us vs ws a b c (replicate k n) (n ∷ []) p halt q))
+    again-halts halt q = (
+      k + 1,
+      plays-early config may us ws a c (replicate k n ++ n ∷ []) [] (replicate (k + 1) n) halt
+          (append-nil (replicate k n ++ n ∷ []) ∙ replicate-next k n)
+          (plays-halt config may us vs ws a b c (replicate k n) (n ∷ []) p halt q),
+    )
 
 granted-stays : (forced : Bool) (at : CallerProgress) → at.phase ≡ Inside → HasOnlyIrrevocableOpen (granted_at forced at)
 granted-stays true at here = inr (here, granted-irrevocable at.alg at.wrote)
@@ -136,7 +143,8 @@ module _ {K : Type 0} where
 
   module _ (good : List ℕ → Type 0) (stm : Stm K) (n : ℕ) where
     -- caller n has nothing to give up
-    pub left-goes : (ws : List (Worker K)) (d w : Worker K) (lines : List Line) → n < length ws → NothingToGiveUp good stm (get_or ws n d) w → Goes stm.config MayWind HasOnlyIrrevocableOpen ws (set ws n w) lines lines n (Ok tt)
+    pub left-goes : (ws : List (Worker K)) (d w : Worker K) (lines : List Line) → n < length ws → NothingToGiveUp good stm (get_or ws n d) w
+        → Goes stm.config MayWind HasOnlyIrrevocableOpen ws (set ws n w) lines lines n (Ok tt)
     left-goes ws d w lines lt l = (
       0,
       (
@@ -211,12 +219,15 @@ module _ {K : Type 0} (good : List ℕ → Type 0) (stm : Stm K) (n : ℕ) (ws v
 
 -- one runner of many gave up what it had open, where it could
 module _ {K : Type 0} (good : List ℕ → Type 0) (stm : Stm K) (rs : List (CachePadded (Runner K))) (n : ℕ) (d r : CachePadded (Runner K)) (lt : n < length (workers_in rs)) where
-  pub none-given-up : (lines : List Line) → NothingToGiveUp good stm (worker_in (get_or rs n d)) (worker_in r) → Goes stm.config MayWind HasOnlyIrrevocableOpen (workers_in rs) (workers_in (set rs n r)) lines lines n (Ok tt)
+  pub none-given-up : (lines : List Line) → NothingToGiveUp good stm (worker_in (get_or rs n d)) (worker_in r)
+      → Goes stm.config MayWind HasOnlyIrrevocableOpen (workers_in rs) (workers_in (set rs n r)) lines lines n (Ok tt)
   none-given-up lines h =
       subst (λ ws. Goes stm.config MayWind HasOnlyIrrevocableOpen (workers_in rs) ws lines lines n (Ok tt)) (sym (workers-set rs n r))
       (left-goes good stm n (workers_in rs) (worker_in d) (worker_in r) lines lt (subst (λ (x : Worker K). NothingToGiveUp good stm x (worker_in r)) (sym (worker-at rs n d lt)) h))
 
-  pub given-up : (said : Said) (old new : List Line) → GaveUp good stm (worker_in (get_or rs n d)) said (worker_in r) → new ≡ old ++ Of n said ∷ [] → Goes stm.config MayWind HasOnlyIrrevocableOpen (workers_in rs) (workers_in (set rs n r)) old new n (Ok tt)
+  pub given-up : (said : Said) (old new : List Line) → GaveUp good stm (worker_in (get_or rs n d)) said (worker_in r)
+      → new ≡ old ++ Of n said ∷ []
+      → Goes stm.config MayWind HasOnlyIrrevocableOpen (workers_in rs) (workers_in (set rs n r)) old new n (Ok tt)
   given-up said old new h lines =
       subst (λ ws. Goes stm.config MayWind HasOnlyIrrevocableOpen (workers_in rs) ws old new n (Ok tt)) (sym (workers-set rs n r))
       (gave-goes good stm n (workers_in rs) (worker_in d) (worker_in r) said old new lt (subst (λ (x : Worker K). GaveUp good stm x said (worker_in r)) (sym (worker-at rs n d lt)) h) lines)
@@ -267,7 +278,9 @@ module _ {K : Type 0} (config : Config) (schedule : List Go) (ws us : List (Work
           let k = same-length true vs xs also in
           let over : length (places xs) ≤ length us = omega (arith, many, k, n) in
           let h = sized config in (
-            (λ h sizes rows told. rounds-fit h (places ws) (places us) (places vs) (places xs) schedule a b c (length us) (p.0 h sizes) (w.round h sizes) most rows (subst (λ (j : ℕ). WentRound h MayFinish IsOver j (places vs) (places xs) b c) (sym n) (r.round h sizes)) over told),
+            (λ h sizes rows told.
+                rounds-fit h (places ws) (places us) (places vs) (places xs) schedule a b c (length us) (p.0 h sizes) (w.round h sizes) most
+                rows (subst (λ (j : ℕ). WentRound h MayFinish IsOver j (places vs) (places xs) b c) (sym n) (r.round h sizes)) over told),
             round-all h MayFinish IsOver (length vs) (places vs) (places xs) b c (r.round h (refl, refl, refl, refl, refl, refl)) (omega (arith, many, k)),
           )
 
@@ -278,8 +291,12 @@ replicate-both (suc j) k n = ap (λ ns. n ∷ ns) (replicate-both j k n) ∙ ap 
 -- turns of one caller, and then others of the same
 pub goes-on : {K : Type 0} (config : Config) (may : CallerProgress → Said → Type 0) (first last : CallerProgress → Type 0) (us vs ws : List (Worker K)) (a b c : List Line) (n : ℕ) (r : Result (Unit {0}) Halt)
     → Goes config may first us vs a b n (Ok tt) → Goes config may last vs ws b c n r → Goes config may last us ws a c n r
-goes-on config may first last us vs ws a b c n (Ok x) p q =
-    (p.0 + q.0, plays-as config may us ws a c (replicate p.0 n ++ replicate q.0 n) (replicate (p.0 + q.0) n) (replicate-both p.0 q.0 n) (plays-next config may us vs ws a b c (replicate p.0 n) (replicate q.0 n) p.1 q.1), q.2)
+goes-on config may first last us vs ws a b c n (Ok x) p q = (
+  p.0 + q.0,
+  plays-as config may us ws a c (replicate p.0 n ++ replicate q.0 n) (replicate (p.0 + q.0) n) (replicate-both p.0 q.0 n)
+      (plays-next config may us vs ws a b c (replicate p.0 n) (replicate q.0 n) p.1 q.1),
+  q.2,
+)
 goes-on config may first last us vs ws a b c n (Err halt) p q = (
   p.0 + q.0,
   plays-early config may us ws a c (replicate p.0 n ++ replicate q.0 n) [] (replicate (p.0 + q.0) n) halt (append-nil (replicate p.0 n ++ replicate q.0 n) ∙ replicate-both p.0 q.0 n)
@@ -287,7 +304,9 @@ goes-on config may first last us vs ws a b c n (Err halt) p q = (
 )
 
 -- the turns to the end, or up to a full clock
-pub third : {K : Type 0} (config : Config) (schedule : List Go) (ws us : List (Worker K)) (a : List Line) (vs : List (Worker K)) (b : List Line) (p : Plays config MaySay ws us [] a (turns schedule) (Ok tt)) (xs : List (Worker K)) (c : List Line)
-    → Rounds config MayWind HasNothingOpen us vs (a ++ Finish ∷ []) b (Ok tt) → AreSame true us vs → AreSame true vs xs → (r : Result (Unit {0}) Halt) → Rounds config MayFinish IsOver vs xs b c r → Drives config schedule ws xs c r
+pub third : {K : Type 0} (config : Config) (schedule : List Go) (ws us : List (Worker K)) (a : List Line) (vs : List (Worker K))
+    (b : List Line) (p : Plays config MaySay ws us [] a (turns schedule) (Ok tt)) (xs : List (Worker K)) (c : List Line)
+    → Rounds config MayWind HasNothingOpen us vs (a ++ Finish ∷ []) b (Ok tt) → AreSame true us vs → AreSame true vs xs
+    → (r : Result (Unit {0}) Halt) → Rounds config MayFinish IsOver vs xs b c r → Drives config schedule ws xs c r
 third config schedule ws us a vs b p xs c w same also (Ok x) r = all-phases config schedule ws us a vs b p xs c w same r also
 third config schedule ws us a vs b p xs c w same also (Err halt) r = cut-third config schedule ws us a vs b p xs c w same halt r

@@ -73,7 +73,15 @@ module _ {K : Type 0} where
   same-twice d e f a b = record { table = b.table ∙ a.table; who = b.who ∙ a.who }
 
   pub self-same : {cut : Bool} (w : Worker K) → IsSame cut w w
-  self-same w = record { kept = record { same = record { table = refl; who = refl }; all = refl; regions = refl; policy = refl }; course = []; went = λ h sizes. refl; uncut = λ e. tt; installs = sym (append-nil (known w.desc).installs); alone = λ one. refl }
+  self-same w =
+      record {
+        kept = record { same = record { table = refl; who = refl }; all = refl; regions = refl; policy = refl };
+        course = [];
+        went = λ h sizes. refl;
+        uncut = λ e. tt;
+        installs = sym (append-nil (known w.desc).installs);
+        alone = λ one. refl;
+      }
 
   -- what is so of a course without a cut is so of any
   same-more : {b : Bool} (v w : Worker K) → IsSame b v w → IsSame true v w
@@ -151,7 +159,8 @@ module _ {K : Type 0} where
     plays-as ws vs a b order other e p = ((λ h sizes. played-as h may (places ws) (places vs) a b order other e (p.0 h sizes)), p.1)
 
     -- more was to come
-    pub plays-early : (ws vs : List (Worker K)) (a b : List Line) (order more other : List ℕ) (halt : Halt) → order ++ more ≡ other → Plays config may ws vs a b order (Err halt) → Plays config may ws vs a b other (Err halt)
+    pub plays-early : (ws vs : List (Worker K)) (a b : List Line) (order more other : List ℕ) (halt : Halt) → order ++ more ≡ other
+        → Plays config may ws vs a b order (Err halt) → Plays config may ws vs a b other (Err halt)
     plays-early ws vs a b order more other (ClockFull clock) e p = ((λ h sizes. halted-early h may (places ws) (places vs) a b order more other clock e (p.0 h sizes)), p.1, p.2)
     plays-early ws vs a b order more other Memory e p = tt
 
@@ -214,7 +223,10 @@ module _ {K : Type 0} (good : List ℕ → Type 0) (stm : Stm K) (rs : List (Cac
 
   module _ (lt : n < length (workers_in rs)) where
     pub set-same : {b : Bool} → IsSame b (worker_in (get_or rs n d)) (worker_in r) → AreSame true (workers_in rs) (workers_in (set rs n r))
-    set-same h = subst (AreSame true (workers_in rs)) (sym (workers-set rs n r)) (same-set (workers_in rs) n (worker_in d) (worker_in r) lt (subst (λ (x : Worker K). IsSame true x (worker_in r)) (sym (worker-at rs n d lt)) (same-more (worker_in (get_or rs n d)) (worker_in r) h)))
+    set-same h =
+        subst (AreSame true (workers_in rs)) (sym (workers-set rs n r)) (same-set (workers_in rs) n (worker_in d) (worker_in r) lt
+        (subst (λ (x : Worker K). IsSame true x (worker_in r)) (sym (worker-at rs n d lt))
+        (same-more (worker_in (get_or rs n d)) (worker_in r) h)))
 
     -- it took a turn
     pub took : (may : CallerProgress → Said → Type 0) (said : Said) (old new : List Line) → Turned good stm may (worker_in (get_or rs n d)) said (worker_in r) → new ≡ old ++ Of n said ∷ []

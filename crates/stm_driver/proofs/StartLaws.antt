@@ -30,7 +30,9 @@ module _ {K : Type 0} (good : List ℕ → Type 0) (stm : Stm K) where
     places = λ i d lt. absurd (omega arith);
   }
 
-  pub starts-sound : (d : Handle K) (items : List Item) (rs : List Region) (alg : Alg) (policy : Policy) (these : List Alg) (u : Worker K) → stm.config.fence ≡ false → IsOf d stm → IsNew these (known d) → ItemsFit good stm.config.words rs (caller_of d.who.role) items → IsFreshWorker d items rs alg policy u
+  pub starts-sound : (d : Handle K) (items : List Item) (rs : List Region) (alg : Alg) (policy : Policy) (these : List Alg) (u : Worker K)
+      → stm.config.fence ≡ false → IsOf d stm → IsNew these (known d) → ItemsFit good stm.config.words rs (caller_of d.who.role) items
+      → IsFreshWorker d items rs alg policy u
       → Sound good stm u
   starts-sound d items rs alg policy these u plain own new fits s =
       let who : caller_of u.desc.who.role ≡ caller_of d.who.role = ap (λ (x : Handle K). caller_of x.who.role) s.is_desc in

@@ -14,7 +14,8 @@ use Rattle.stm_trace.specs.Adapting.{policy_for}
 use Rattle.stm_driver.specs.AllWorkers.{AreMade, Finished, worker_in, workers_in}
 use Rattle.stm_worker.specs.Workers.{IsFreshWorker}
 
-pub made-length : {K : Type 0} (items_for : ℕ → List Item) (rs : List Region) (alg : Alg) (policy : Policy) (n : ℕ) (ds : List (Handle K)) (ws : List (Worker K)) → AreMade items_for rs alg policy n ds ws → length ws ≡ length ds
+pub made-length : {K : Type 0} (items_for : ℕ → List Item) (rs : List Region) (alg : Alg) (policy : Policy) (n : ℕ) (ds : List (Handle K))
+    (ws : List (Worker K)) → AreMade items_for rs alg policy n ds ws → length ws ≡ length ds
 made-length items_for rs alg policy n [] [] m = refl
 made-length items_for rs alg policy n [] (w ∷ ws) m = absurd m
 made-length items_for rs alg policy n (d ∷ ds) [] m = absurd m
@@ -40,7 +41,9 @@ made-of {K = K} items_for rs alg policy n (d ∷ ds) (w ∷ ws) len each =
     let at : ℕ → Handle K → Worker K → Type 0 = λ k d' w'. IsFreshWorker d' (items_for k) rs alg (policy_for policy k) w' in
     let here : n + 0 ≡ n = omega arith in (
       subst (λ k. at k d w) here (each 0 d w (omega arith)),
-      made-of items_for rs alg policy (suc n) ds ws (omega (arith, len)) (λ k d' w' lt. (let next : n + suc k ≡ suc n + k = omega arith in subst (λ m. at m (get_or ds k d') (get_or ws k w')) next (each (suc k) d' w' (omega (arith, lt))))),
+      made-of items_for rs alg policy (suc n) ds ws (omega (arith, len)) (λ k d' w' lt.
+          (let next : n + suc k ≡ suc n + k = omega arith in
+          subst (λ m. at m (get_or ds k d') (get_or ws k w')) next (each (suc k) d' w' (omega (arith, lt))))),
     )
 
 -- the same items under another name

@@ -22,7 +22,8 @@ use Rattle.stm_driver.specs.Openings.{first_installs}
 use Rattle.stm_driver.specs.declared.outcome.RunOutcome.{RunOutcome}
 use Rattle.stm_driver.specs.declared.outcome.RunOutcome.TheVariants.{ToEnd, ToLimit, OutOfMemory}
 
--- what caller n installed, caller 0 after the header's algorithm: the switches of its items, and after its transactions those that its policy asked for, by what its rows say and the attempts before them. cut: whether a schedule may have ended with an attempt open
+-- what caller n installed, caller 0 after the header's algorithm: the switches of its items, and after its transactions those that its
+-- policy asked for, by what its rows say and the attempts before them. cut: whether a schedule may have ended with an attempt open
 pub record HasInstalled (cut whole : Bool) (policy : Policy) (w : Workload) (rows : List Row) (n : ℕ) (installs : List Alg) : Type 0 where
   pub more : List Alg
   pub first : installs ≡ first_installs w.header.alg n ++ more

@@ -37,8 +37,10 @@ pub fn close_memory<K: MemRule + Drop>(
     requires sound { AreSound (K.good stm.rule) stm (workers_in runners.items) }
     requires callers { AreCallers 0 (workers_in runners.items) }
     requires all { length (workers_in runners.items) ≡ stm.config.callers }
-    requires through { OnOk how (All (λ (w : Worker K). w.phase ≡ Between) (workers_in runners.items)) }
-    requires room { HasRoom (length (workers_in runners.items)) (length (rows_of (workers_in runners.items))) stm.config.words room }
+    requires through { OnOk how
+        (All (λ (w : Worker K). w.phase ≡ Between) (workers_in runners.items)) }
+    requires room { HasRoom (length (workers_in runners.items))
+        (length (rows_of (workers_in runners.items))) stm.config.words room }
     ensures { Came (K.good stm.rule) stm (workers_in runners.entry.items) how result }
 {
     make_all_idle(&stm, runners.as_mut_slice());
@@ -65,7 +67,8 @@ pub fn close_memory<K: MemRule + Drop>(
 /// Leaves every descriptor idle.
 fn make_all_idle<K: MemRule>(stm: &Stm<K>, runners: &mut [CachePadded<Runner<K>>])
     requires { AreSound (K.good stm.now.rule) stm.now (workers_in runners.old) }
-    ensures { AreMadeIdle (K.good stm.now.rule) stm.now (workers_in runners.old) (workers_in runners.new) }
+    ensures { AreMadeIdle (K.good stm.now.rule) stm.now (workers_in runners.old)
+        (workers_in runners.new) }
 {
     for runner in runners.iter_mut() {
         idle_one(stm, runner);

@@ -46,7 +46,8 @@ pub fn drive<R: Wait, K: MemRule>(
     requires empty { trace.old.items ≡ [] }
     ensures sound { AreSound (K.good stm.now.rule) stm.now (workers_in runners.new) }
     ensures same { AreSame true (workers_in runners.old) (workers_in runners.new) }
-    ensures drives { Drives stm.now.config schedule.now (workers_in runners.old) (workers_in runners.new) trace.new.items result }
+    ensures drives { Drives stm.now.config schedule.now (workers_in runners.old)
+        (workers_in runners.new) trace.new.items result }
 {
     match play(alloc, stm, runners, schedule, trace) {
         Ok(()) => {}
@@ -75,7 +76,8 @@ fn round<R: Wait, K: MemRule>(
     requires sound { AreSound (K.good stm.now.rule) stm.now (workers_in runners.old) }
     ensures sound { AreSound (K.good stm.now.rule) stm.now (workers_in runners.new) }
     ensures same { AreSame true (workers_in runners.old) (workers_in runners.new) }
-    ensures rounds { Rounds stm.now.config (may_until until) (stands_until until) (workers_in runners.old) (workers_in runners.new) trace.old.items trace.new.items result }
+    ensures rounds { Rounds stm.now.config (may_until until) (stands_until until)
+        (workers_in runners.old) (workers_in runners.new) trace.old.items trace.new.items result }
 {
     for caller in 0..runners.len() {
         match turns_of_caller(rt, alloc, stm, runners, caller, until, trace) {
@@ -100,7 +102,9 @@ fn turns_of_caller<R: Wait, K: MemRule>(
     requires below { caller < length (workers_in runners.old) }
     ensures sound { AreSound (K.good stm.now.rule) stm.now (workers_in runners.new) }
     ensures same { AreSame true (workers_in runners.old) (workers_in runners.new) }
-    ensures goes { Goes stm.now.config (may_until until) (stands_until until) (workers_in runners.old) (workers_in runners.new) trace.old.items trace.new.items caller result }
+    ensures goes { Goes stm.now.config (may_until until) (stands_until until)
+        (workers_in runners.old) (workers_in runners.new) trace.old.items trace.new.items caller
+        result }
 {
     match make_ready(stm, runners, caller, until, trace) {
         Ok(()) => {}
@@ -121,7 +125,9 @@ fn make_ready<K: MemRule>(
     requires below { caller < length (workers_in runners.old) }
     ensures sound { AreSound (K.good stm.now.rule) stm.now (workers_in runners.new) }
     ensures same { AreSame true (workers_in runners.old) (workers_in runners.new) }
-    ensures goes { Goes stm.now.config (may_until until) (ready_until until) (workers_in runners.old) (workers_in runners.new) trace.old.items trace.new.items caller result }
+    ensures goes { Goes stm.now.config (may_until until) (ready_until until)
+        (workers_in runners.old) (workers_in runners.new) trace.old.items trace.new.items caller
+        result }
 {
     match until {
         Until::NothingOpen => give_up_open(stm, runners, caller, trace),
@@ -140,7 +146,8 @@ fn give_up_open<K: MemRule>(
     requires below { caller < length (workers_in runners.old) }
     ensures sound { AreSound (K.good stm.now.rule) stm.now (workers_in runners.new) }
     ensures same { AreSame true (workers_in runners.old) (workers_in runners.new) }
-    ensures goes { Goes stm.now.config MayWind HasOnlyIrrevocableOpen (workers_in runners.old) (workers_in runners.new) trace.old.items trace.new.items caller result }
+    ensures goes { Goes stm.now.config MayWind HasOnlyIrrevocableOpen (workers_in runners.old)
+        (workers_in runners.new) trace.old.items trace.new.items caller result }
 {
     match give_up_one(stm, &mut runners[caller]) {
         None => Ok(()),
@@ -154,7 +161,9 @@ fn give_up_open<K: MemRule>(
 /// Gives up what the worker has open, where that can be.
 fn give_up_one<K: MemRule>(stm: &Stm<K>, runner: &mut CachePadded<Runner<K>>) -> Option<Said>
     requires { Sound (K.good stm.now.rule) stm.now (worker_in runner.old) }
-    ensures { MatchOption result (NothingToGiveUp (K.good stm.now.rule) stm.now (worker_in runner.old) (worker_in runner.new)) (λ said. GaveUp (K.good stm.now.rule) stm.now (worker_in runner.old) said (worker_in runner.new)) }
+    ensures { MatchOption result (NothingToGiveUp (K.good stm.now.rule) stm.now
+        (worker_in runner.old) (worker_in runner.new)) (λ said.
+        GaveUp (K.good stm.now.rule) stm.now (worker_in runner.old) said (worker_in runner.new)) }
 {
     let runner = &mut **runner;
     give_up(stm, &mut runner.worker)
@@ -175,7 +184,9 @@ fn turns_until<R: Wait, K: MemRule>(
     requires ready { ready_until until (place_at (workers_in runners.old) caller) }
     ensures sound { AreSound (K.good stm.now.rule) stm.now (workers_in runners.new) }
     ensures same { AreSame true (workers_in runners.old) (workers_in runners.new) }
-    ensures goes { Goes stm.now.config (may_until until) (stands_until until) (workers_in runners.old) (workers_in runners.new) trace.old.items trace.new.items caller result }
+    ensures goes { Goes stm.now.config (may_until until) (stands_until until)
+        (workers_in runners.old) (workers_in runners.new) trace.old.items trace.new.items caller
+        result }
 {
     for _ in rt.forever() {
         if stands(until, &runners[caller]) {
@@ -191,7 +202,8 @@ fn turns_until<R: Wait, K: MemRule>(
 
 /// The caller stands so.
 fn stands<K: MemRule>(until: Until, runner: &CachePadded<Runner<K>>) -> bool
-    ensures { MatchBool result (stands_until until (place_of (worker_in runner.now))) (stands_until until (place_of (worker_in runner.now)) → ⊥) }
+    ensures { MatchBool result (stands_until until (place_of (worker_in runner.now)))
+        (stands_until until (place_of (worker_in runner.now)) → ⊥) }
 {
     match until {
         Until::NothingOpen => has_nothing_open(&runner.worker),

@@ -82,7 +82,8 @@ fn look_until_quiet<R: Wait, K: MemRule>(rt: &R, stm: &Stm<K>, desc: &mut Desc<K
     ensures same { IsSameCaller desc.old desc.new }
     ensures closed { HoldsGate (known desc.new) }
     ensures lengths { SameLengths (known desc.old) (known desc.new) }
-    ensures quiet { SeesQuiet (K.good stm.now.rule) stm.now.config (caller_of desc.new.who.role) (known desc.new) }
+    ensures quiet { SeesQuiet (K.good stm.now.rule) stm.now.config (caller_of desc.new.who.role)
+        (known desc.new) }
 {
     let mut backoff = Backoff::new();
     for _ in rt.forever() {

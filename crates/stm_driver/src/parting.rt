@@ -80,7 +80,9 @@ fn empty_parts(alloc: Global, callers: usize) -> Result<Vec<CallerItems>, Memory
 /// Gives an item to its caller.
 fn give(parts: &mut [CallerItems], item: Item) -> Result<(), AllocError>
     requires { caller_in item < length parts.old }
-    ensures { OnOk result (parts.new ≡ slice_set parts.old (caller_in item) (slice_index_or parts.old (caller_in item) [] ++ item ∷ [])) }
+    ensures { OnOk result (parts.new
+        ≡ slice_set parts.old (caller_in item)
+        (slice_index_or parts.old (caller_in item) [] ++ item ∷ [])) }
 {
     let caller = caller_in(&item);
     parts[caller].push(item)

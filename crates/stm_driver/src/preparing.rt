@@ -64,7 +64,8 @@ pub fn prepare<'a, R: Threads + Wait + Sync, K: MemRule + Drop + Send + Sync>(
     requires good { K.good rule (replicate header.now.words 0) }
     requires parts { length parts.now ≡ header.now.callers }
     requires regions { regions.now ≡ regions_of header.now }
-    ensures prepared { IfOk result (λ p. IsPrepared header.now policy parts.now p.stm (workers_in p.runners.items)) }
+    ensures prepared { IfOk result (λ p.
+        IsPrepared header.now policy parts.now p.stm (workers_in p.runners.items)) }
     ensures rule { IfOk result (λ p. p.stm.rule ≡ rule) }
     ensures room { IfOk result (λ p. HasRoom header.now.callers items header.now.words p.room) }
 {

@@ -29,8 +29,11 @@ pub fn run<R: Threads + Wait + Sync, K: MemRule + Drop + Send + Sync, G: Turnsti
     prepared: Prepared<K>,
     turnstile: &G,
 ) -> RunOutcome
-    requires ready { (policy : Policy) × (w : Workload) × IsReadyFor (K.good prepared.stm.rule) Run policy w prepared }
-    ensures { (policy : Policy) → (w : Workload) → IsReadyFor (K.good prepared.entry.stm.rule) Run policy w prepared.entry → HasRun policy w result }
+    requires ready { (policy : Policy) × (w : Workload)
+        × IsReadyFor (K.good prepared.stm.rule) Run policy w prepared }
+    ensures { (policy : Policy) → (w : Workload)
+        → IsReadyFor (K.good prepared.entry.stm.rule) Run policy w prepared.entry
+        → HasRun policy w result }
 {
     let Prepared {
         stm,

@@ -38,7 +38,8 @@ pub fn turn<K: MemRule>(
     requires below { caller < length (workers_in runners.old) }
     ensures sound { AreSound (K.good stm.now.rule) stm.now (workers_in runners.new) }
     ensures same { AreSame true (workers_in runners.old) (workers_in runners.new) }
-    ensures turns { Turns (K.good stm.now.rule) stm.now (workers_in runners.old) (workers_in runners.new) trace.old.items trace.new.items caller result }
+    ensures turns { Turns (K.good stm.now.rule) stm.now (workers_in runners.old)
+        (workers_in runners.new) trace.old.items trace.new.items caller result }
 {
     let said = match turn_one(alloc, stm, &mut runners[caller]) {
         Ok(said) => said,
@@ -61,7 +62,10 @@ fn turn_one<K: MemRule>(
     runner: &mut CachePadded<Runner<K>>,
 ) -> Result<Said, Memory>
     requires { Sound (K.good stm.now.rule) stm.now (worker_in runner.old) }
-    ensures { MatchResult result (λ said. Turned (K.good stm.now.rule) stm.now MaySay (worker_in runner.old) said (worker_in runner.new)) (λ _. Starved (K.good stm.now.rule) stm.now (worker_in runner.old) (worker_in runner.new)) }
+    ensures { MatchResult result (λ said.
+        Turned (K.good stm.now.rule) stm.now MaySay (worker_in runner.old) said
+        (worker_in runner.new)) (λ _.
+        Starved (K.good stm.now.rule) stm.now (worker_in runner.old) (worker_in runner.new)) }
 {
     let runner = &mut **runner;
     runner.worker.turn(alloc, stm, &Open)
@@ -79,7 +83,8 @@ pub fn play<K: MemRule>(
     requires below { All (λ go. go.caller < length (workers_in runners.old)) schedule.now }
     ensures sound { AreSound (K.good stm.now.rule) stm.now (workers_in runners.new) }
     ensures same { AreSame true (workers_in runners.old) (workers_in runners.new) }
-    ensures plays { Plays stm.now.config MaySay (workers_in runners.old) (workers_in runners.new) trace.old.items trace.new.items (turns schedule.now) result }
+    ensures plays { Plays stm.now.config MaySay (workers_in runners.old) (workers_in runners.new)
+        trace.old.items trace.new.items (turns schedule.now) result }
 {
     for go in schedule {
         match turns_of(alloc, stm, runners, *go, trace) {
@@ -102,7 +107,8 @@ fn turns_of<K: MemRule>(
     requires below { go.caller < length (workers_in runners.old) }
     ensures sound { AreSound (K.good stm.now.rule) stm.now (workers_in runners.new) }
     ensures same { AreSame true (workers_in runners.old) (workers_in runners.new) }
-    ensures plays { Plays stm.now.config MaySay (workers_in runners.old) (workers_in runners.new) trace.old.items trace.new.items (replicate go.turns go.caller) result }
+    ensures plays { Plays stm.now.config MaySay (workers_in runners.old) (workers_in runners.new)
+        trace.old.items trace.new.items (replicate go.turns go.caller) result }
 {
     for _i in 0..go.turns {
         match turn(alloc, stm, runners, go.caller, trace) {

@@ -27,8 +27,12 @@ pub fn step<R: Wait, K: MemRule + Drop>(
     prepared: Prepared<K>,
     schedule: &[Go],
 ) -> (Vec<Line>, RunOutcome)
-    requires ready { (w : Workload) × IsReadyFor (K.good prepared.stm.rule) Step w.header.policy w prepared × (schedule.now ≡ w.schedule) }
-    ensures { (w : Workload) → IsReadyFor (K.good prepared.entry.stm.rule) Step w.header.policy w prepared.entry → schedule.now ≡ w.schedule → HasStepped w result.0.items result.1 }
+    requires ready { (w : Workload)
+        × IsReadyFor (K.good prepared.stm.rule) Step w.header.policy w prepared
+        × (schedule.now ≡ w.schedule) }
+    ensures { (w : Workload)
+        → IsReadyFor (K.good prepared.entry.stm.rule) Step w.header.policy w prepared.entry
+        → schedule.now ≡ w.schedule → HasStepped w result.0.items result.1 }
 {
     let Prepared {
         stm,

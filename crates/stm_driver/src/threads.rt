@@ -34,7 +34,9 @@ pub fn run_all<R: Threads + Wait + Sync, K: MemRule + Send + Sync, G: Turnstile 
     requires some { 0 < length runners.old }
     requires ready { All (IsReady (K.good stm.now.rule) stm.now) runners.old }
     ensures count { length runners.new ≡ length runners.old }
-    ensures done { (i : ℕ) (d : CachePadded (Runner K)) → i < length runners.old → Finished (K.good stm.now.rule) stm.now (slice_index_or runners.old i d) (slice_index_or runners.new i d) }
+    ensures done { (i : ℕ) (d : CachePadded (Runner K)) → i < length runners.old
+        → Finished (K.good stm.now.rule) stm.now (slice_index_or runners.old i d)
+        (slice_index_or runners.new i d) }
 {
     let threads = runners.len();
     thread::for_each_mut(

@@ -70,7 +70,9 @@ pub fn make_workers<'a, R: Threads + Sync, K: MemRule + Drop + Send + Sync>(
 ) -> Result<Vec<CachePadded<Runner<'a, K>>>, Memory>
     requires numbered { AreNumbered descs.items }
     requires all { length descs.items ≡ length parts.now }
-    ensures { IfOk result (λ rs. AreMade (λ n. slice_index_or parts.now n []) regions.now alg policy 0 descs.items (workers_in rs.items)) }
+    ensures { IfOk result (λ rs.
+        AreMade (λ n. slice_index_or parts.now n []) regions.now alg policy 0 descs.items
+        (workers_in rs.items)) }
 {
     let common = Common {
         alloc,
@@ -181,7 +183,8 @@ pub fn take_apart<K: MemRule>(
     lists: &mut Vec<OwnRows>,
     rows: &mut Vec<Row>,
 )
-    requires empty { (descs.old.items ≡ []) × (vec_len descs.old ≡ 0) × (lists.old.items ≡ []) × (vec_len lists.old ≡ 0) × (rows.old.items ≡ []) × (vec_len rows.old ≡ 0) }
+    requires empty { (descs.old.items ≡ []) × (vec_len descs.old ≡ 0) × (lists.old.items ≡ [])
+        × (vec_len lists.old ≡ 0) × (rows.old.items ≡ []) × (vec_len rows.old ≡ 0) }
     requires descs { length runners.items ≤ vec_capacity descs.old }
     requires lists { length runners.items ≤ vec_capacity lists.old }
     requires rows { length (rows_of (workers_in runners.items)) ≤ vec_capacity rows.old }
@@ -198,7 +201,8 @@ fn part_from_rows<K: MemRule>(
     descs: &mut Vec<Desc<K>>,
     lists: &mut Vec<OwnRows>,
 )
-    requires empty { (descs.old.items ≡ []) × (vec_len descs.old ≡ 0) × (lists.old.items ≡ []) × (vec_len lists.old ≡ 0) }
+    requires empty { (descs.old.items ≡ []) × (vec_len descs.old ≡ 0) × (lists.old.items ≡ [])
+        × (vec_len lists.old ≡ 0) }
     requires descs { length runners.items ≤ vec_capacity descs.old }
     requires lists { length runners.items ≤ vec_capacity lists.old }
     ensures descs { descs.new.items ≡ descs_of (workers_in runners.entry.items) }

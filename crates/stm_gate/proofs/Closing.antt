@@ -35,9 +35,18 @@ module _ (good : List ℕ → Type 0) (c : Config) (n : ℕ) where
       → Closes good c n (Taken gate) (known_of v o) (known_of w o)
   tells-taken gate v s t w o low out other a l d = subst (λ (y : View). Closes good c n (Taken gate) (known_of v o) (known_of y o)) (sym path) (
     record {
-      idle = (ap (λ b. departed (if b then Aiming else Turned)) apart, ap (λ b. is_in (departed (if b then Aiming else Turned))) apart, ap (λ b. is_closing (departed (if b then Aiming else Turned))) apart, out.reopened, unlocked-of last.gate.algorithm v.lock.taken v.tml.writer out.clear.unlocked out.clear.unwritten);
+      idle = (
+        ap (λ b. departed (if b then Aiming else Turned)) apart,
+        ap (λ b. is_in (departed (if b then Aiming else Turned))) apart,
+        ap (λ b. is_closing (departed (if b then Aiming else Turned))) apart,
+        out.reopened,
+        unlocked-of last.gate.algorithm v.lock.taken v.tml.writer out.clear.unlocked out.clear.unwritten,
+      );
       made = refl;
-      grows = grows-same (known_of v o) (known_of last o) refl refl (record { place = Status n; act = Store 0; found = None } ∷ record { place = Gate; act = Load; found = Some gate } ∷ record { place = Status n; act = Store announced; found = None } ∷ []) refl refl refl refl;
+      grows =
+          grows-same (known_of v o) (known_of last o) refl refl (record { place = Status n; act = Store 0; found = None }
+          ∷ record { place = Gate; act = Load; found = Some gate } ∷ record { place = Status n; act = Store announced; found = None } ∷ [])
+          refl refl refl refl;
       rises = refl;
       installs = refl;
       sole = λ one. absurd (let many = two who.0 n c.callers who.1 low who.2 in omega arith);
@@ -65,18 +74,37 @@ module _ (good : List ℕ → Type 0) (c : Config) (n : ℕ) where
   abbrev taken_gate : View → ℕ → Bool → GateView
   taken_gate v gate b = if b then closed_at gate v.gate else record v.gate { phase = Turned }
 
-  pub tells-refused : (gate found : ℕ) (v s t u w : View) (o : Own) → n < c.callers → IsOutside v → found ≢ gate → Tells (announce n) Nothing v 1 s → Tells aim (FindsGate c n) s gate t → Tells (take_gate n gate) (FindsTaken c n gate) t found u → Tells (depart n) Nothing u 0 w
+  pub tells-refused : (gate found : ℕ) (v s t u w : View) (o : Own) → n < c.callers → IsOutside v → found ≢ gate
+      → Tells (announce n) Nothing v 1 s → Tells aim (FindsGate c n) s gate t → Tells (take_gate n gate) (FindsTaken c n gate) t found u
+      → Tells (depart n) Nothing u 0 w
       → Closes good c n (Taken found) (known_of v o) (known_of w o)
   tells-refused gate found v s t u w o low out other a l k d = subst (λ (y : View). Closes good c n (Taken found) (known_of v o) (known_of y o)) (sym path) (
     record {
-      idle = (ap (λ b. departed (taken_gate (looked a.0 l.0 v gate) gate b).phase) apart, ap (λ b. is_in (departed (taken_gate (looked a.0 l.0 v gate) gate b).phase)) apart, ap (λ b. is_closing (departed (taken_gate (looked a.0 l.0 v gate) gate b).phase)) apart, ap (λ b. (taken_gate (looked a.0 l.0 v gate) gate b).holds) apart ∙ out.reopened, unlocked-of last.gate.algorithm v.lock.taken v.tml.writer out.clear.unlocked out.clear.unwritten);
+      idle = (
+        ap (λ b. departed (taken_gate (looked a.0 l.0 v gate) gate b).phase) apart,
+        ap (λ b. is_in (departed (taken_gate (looked a.0 l.0 v gate) gate b).phase)) apart,
+        ap (λ b. is_closing (departed (taken_gate (looked a.0 l.0 v gate) gate b).phase)) apart,
+        ap (λ b. (taken_gate (looked a.0 l.0 v gate) gate b).holds) apart ∙ out.reopened,
+        unlocked-of last.gate.algorithm v.lock.taken v.tml.writer out.clear.unlocked out.clear.unwritten,
+      );
       made = refl;
-      grows = grows-same (known_of v o) (known_of last o) refl refl (record { place = Status n; act = Store 0; found = None } ∷ record { place = Gate; act = Exchange gate (gate_word (fence_of gate) (1 + n) (alg_of gate)); found = Some found } ∷ record { place = Gate; act = Load; found = Some gate } ∷ record { place = Status n; act = Store announced; found = None } ∷ []) refl refl refl refl;
+      grows =
+          grows-same (known_of v o) (known_of last o) refl refl (record { place = Status n; act = Store 0; found = None }
+          ∷ record { place = Gate; act = Exchange gate (gate_word (fence_of gate) (1 + n) (alg_of gate)); found = Some found }
+          ∷ record { place = Gate; act = Load; found = Some gate } ∷ record { place = Status n; act = Store announced; found = None } ∷ [])
+          refl refl refl refl;
       rises = refl;
       installs = refl;
       sole = λ one. absurd (let many = two who.0 n c.callers who.1 low who.2 in omega arith);
     },
-    (record { place = Status n; act = Store 0; found = None } ∷ record { place = Gate; act = Exchange gate (gate_word (fence_of gate) (1 + n) (alg_of gate)); found = Some found } ∷ record { place = Gate; act = Load; found = Some gate } ∷ record { place = Status n; act = Store announced; found = None } ∷ [], refl, Exchange gate (gate_word (fence_of gate) (1 + n) (alg_of gate)), (1, omega arith, refl)),
+    (
+      record { place = Status n; act = Store 0; found = None }
+          ∷ record { place = Gate; act = Exchange gate (gate_word (fence_of gate) (1 + n) (alg_of gate)); found = Some found }
+          ∷ record { place = Gate; act = Load; found = Some gate } ∷ record { place = Status n; act = Store announced; found = None } ∷ [],
+      refl,
+      Exchange gate (gate_word (fence_of gate) (1 + n) (alg_of gate)),
+      (1, omega arith, refl),
+    ),
     who,
     two who.0 n c.callers who.1 low who.2,
   )
@@ -93,7 +121,9 @@ module _ (good : List ℕ → Type 0) (c : Config) (n : ℕ) where
       path : w ≡ last
       path = d.2 ∙ ap (λ y. view_after (depart n) d.0 y 0) (k.2 ∙ ap (λ y. view_after (take_gate n gate) k.0 y found) (l.2 ∙ ap (λ y. view_after aim l.0 y gate) a.2))
 
-  pub tells-closed : (gate found : ℕ) (v s t u w : View) (o : Own) → IsOutside v → holder_of gate ≡ 0 → found ≡ gate → Tells (announce n) Nothing v 1 s → Tells aim (FindsGate c n) s gate t → Tells (take_gate n gate) (FindsTaken c n gate) t found u → Tells (depart n) Nothing u 0 w
+  pub tells-closed : (gate found : ℕ) (v s t u w : View) (o : Own) → IsOutside v → holder_of gate ≡ 0 → found ≡ gate
+      → Tells (announce n) Nothing v 1 s → Tells aim (FindsGate c n) s gate t → Tells (take_gate n gate) (FindsTaken c n gate) t found u
+      → Tells (depart n) Nothing u 0 w
       → Closes good c n Closed (known_of v o) (known_of w o)
   tells-closed gate found v s t u w o out free same a l k d = subst (λ (y : View). ClosesGate good c n (known_of v o) (known_of y o)) (sym path) (record {
     holds = record {
@@ -105,12 +135,28 @@ module _ (good : List ℕ → Type 0) (c : Config) (n : ℕ) where
       unlocked = unlocked-of last.gate.algorithm v.lock.taken v.tml.writer out.clear.unlocked out.clear.unwritten;
     };
     made = refl;
-    grows = grows-same (known_of v o) (known_of last o) refl refl (record { place = Status n; act = Store 0; found = None } ∷ record { place = Gate; act = Exchange gate (gate_word (fence_of gate) (1 + n) (alg_of gate)); found = Some found } ∷ record { place = Gate; act = Load; found = Some gate } ∷ record { place = Status n; act = Store announced; found = None } ∷ []) refl refl refl refl;
+    grows =
+        grows-same (known_of v o) (known_of last o) refl refl (record { place = Status n; act = Store 0; found = None }
+        ∷ record { place = Gate; act = Exchange gate (gate_word (fence_of gate) (1 + n) (alg_of gate)); found = Some found }
+        ∷ record { place = Gate; act = Load; found = Some gate } ∷ record { place = Status n; act = Store announced; found = None } ∷ [])
+        refl refl refl refl;
     unseen = ap (λ b. (at b).checked) here;
     unsettled = ap (λ b. is_settled (at b)) here;
     rises = refl;
     installs = refl;
-    gate = (gate, (record { place = Status n; act = Store 0; found = None } ∷ record { place = Gate; act = Exchange gate (gate_word (fence_of gate) (1 + n) (alg_of gate)); found = Some found } ∷ record { place = Gate; act = Load; found = Some gate } ∷ record { place = Status n; act = Store announced; found = None } ∷ [], refl, Load, (2, omega arith, refl)), free, sym named);
+    gate = (
+      gate,
+      (
+        record { place = Status n; act = Store 0; found = None }
+            ∷ record { place = Gate; act = Exchange gate (gate_word (fence_of gate) (1 + n) (alg_of gate)); found = Some found }
+            ∷ record { place = Gate; act = Load; found = Some gate } ∷ record { place = Status n; act = Store announced; found = None } ∷ [],
+        refl,
+        Load,
+        (2, omega arith, refl),
+      ),
+      free,
+      sym named,
+    );
     sole = λ one. named ∙ (l.1.sole one ∙ ap (λ (y : View). y.gate.algorithm) a.2);
   })
     where

@@ -107,7 +107,9 @@ module _ (good : List ℕ → Type 0) (c : Config) (n : ℕ) where
   tells-fenced from count alg v w o low few h free t = let more = later-seen t.0.history v.history.front t.0.clock t.1.below t.1.front in subst (λ (y : View). TakesRange good c n from count (known_of v o) (known_of y o)) (sym t.2) (record {
     closed = record {
       holds = record { phase = h.phase; running = h.running; closing = h.closing; holds = h.holds; ungranted = granted-same v.gate.algorithm last.gate v.gate v.lock refl ∙ h.ungranted; unlocked = h.unlocked };
-      grows = grows-same (known_of v o) (record (known_of last o) { fenced = (known_of v o).fenced }) refl refl (record { place = Gate; act = Store (gate_word (fence_number n from count) (1 + n) alg); found = None } ∷ []) refl refl refl refl;
+      grows =
+          grows-same (known_of v o) (record (known_of last o) { fenced = (known_of v o).fenced }) refl refl
+          (record { place = Gate; act = Store (gate_word (fence_number n from count) (1 + n) alg); found = None } ∷ []) refl refl refl refl;
       checked = refl;
       alg = refl;
       installs = refl;
@@ -136,7 +138,10 @@ module _ (good : List ℕ → Type 0) (c : Config) (n : ℕ) where
   })
     where
       by : (own : Bool) → touches v.fence.stores a ≡ own
-          → MatchOption (item_at a (items v.fence.stores)) ((x ≡ slice_index (memory_after (public_history v.fence.past.seen) (zeros c.words)) a) × (items (if touches v.fence.stores a then v.fence.reads else record { at = a; value = x } ∷ v.fence.reads) ≡ put a x (items v.fence.reads)))
+          → MatchOption (item_at a (items v.fence.stores)) ((x
+          ≡ slice_index (memory_after (public_history v.fence.past.seen) (zeros c.words)) a)
+          × (items (if touches v.fence.stores a then v.fence.reads else record { at = a; value = x } ∷ v.fence.reads)
+          ≡ put a x (items v.fence.reads)))
           (λ y. (x ≡ y) × (items (if touches v.fence.stores a then v.fence.reads else record { at = a; value = x } ∷ v.fence.reads) ≡ items v.fence.reads))
       by true q =
           let at : item_at a (items v.fence.stores) ≡ Some (over v.fence.stores a 0) = item-touched v.fence.stores a q in
@@ -144,7 +149,8 @@ module _ (good : List ℕ → Type 0) (c : Config) (n : ℕ) where
           rw at (rw q (is, refl))
       by false q =
           let at : item_at a (items v.fence.stores) ≡ None = item-none v.fence.stores a q in
-          let is : x ≡ slice_index (memory_after (public_history v.fence.past.seen) (zeros c.words)) a = t.1 ∙ (over-miss v.fence.stores a (word_now v.fence.past.seen a) q ∙ sym (memory-at c.words a v.fence.past.seen low)) in
+          let is : x ≡ slice_index (memory_after (public_history v.fence.past.seen) (zeros c.words)) a = t.1 ∙
+          (over-miss v.fence.stores a (word_now v.fence.past.seen a) q ∙ sym (memory-at c.words a v.fence.past.seen low)) in
           rw at (rw q (is, refl))
 
   pub tells-direct_write : (a x : ℕ) (v w : View) (o : Own) → Tells (fence_store a x) Nothing v x w → WritesDirect good c n a x (known_of v o) (known_of w o)
@@ -155,9 +161,19 @@ module _ (good : List ℕ → Type 0) (c : Config) (n : ℕ) where
 
   -- who is closing and has a range in which nothing is stored may give it back
   pub can-unfence : (l : Local) (v : View) → IsClosing c.callers n l v → HasChecked c.callers n v → v.fence.holds ≡ true → v.fence.stores ≡ [] → CanUnfence c.callers n l.algorithm v
-  can-unfence l v k quiet held none = record { phase = k.phase; quiet = quiet; named = k.named; holds = held; unstored = none; plain = λ e. k.clear.unentered; marked = λ e. absurd (let f : true ≡ false = sym e ∙ k.ungiven in cc) }
+  can-unfence l v k quiet held none =
+      record {
+        phase = k.phase;
+        quiet = quiet;
+        named = k.named;
+        holds = held;
+        unstored = none;
+        plain = λ e. k.clear.unentered;
+        marked = λ e. absurd (let f : true ≡ false = sym e ∙ k.ungiven in cc);
+      }
 
-  pub tells-unchanged : (alg : Alg) (v w : View) (o : Own) → HoldsClosed (known_of v o) → is_empty (known_of v o).fenced.log.writes ≡ true → Tells (unfence n alg) Nothing v (gate_word 0 (1 + n) alg) w → Gives good c n Unchanged (known_of v o) (known_of w o)
+  pub tells-unchanged : (alg : Alg) (v w : View) (o : Own) → HoldsClosed (known_of v o) → is_empty (known_of v o).fenced.log.writes ≡ true
+      → Tells (unfence n alg) Nothing v (gate_word 0 (1 + n) alg) w → Gives good c n Unchanged (known_of v o) (known_of w o)
   tells-unchanged alg v w o h none t = subst (λ (y : View). Gives good c n Unchanged (known_of v o) (known_of y o)) (sym t.2) (
     record {
       closed = record {
@@ -180,7 +196,9 @@ module _ (good : List ℕ → Type 0) (c : Config) (n : ℕ) where
       last : View
       last = view_after (unfence n alg) t.0 v (gate_word 0 (1 + n) alg)
 
-  pub tells-full : (t : ℕ) (alg : Alg) (v w : View) (o : Own) → HoldsClosed (known_of v o) → is_empty (known_of v o).fenced.log.writes ≡ false → CLOCK_LIMIT ≤ t → Tells settle (FindsEven alg) v t w → Gives good c n (ClockFull t) (known_of v o) (known_of w o)
+  pub tells-full : (t : ℕ) (alg : Alg) (v w : View) (o : Own) → HoldsClosed (known_of v o)
+      → is_empty (known_of v o).fenced.log.writes ≡ false → CLOCK_LIMIT ≤ t → Tells settle (FindsEven alg) v t w
+      → Gives good c n (ClockFull t) (known_of v o) (known_of w o)
   tells-full t alg v w o h some high s = subst (λ (y : View). Gives good c n (ClockFull t) (known_of v o) (known_of y o)) (sym s.2) (
     record {
       closed = record {
@@ -206,7 +224,9 @@ module _ (good : List ℕ → Type 0) (c : Config) (n : ℕ) where
 
   -- THE MEMORY RULE of a give-back, as the rule states it
   keeps-cells : (v : View) (o : Own) → is_empty (known_of v o).fenced.log.writes ≡ false → fences.KeepsFenced good c n (known_of v o) → KeepsFenced rule v.fence
-  keeps-cells v o some keeps m g h small = subst good (words_of-over c.words m v.fence.stores) (keeps some (words_of c.words m) g (length-words_of c.words m) (λ a e. same a e (ltb a c.words) refl) (words_of-words c.words m small))
+  keeps-cells v o some keeps m g h small =
+      subst good (words_of-over c.words m v.fence.stores) (keeps some (words_of c.words m) g (length-words_of c.words m)
+      (λ a e. same a e (ltb a c.words) refl) (words_of-words c.words m small))
     where
       past : List ℕ
       past = memory_after (public_history v.fence.past.seen) (zeros c.words)
@@ -234,7 +254,9 @@ module _ (good : List ℕ → Type 0) (c : Config) (n : ℕ) where
   rises-within RingSw t low even = omega arith
   rises-within Serial t low even = omega arith
 
-  pub can-commit : (t time : ℕ) (l : Local) (v w : View) (o : Own) → IsClosing c.callers n l v → v.fence.holds ≡ true → is_empty (known_of v o).fenced.log.writes ≡ false → fences.KeepsFenced good c n (known_of v o) → t < CLOCK_LIMIT → time ≡ t + entry_rise l.algorithm
+  pub can-commit : (t time : ℕ) (l : Local) (v w : View) (o : Own) → IsClosing c.callers n l v → v.fence.holds ≡ true
+      → is_empty (known_of v o).fenced.log.writes ≡ false → fences.KeepsFenced good c n (known_of v o) → t < CLOCK_LIMIT
+      → time ≡ t + entry_rise l.algorithm
       → Tells settle (FindsEven l.algorithm) v t w → CanFenceCommit rule l.algorithm time w
   can-commit t time l v w o k held some keeps low is s = subst (CanFenceCommit rule l.algorithm time) (sym s.2) (record {
     phase = k.phase;
@@ -257,11 +279,17 @@ module _ (good : List ℕ → Type 0) (c : Config) (n : ℕ) where
       holds = record { phase = h.phase; running = h.running; closing = h.closing; holds = h.holds; ungranted = granted-same v.gate.algorithm given.gate v.gate v.lock refl ∙ h.ungranted; unlocked = h.unlocked };
       grows = record {
         later = before.0 ++ made ∷ [];
-        is = ap (λ (q : List public.Entry). q ++ made ∷ []) before.1 ∙ (append_assoc (public_history (upto b.0.history v.history.front)) before.0 (made ∷ []) ∙ ap (λ (q : List Entry). public_history q ++ (before.0 ++ made ∷ [])) (sym shown.seen));
+        is =
+            ap (λ (q : List public.Entry). q ++ made ∷ []) before.1
+            ∙ (append_assoc (public_history (upto b.0.history v.history.front)) before.0 (made ∷ [])
+            ∙ ap (λ (q : List Entry). public_history q ++ (before.0 ++ made ∷ [])) (sym shown.seen));
         ascending = ascending-append v.history.front (time - 1) before.0 (made ∷ []) before.2 before.3 (let q = shown.front in omega arith) (let q = shown.front in omega arith, tt);
         up_to = within-append (time - 1) time before.0 (made ∷ []) before.3 (omega arith) (omega arith, tt);
         front_rose = (let q = shown.front in omega arith);
-        more = record { place = Gate; act = Store (gate_word 0 (1 + n) l.algorithm); found = None } ∷ record { place = Done; act = Store time; found = None } ∷ record { place = Base; act = Store time; found = None } ∷ record { place = Clock; act = Store time; found = None } ∷ record { place = Clock; act = Load; found = Some t } ∷ [];
+        more =
+            record { place = Gate; act = Store (gate_word 0 (1 + n) l.algorithm); found = None }
+            ∷ record { place = Done; act = Store time; found = None } ∷ record { place = Base; act = Store time; found = None }
+            ∷ record { place = Clock; act = Store time; found = None } ∷ record { place = Clock; act = Load; found = Some t } ∷ [];
         step_trace = refl;
         reads_limit = refl;
         writes_limit = refl;
@@ -288,10 +316,19 @@ module _ (good : List ℕ → Type 0) (c : Config) (n : ℕ) where
   })
     where
       given : View
-      given = view_after (unfence n l.algorithm) f.0 (view_after (store_done time) e.0 (view_after (store_base time) d.0 (view_after (fence_commit n l.algorithm time) b.0 (view_after settle a.0 v t) time) time) time) (gate_word 0 (1 + n) l.algorithm)
+      given =
+          view_after (unfence n l.algorithm) f.0 (view_after (store_done time) e.0
+          (view_after (store_base time) d.0 (view_after (fence_commit n l.algorithm time) b.0 (view_after settle a.0 v t) time) time) time)
+          (gate_word 0 (1 + n) l.algorithm)
 
       path : w ≡ given
-      path = f.2 ∙ ap (λ x. view_after (unfence n l.algorithm) f.0 x (gate_word 0 (1 + n) l.algorithm)) (e.2 ∙ ap (λ x. view_after (store_done time) e.0 x time) (d.2 ∙ ap (λ x. view_after (store_base time) d.0 x time) (b.2 ∙ ap (λ x. view_after (fence_commit n l.algorithm time) b.0 x time) a.2)))
+      path =
+          f.2
+          ∙ ap (λ x. view_after (unfence n l.algorithm) f.0 x (gate_word 0 (1 + n) l.algorithm))
+          (e.2
+          ∙ ap (λ x. view_after (store_done time) e.0 x time) (d.2
+          ∙ ap (λ x. view_after (store_base time) d.0 x time)
+          (b.2 ∙ ap (λ x. view_after (fence_commit n l.algorithm time) b.0 x time) a.2)))
 
       settled : View
       settled = view_after settle a.0 v t

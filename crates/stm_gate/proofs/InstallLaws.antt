@@ -43,7 +43,15 @@ module _ (good : List ℕ → Type 0) (c : Config) (n : ℕ) where
       → Tells (store_base t) Nothing s t u → Tells (store_done t) Nothing u t y → Tells (install n fence alg) Nothing y (gate_word fence (1 + n) alg) w → Installs good c n alg (known_of v o) (known_of w o)
   tells-installed fence alg t v s u y w o h quiet ungranted clear z a b d = subst (λ (x : View). Installs good c n alg (known_of v o) (known_of x o)) (sym path) (record {
     closed = record {
-      holds = record { phase = h.phase; running = h.running; closing = h.closing; holds = h.holds; ungranted = ungranted-of alg last.gate v.lock ungranted clear.unfixed; unlocked = unlocked-of alg v.lock.taken v.tml.writer clear.unlocked clear.unwritten };
+      holds =
+          record {
+            phase = h.phase;
+            running = h.running;
+            closing = h.closing;
+            holds = h.holds;
+            ungranted = ungranted-of alg last.gate v.lock ungranted clear.unfixed;
+            unlocked = unlocked-of alg v.lock.taken v.tml.writer clear.unlocked clear.unwritten;
+          };
       made = refl;
       grows = grows-same (known_of v o) (known_of last o) refl refl (three ++ z.more) (sym (append_assoc three z.more v.steps.step_trace)) refl refl refl;
       checked = λ k e. e;
@@ -99,7 +107,9 @@ closing-flags good c n l v closing s = go l.running l.holds refl refl s.by
     go false true a b k = (a, b)
     go false false a b k = absurd (let e : Idle ≡ Closing = sym k.phase ∙ closing in cc)
 
-pub stands-closing : (good : List ℕ → Type 0) (c : Config) (n : ℕ) (l : Local) (v : View) (running holds : Bool) → (running ≡ false) × (holds ≡ true) → HasRoom l → IsClosing c.callers n (record l { running = running; holds = holds }) v → Stands good c n (record l { running = running; holds = holds }) v
+pub stands-closing : (good : List ℕ → Type 0) (c : Config) (n : ℕ) (l : Local) (v : View) (running holds : Bool)
+    → (running ≡ false) × (holds ≡ true) → HasRoom l → IsClosing c.callers n (record l { running = running; holds = holds }) v
+    → Stands good c n (record l { running = running; holds = holds }) v
 stands-closing good c n l v true holds flags lengths k = absurd (let e : true ≡ false = flags.0 in cc)
 stands-closing good c n l v false false flags lengths k = absurd (let e : false ≡ true = flags.1 in cc)
 stands-closing good c n l v false true flags lengths k = record { holds = sym k.holds; lengths = lengths; by = k }

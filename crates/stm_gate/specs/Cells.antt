@@ -28,7 +28,9 @@ pub cells-at : (ws : List (ℕ × ℕ)) (a : ℕ) → touches (cells_of ws) a �
 cells-at [] a t = absurd cc
 cells-at (w ∷ ws) a t = by (touches (cells_of ws) a) refl (sym (touches-last (cells_of ws) (cell w) a) ∙ t) (cells-at ws a)
   where
-    by : (b : Bool) → touches (cells_of ws) a ≡ b → (if touches (cells_of ws) a then true else w.0 == a) ≡ true → (touches (cells_of ws) a ≡ true → (j : ℕ) × (j < length ws) × ((get_or ws j (0, 0)).0 ≡ a)) → (j : ℕ) × (j < suc (length ws)) × ((get_or (w ∷ ws) j (0, 0)).0 ≡ a)
+    by : (b : Bool) → touches (cells_of ws) a ≡ b → (if touches (cells_of ws) a then true else w.0 == a) ≡ true
+        → (touches (cells_of ws) a ≡ true → (j : ℕ) × (j < length ws) × ((get_or ws j (0, 0)).0 ≡ a))
+        → (j : ℕ) × (j < suc (length ws)) × ((get_or (w ∷ ws) j (0, 0)).0 ≡ a)
     by true q e rec = let r = rec q in (suc r.0, omega (arith, r.1), r.2)
     by false q e rec = let f : (w.0 == a) ≡ true = rw q at e in (0, omega arith, grind (arith, nat_tests))
 
@@ -57,7 +59,9 @@ items-last : (cs : List Cell) (w : Cell) → touches cs w.at ≡ false → items
 items-last [] w e = refl
 items-last (c ∷ cs) w e = by (c.at == w.at) refl e (items-last cs w)
   where
-    by : (b : Bool) → (c.at == w.at) ≡ b → (if c.at == w.at then true else touches cs w.at) ≡ false → (touches cs w.at ≡ false → items (cs ++ w ∷ []) ≡ (w.at, w.value) ∷ items cs) → put c.at c.value (items (cs ++ w ∷ [])) ≡ (w.at, w.value) ∷ put c.at c.value (items cs)
+    by : (b : Bool) → (c.at == w.at) ≡ b → (if c.at == w.at then true else touches cs w.at) ≡ false
+        → (touches cs w.at ≡ false → items (cs ++ w ∷ []) ≡ (w.at, w.value) ∷ items cs)
+        → put c.at c.value (items (cs ++ w ∷ [])) ≡ (w.at, w.value) ∷ put c.at c.value (items cs)
     by true q f rec = absurd (let g = rw q at f in cc)
     by false q f rec =
         let g : touches cs w.at ≡ false = rw q at f in

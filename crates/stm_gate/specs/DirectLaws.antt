@@ -46,7 +46,9 @@ module _ (good : List ℕ → Type 0) (c : Config) (n : ℕ) where
   tells-load a x l v w o quiet low closes granted i t = subst (λ (u : View). HasRead good c n a (Value x) (known_of v o) (known_of u o)) (sym t.2) (
     goes-inner v u o i.phase (record { history = refl; gate = refl; lock = refl; writer = refl; fence = refl; start = refl; rises = refl; base = refl; installs = refl; step_trace = (_ ∷ [], refl) }),
     quiet,
-    subst (λ (ws : List (ℕ × ℕ)). Reads (record { reads = items v.attempt.reads; writes = ws }) a x (record { reads = items (logged v.attempt a x); writes = written_under v.gate.algorithm v.gate.granted u o })) (sym (written v))
+    subst (λ (ws : List (ℕ × ℕ)).
+        Reads (record { reads = items v.attempt.reads; writes = ws }) a x
+        (record { reads = items (logged v.attempt a x); writes = written_under v.gate.algorithm v.gate.granted u o })) (sym (written v))
         (subst (λ (ws : List (ℕ × ℕ)). Reads (record { reads = items v.attempt.reads; writes = items v.attempt.stores }) a x (record { reads = items (logged v.attempt a x); writes = ws })) (sym (written u))
         (reads-logged (word_now v.history.seen) v.attempt a x i.sees t.1.value)),
     t.1.small,
@@ -81,7 +83,9 @@ module _ (good : List ℕ → Type 0) (c : Config) (n : ℕ) where
       written y = written-granted v.gate.algorithm v.gate.granted y o (promoted-of good c n l v i closes granted).0
 
   -- what a promoted attempt wrote is what it stored
-  written-here : (l : Local) (v : View) (o : Own) → closes_gate v.gate.algorithm ≡ true → granted_under v.gate.algorithm v.gate v.lock ≡ true → IsInside good c n l v → written_under v.gate.algorithm v.gate.granted v o ≡ items v.attempt.stores
+  written-here : (l : Local) (v : View) (o : Own) → closes_gate v.gate.algorithm ≡ true
+      → granted_under v.gate.algorithm v.gate v.lock ≡ true → IsInside good c n l v
+      → written_under v.gate.algorithm v.gate.granted v o ≡ items v.attempt.stores
   written-here l v o closes granted i = written-granted v.gate.algorithm v.gate.granted v o (promoted-of good c n l v i closes granted).0
 
   pub tells-read_only : (l : Local) (v w : View) (o : Own) → l.wrote ≡ false → closes_gate v.gate.algorithm ≡ true → granted_under v.gate.algorithm v.gate v.lock ≡ true → IsInside good c n l v → w ≡ left n v
@@ -102,7 +106,8 @@ module _ (good : List ℕ → Type 0) (c : Config) (n : ℕ) where
   within alg t l v named time p = subst (λ (k : ℕ). k ≤ CLOCK_LIMIT) (sym time) (subst (λ (a : Alg). l.start + entry_rise a ≤ CLOCK_LIMIT) named p.limit)
 
   -- a promoted attempt that wrote may store the next time
-  pub may-commit : (alg : Alg) (t : ℕ) (l : Local) (v : View) (o : Own) → l.algorithm ≡ alg → t ≡ l.start + entry_rise alg → l.wrote ≡ true → closes_gate v.gate.algorithm ≡ true → granted_under v.gate.algorithm v.gate v.lock ≡ true → IsInside good c n l v
+  pub may-commit : (alg : Alg) (t : ℕ) (l : Local) (v : View) (o : Own) → l.algorithm ≡ alg → t ≡ l.start + entry_rise alg → l.wrote ≡ true
+      → closes_gate v.gate.algorithm ≡ true → granted_under v.gate.algorithm v.gate v.lock ≡ true → IsInside good c n l v
       → KeepsRule good c n (known_of v o) → CanDirectCommit rule alg t v
   may-commit alg t l v o named time dirty closes granted i keeps = record {
     phase = i.phase;
@@ -112,7 +117,8 @@ module _ (good : List ℕ → Type 0) (c : Config) (n : ℕ) where
     limit = within alg t l v named time p;
     wrote = p.dirty dirty;
     keeps = keeps-cells good c.words v.attempt.reads v.attempt.stores i.reads_inside
-        (subst (λ (ws : List (ℕ × ℕ)). Keeps good c.words (record { reads = items v.attempt.reads; writes = ws })) written (keeps (ap (λ (ws : List (ℕ × ℕ)). not (is_empty ws)) written ∙ ap not (wrote-some v.attempt.stores (p.dirty dirty)))));
+        (subst (λ (ws : List (ℕ × ℕ)). Keeps good c.words (record { reads = items v.attempt.reads; writes = ws })) written
+        (keeps (ap (λ (ws : List (ℕ × ℕ)). not (is_empty ws)) written ∙ ap not (wrote-some v.attempt.stores (p.dirty dirty)))));
   }
     where
       p : IsDirect l v
@@ -121,7 +127,8 @@ module _ (good : List ℕ → Type 0) (c : Config) (n : ℕ) where
       written : written_under v.gate.algorithm v.gate.granted v o ≡ items v.attempt.stores
       written = written-here l v o closes granted i
 
-  pub tells-commit : (alg : Alg) (t : ℕ) (l : Local) (v s u y w : View) (o : Own) → l.algorithm ≡ alg → t ≡ l.start + entry_rise alg → l.wrote ≡ true → closes_gate v.gate.algorithm ≡ true → granted_under v.gate.algorithm v.gate v.lock ≡ true → IsInside good c n l v
+  pub tells-commit : (alg : Alg) (t : ℕ) (l : Local) (v s u y w : View) (o : Own) → l.algorithm ≡ alg → t ≡ l.start + entry_rise alg
+      → l.wrote ≡ true → closes_gate v.gate.algorithm ≡ true → granted_under v.gate.algorithm v.gate v.lock ≡ true → IsInside good c n l v
       → Tells (direct_commit n alg t) (steps.Commits rule c n t) v t s → Tells (store_base t) Nothing s t u → Tells (store_done t) Nothing u t y → w ≡ left n y
       → CommitsAt good c n t (known_of v o) (known_of w o)
   tells-commit alg t l v s u y w o named time dirty closes granted i a b d is = subst (λ (x : View). CommitsAt good c n t (known_of v o) (known_of x o)) (sym path)

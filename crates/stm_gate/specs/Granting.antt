@@ -42,7 +42,10 @@ as-was-earlier r x u v w s f = record {
   early = f.early ++ s.0;
   act = f.act;
   late = f.late;
-  step_trace = f.step_trace ∙ ap (λ (t : List TracedStep). f.late ++ record { place = Record r; act = f.act; found = Some x } ∷ t) (ap (λ (t : List TracedStep). f.early ++ t) s.1 ∙ sym (append_assoc f.early s.0 u.step_trace));
+  step_trace =
+      f.step_trace
+      ∙ ap (λ (t : List TracedStep). f.late ++ record { place = Record r; act = f.act; found = Some x } ∷ t)
+      (ap (λ (t : List TracedStep). f.early ++ t) s.1 ∙ sym (append_assoc f.early s.0 u.step_trace));
   untouched = untouched-append (Record r) f.early s.0 f.untouched (s.2 r);
 }
 
@@ -59,24 +62,39 @@ module _ (good : List ℕ → Type 0) (c : Config) (n : ℕ) where
   quits-after u v w a b = let k = a.continues in record {
     ends = record { idle = b.ends.idle; grows = grows-trans u v w k.grows b.ends.grows; alg = b.ends.alg ∙ k.alg; base = b.ends.base ∙ k.base; installs = b.ends.installs ∙ k.installs };
     made = b.made ∙ k.made;
-    rises = (let e = k.base in let r = b.rises.0 in omega arith, let e = k.base in let r = b.rises.1 in let q : quit_rise v.alg (has_written v) ≡ quit_rise u.alg (has_written u) = (λ j. quit_rise (k.alg j) (not (is_empty (a.log j).writes) || not (is_none (a.kept j)))) in omega arith);
+    rises = (
+      let e = k.base in
+          let r = b.rises.0 in
+          omega arith,
+      let e = k.base in
+          let r = b.rises.1 in
+          let q : quit_rise v.alg (has_written v) ≡ quit_rise u.alg (has_written u) =
+          (λ j. quit_rise (k.alg j) (not (is_empty (a.log j).writes) || not (is_none (a.kept j)))) in
+          omega arith,
+    );
     revocable = a.revocable;
   }
 
   found-before : (place : At) (x : ℕ) (u v w : CallerState) → Waits good c n u v → Found place x v w → Found place x u w
   found-before place x u v w a f = found-earlier place x u v w f a.continues.grows.more a.continues.grows.step_trace
 
-  first-after : (time bits : ℕ) (u v w : CallerState) → Waits good c n u v → FindsFirst c.ring v.start (read_filter c n ToPromote v.log.reads) time bits v w → FindsFirst c.ring u.start (read_filter c n ToPromote u.log.reads) time bits u w
-  first-after time bits u v w a f = subst (λ (g : Log). FindsFirst c.ring u.start (read_filter c n ToPromote g.reads) time bits u w) a.log (subst (λ (s : ℕ). FindsFirst c.ring s (read_filter c n ToPromote v.log.reads) time bits u w) a.start (record {
-    early = f.early ++ k.more;
-    clock = f.clock;
-    loads = f.loads;
-    later = f.later;
-    late = f.late;
-    step_trace = f.step_trace ∙ ap (λ (t : List TracedStep). f.late ++ clock_load f.later ∷ (f.loads ++ clock_load f.clock ∷ t)) (ap (λ (t : List TracedStep). f.early ++ t) k.step_trace ∙ sym (append_assoc f.early k.more u.step_trace));
-    near = f.near;
-    first = f.first;
-  }))
+  first-after : (time bits : ℕ) (u v w : CallerState) → Waits good c n u v
+      → FindsFirst c.ring v.start (read_filter c n ToPromote v.log.reads) time bits v w
+      → FindsFirst c.ring u.start (read_filter c n ToPromote u.log.reads) time bits u w
+  first-after time bits u v w a f = subst (λ (g : Log). FindsFirst c.ring u.start (read_filter c n ToPromote g.reads) time bits u w) a.log
+      (subst (λ (s : ℕ). FindsFirst c.ring s (read_filter c n ToPromote v.log.reads) time bits u w) a.start (record {
+        early = f.early ++ k.more;
+        clock = f.clock;
+        loads = f.loads;
+        later = f.later;
+        late = f.late;
+        step_trace =
+            f.step_trace
+            ∙ ap (λ (t : List TracedStep). f.late ++ clock_load f.later ∷ (f.loads ++ clock_load f.clock ∷ t))
+            (ap (λ (t : List TracedStep). f.early ++ t) k.step_trace ∙ sym (append_assoc f.early k.more u.step_trace));
+        near = f.near;
+        first = f.first;
+      }))
     where
       k : Grows u v
       k = a.continues.grows
@@ -126,7 +144,11 @@ module _ (good : List ℕ → Type 0) (c : Config) (n : ℕ) where
   irrevs-after (irrevs.Busy caller status) u v w a s b = absurd b
   irrevs-after (irrevs.Taken gate) u v w a s b = absurd b
   irrevs-after (irrevs.Conflict cause) u v w a s b = (quits-after u v w a b.0, conflicts-after cause u v w a s b.1, b.2)
-  irrevs-after (irrevs.ClockFull clock) u v w a s b = (quits-after u v w a b.0, ap asks_at_grant (sym a.continues.alg) ∙ b.1, record { limit = b.2.limit; found = found-before Clock clock u v w a b.2.found; top = b.2.top })
+  irrevs-after (irrevs.ClockFull clock) u v w a s b = (
+    quits-after u v w a b.0,
+    ap asks_at_grant (sym a.continues.alg) ∙ b.1,
+    record { limit = b.2.limit; found = found-before Clock clock u v w a b.2.found; top = b.2.top },
+  )
 
   -- an attempt that was irrevocable before stays as it was
   pub irrevocable-already : (l : Local) (v : View) (o : Own) → o.committing ≡ false → IsInside good c n l v → is_irrevocable (known_of v o) ≡ true → TriesIrrevocable good c n (known_of v o) (known_of v o)

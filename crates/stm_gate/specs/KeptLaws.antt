@@ -43,7 +43,8 @@ minus-fewer : (a : ℕ) (us : List (ℕ × ℕ)) → has_item a us ≡ true → 
 minus-fewer a [] h = absurd cc
 minus-fewer a (u ∷ us) h = by (u.0 == a) h (minus-no-more a us) (minus-fewer a us)
   where
-    by : (b : Bool) → is_some (if b then Some u.1 else item_at a us) ≡ true → length (minus a us) ≤ length us → (has_item a us ≡ true → length (minus a us) < length us) → length (if b then minus a us else u ∷ minus a us) < suc (length us)
+    by : (b : Bool) → is_some (if b then Some u.1 else item_at a us) ≡ true → length (minus a us) ≤ length us
+        → (has_item a us ≡ true → length (minus a us) < length us) → length (if b then minus a us else u ∷ minus a us) < suc (length us)
     by true h l rec = omega arith
     by false h l rec = let r = rec h in omega arith
 

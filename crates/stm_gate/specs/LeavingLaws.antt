@@ -101,7 +101,14 @@ module _ (n : ℕ) where
   found-left place x v u o p f = found-later place x (known_of v o) (known_of u p) (known_of (left n u) p) f (last_steps n u.gate.holds u.gate.fence u.gate.algorithm) refl
 
   pub ends-left : (v u : View) (o : Own) → Carried v u → Grows (known_of v o) (known_of (left n u) o) → Ends (known_of v o) (known_of (left n u) o)
-  ends-left v u o c grows = record { idle = (refl, refl, refl, refl, unlocked-of u.gate.algorithm u.lock.taken u.tml.writer c.unlocked c.unwritten); grows = grows; alg = c.named; base = c.base; installs = ap reverse c.installs }
+  ends-left v u o c grows =
+      record {
+        idle = (refl, refl, refl, refl, unlocked-of u.gate.algorithm u.lock.taken u.tml.writer c.unlocked c.unwritten);
+        grows = grows;
+        alg = c.named;
+        base = c.base;
+        installs = ap reverse c.installs;
+      }
 
   raised-ends : (t : ℕ) (v u : View) (o : Own) → IsRaised t v u → v.history.front ≤ t → Ends (known_of v o) (known_of (left n u) o)
   raised-ends t v u o m up = let k = step_trace-left v u m.carried in ends-left v u o m.carried (record {
@@ -121,7 +128,10 @@ module _ (n : ℕ) where
   unmade-ends v u o m = raised-ends v.history.front v u o (unmade-raised v u m) (le_refl v.history.front)
 
   -- THE REFUSAL: the attempt ended without an entry
-  pub quits-left : (v u : View) (o : Own) → IsUnmade v u → (v.steps.rises_at_begin ≤ u.steps.rises) × (u.steps.rises ≤ v.steps.rises_at_begin + quit_rise v.gate.algorithm (has_written (known_of v o))) → is_irrevocable (known_of v o) ≡ false
+  pub quits-left : (v u : View) (o : Own) → IsUnmade v u
+      → (v.steps.rises_at_begin ≤ u.steps.rises)
+      × (u.steps.rises ≤ v.steps.rises_at_begin + quit_rise v.gate.algorithm (has_written (known_of v o)))
+      → is_irrevocable (known_of v o) ≡ false
       → Quits (known_of v o) (known_of (left n u) o)
   quits-left v u o m rises revocable = record { ends = unmade-ends v u o m; made = ap (λ (h : SeenHistory). public_history h.made) m.history; rises = rises; revocable = revocable }
 
@@ -133,8 +143,12 @@ module _ (n : ℕ) where
       made = ap (λ (h : SeenHistory). public_history h.made) m.history;
       is_start = is;
       seen = (let r = q.reach in let f : u.history.front ≡ t = ap (λ (h : SeenHistory). h.front) m.history in omega arith);
-      kept = subst (λ (h : SeenHistory). good (memory_at time (public_history h.seen) (zeros c.words))) (sym m.history) (subst (λ (s : ℕ). good (memory_at s (public_history v.history.seen) (zeros c.words))) (sym is) q.kept);
-      sees = subst (λ (h : SeenHistory). Sees time (public_history h.seen) (zeros c.words) (known_of v o).log) (sym m.history) (subst (λ (s : ℕ). Sees s (public_history v.history.seen) (zeros c.words) (known_of v o).log) (sym is) q.sees);
+      kept =
+          subst (λ (h : SeenHistory). good (memory_at time (public_history h.seen) (zeros c.words))) (sym m.history)
+          (subst (λ (s : ℕ). good (memory_at s (public_history v.history.seen) (zeros c.words))) (sym is) q.kept);
+      sees =
+          subst (λ (h : SeenHistory). Sees time (public_history h.seen) (zeros c.words) (known_of v o).log) (sym m.history)
+          (subst (λ (s : ℕ). Sees s (public_history v.history.seen) (zeros c.words) (known_of v o).log) (sym is) q.sees);
     }
 
     pub ended-left : (time : ℕ) (v u : View) (o : Own) → IsUnmade v u → time ≡ v.attempt.start → IsOpaque good c n (known_of v o) → EndsAt good c n time (known_of v o) (known_of (left n u) o)

@@ -35,7 +35,9 @@ pub put-new : (a v : ℕ) (ws : List (ℕ × ℕ)) → item_at a ws ≡ None →
 put-new a v [] e = refl
 put-new a v (w ∷ ws) e = by (w.0 == a) refl e (put-new a v ws)
   where
-    by : (b : Bool) → (w.0 == a) ≡ b → (if w.0 == a then Some w.1 else item_at a ws) ≡ None → (item_at a ws ≡ None → put a v ws ≡ ws ++ (a, v) ∷ []) → (if w.0 == a then (a, v) ∷ ws else w ∷ put a v ws) ≡ w ∷ (ws ++ (a, v) ∷ [])
+    by : (b : Bool) → (w.0 == a) ≡ b → (if w.0 == a then Some w.1 else item_at a ws) ≡ None
+        → (item_at a ws ≡ None → put a v ws ≡ ws ++ (a, v) ∷ [])
+        → (if w.0 == a then (a, v) ∷ ws else w ∷ put a v ws) ≡ w ∷ (ws ++ (a, v) ∷ [])
     by true q f rec = absurd (let g = rw q at f in cc)
     by false q f rec = rw q (ap (λ l. w ∷ l) (rec (rw q at f)))
 

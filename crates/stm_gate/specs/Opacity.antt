@@ -44,7 +44,13 @@ module _ (good : List ℕ → Type 0) (c : Config) (n : ℕ) where
         reach = (let a = is in let b = front in omega arith);
         sees = e;
         kept = g;
-        explained = (memory_at v.attempt.start (public_history v.history.seen) (zeros c.words), g, length-memory_at v.attempt.start (public_history v.history.seen) (zeros c.words) ∙ length-replicate c.words 0, e, (legal-public good c v.history.seen (s + 1) below legal).words_always v.attempt.start);
+        explained = (
+          memory_at v.attempt.start (public_history v.history.seen) (zeros c.words),
+          g,
+          length-memory_at v.attempt.start (public_history v.history.seen) (zeros c.words) ∙ length-replicate c.words 0,
+          e,
+          (legal-public good c v.history.seen (s + 1) below legal).words_always v.attempt.start,
+        );
       }) kept all
 
   -- an open attempt has read the memory at its start

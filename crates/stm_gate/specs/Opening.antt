@@ -27,7 +27,8 @@ module _ {K : Type 0} (good : K → List ℕ → Type 0) (stm : Stm K) where
     pub rule : who.rule ≡ Some stm.rule
     pub stands : Stands (good stm.rule) stm.config n l v
 
-  pub opened : {d e : Handle K} (n : ℕ) (l : Local) → d ≡ e → d.own ≡ own_of l → d.who.role ≡ Caller n → n < d.who.config.callers → Stands (good_by good d.who.rule) d.who.config n l d.view → IsOf e stm → Opened e d.who d.view n l
+  pub opened : {d e : Handle K} (n : ℕ) (l : Local) → d ≡ e → d.own ≡ own_of l → d.who.role ≡ Caller n → n < d.who.config.callers
+      → Stands (good_by good d.who.rule) d.who.config n l d.view → IsOf e stm → Opened e d.who d.view n l
   opened {d} {e} n l same own role low stands belongs = record {
     view = ap (λ (p : Handle K). p.view) (sym same);
     knows = ap known (sym same) ∙ ap (λ (o : Own). known_of d.view o) own;

@@ -88,11 +88,17 @@ module _ (c : Config) (n : ℕ) where
   abbrev pub items_of : (gate found : ℕ) (fence : ℕ) (alg : Alg) → List TracedStep
   items_of gate found fence alg = record { place = Gate; act = Exchange (gate_word fence 0 alg) (gate_word fence (1 + n) alg); found = Some found } ∷ record { place = Gate; act = Load; found = Some gate } ∷ []
 
-  seize_path : (fence : ℕ) (alg : Alg) (gate found : ℕ) (v s w : View) (b : Bool) → (found == gate_word fence 0 alg) ≡ b → Tells look_gate (FindsGate c n) v gate s → Tells (seize n fence alg) (FindsTaken c n (gate_word fence 0 alg)) s found w
+  seize_path : (fence : ℕ) (alg : Alg) (gate found : ℕ) (v s w : View) (b : Bool) → (found == gate_word fence 0 alg) ≡ b
+      → Tells look_gate (FindsGate c n) v gate s → Tells (seize n fence alg) (FindsTaken c n (gate_word fence 0 alg)) s found w
       → w ≡ gated v (if b then seized v.gate else v.gate) (items_of gate found fence alg ++ v.steps.step_trace)
-  seize_path fence alg gate found v s w b e t k = k.2 ∙ (ap (λ (y : View). view_after (seize n fence alg) k.0 y found) t.2 ∙ ap (λ (d : Bool). gated v (if d then seized v.gate else v.gate) (items_of gate found fence alg ++ v.steps.step_trace)) e)
+  seize_path fence alg gate found v s w b e t k =
+      k.2
+      ∙ (ap (λ (y : View). view_after (seize n fence alg) k.0 y found) t.2
+      ∙ ap (λ (d : Bool). gated v (if d then seized v.gate else v.gate) (items_of gate found fence alg ++ v.steps.step_trace)) e)
 
-  pub seizes-taken : (fence : ℕ) (alg : Alg) (gate found : ℕ) (v s w : View) → n < c.callers → found ≢ gate_word fence 0 alg → Tells look_gate (FindsGate c n) v gate s → Tells (seize n fence alg) (FindsTaken c n (gate_word fence 0 alg)) s found w → ClosesFor c n (Some found) v w
+  pub seizes-taken : (fence : ℕ) (alg : Alg) (gate found : ℕ) (v s w : View) → n < c.callers → found ≢ gate_word fence 0 alg
+      → Tells look_gate (FindsGate c n) v gate s → Tells (seize n fence alg) (FindsTaken c n (gate_word fence 0 alg)) s found w
+      → ClosesFor c n (Some found) v w
   seizes-taken fence alg gate found v s w low other t k =
       let apart : (found == gate_word fence 0 alg) ≡ false = grind (arith, nat_tests) in
       let path = seize_path fence alg gate found v s w false apart t k in
@@ -103,16 +109,32 @@ module _ (c : Config) (n : ℕ) where
         two who.0 who.1 low who.2,
       )
 
-  pub seizes-won : (fence : ℕ) (alg : Alg) (gate found : ℕ) (v s w : View) → found ≡ gate_word fence 0 alg → Tells look_gate (FindsGate c n) v gate s → Tells (seize n fence alg) (FindsTaken c n (gate_word fence 0 alg)) s found w
+  pub seizes-won : (fence : ℕ) (alg : Alg) (gate found : ℕ) (v s w : View) → found ≡ gate_word fence 0 alg
+      → Tells look_gate (FindsGate c n) v gate s → Tells (seize n fence alg) (FindsTaken c n (gate_word fence 0 alg)) s found w
       → w ≡ gated v (seized v.gate) (items_of gate found fence alg ++ v.steps.step_trace)
   seizes-won fence alg gate found v s w same t k = let here : (found == gate_word fence 0 alg) ≡ true = grind (arith, nat_tests) in seize_path fence alg gate found v s w true here t k
 
-  pub takes-won : (fence : ℕ) (alg : Alg) (gate found : ℕ) (v s w : View) → found ≡ gate_word fence 0 alg → Tells look_gate (FindsGate c n) v gate s → Tells (seize n fence alg) (FindsTaken c n (gate_word fence 0 alg)) s found w → ClosesFor c n None v w
-  takes-won fence alg gate found v s w same t k = record { gate = seized v.gate; more = items_of gate found fence alg; is = seizes-won fence alg gate found v s w same t k; holds = refl; phase = refl; algorithm = refl; fence = refl; granted = refl; spares = λ r. ((λ e. absurd cc), ((λ e. refl), tt)) }
+  pub takes-won : (fence : ℕ) (alg : Alg) (gate found : ℕ) (v s w : View) → found ≡ gate_word fence 0 alg
+      → Tells look_gate (FindsGate c n) v gate s → Tells (seize n fence alg) (FindsTaken c n (gate_word fence 0 alg)) s found w
+      → ClosesFor c n None v w
+  takes-won fence alg gate found v s w same t k =
+      record {
+        gate = seized v.gate;
+        more = items_of gate found fence alg;
+        is = seizes-won fence alg gate found v s w same t k;
+        holds = refl;
+        phase = refl;
+        algorithm = refl;
+        fence = refl;
+        granted = refl;
+        spares = λ r. ((λ e. absurd cc), ((λ e. refl), tt));
+      }
 
   module _ (good : List ℕ → Type 0) where
     -- the attempt goes on as it was, but for the gate
-    pub waits-by : (v w : View) (g : GateView) (more : List TracedStep) (o : Own) → w ≡ gated v g (more ++ v.steps.step_trace) → g.phase ≡ v.gate.phase → g.algorithm ≡ v.gate.algorithm → g.fence ≡ v.gate.fence → g.granted ≡ v.gate.granted → v.gate.phase ≡ In → o.committing ≡ false
+    pub waits-by : (v w : View) (g : GateView) (more : List TracedStep) (o : Own) → w ≡ gated v g (more ++ v.steps.step_trace)
+        → g.phase ≡ v.gate.phase → g.algorithm ≡ v.gate.algorithm → g.fence ≡ v.gate.fence → g.granted ≡ v.gate.granted → v.gate.phase ≡ In
+        → o.committing ≡ false
         → closes_gate v.gate.algorithm ≡ true → is_irrevocable (known_of v o) ≡ false → IsOpaque good c n (known_of v o) → Waits good c n (known_of v o) (known_of w o)
     waits-by v w g more o is phase algorithm fence granted inside quiet closes revocable q = subst (λ (y : View). Waits good c n (known_of v o) (known_of y o)) (sym is) (record {
       continues = record {
@@ -144,7 +166,8 @@ module _ (c : Config) (n : ℕ) where
         y : View
         y = gated v g (more ++ v.steps.step_trace)
 
-    pub promotes-taken : (gate : ℕ) (v w : View) (o p : Own) → p ≡ o → v.gate.phase ≡ In → o.committing ≡ false → closes_gate v.gate.algorithm ≡ true → is_irrevocable (known_of v o) ≡ false → IsOpaque good c n (known_of v o)
+    pub promotes-taken : (gate : ℕ) (v w : View) (o p : Own) → p ≡ o → v.gate.phase ≡ In → o.committing ≡ false
+        → closes_gate v.gate.algorithm ≡ true → is_irrevocable (known_of v o) ≡ false → IsOpaque good c n (known_of v o)
         → ClosesFor c n (Some gate) v w → Promotes c n good (promotes.Taken gate) (known_of v o) (known_of w p)
     promotes-taken gate v w o p own inside quiet closes revocable q a = subst (λ (r : Own). Promotes c n good (promotes.Taken gate) (known_of v o) (known_of w r)) (sym own)
         (waits-by v w v.gate a.0.0 o a.0.1 refl refl refl refl inside quiet closes revocable q, ap (λ (y : View). y.gate.holds) a.0.1, ap (λ (y : View). y.gate.checked) a.0.1, a.1, a.2, a.3)
@@ -152,15 +175,27 @@ module _ (c : Config) (n : ℕ) where
     pub promotes-alone : (u v w : View) (o p : Own) → p ≡ o → u.gate.phase ≡ In → o.committing ≡ false → closes_gate u.gate.algorithm ≡ true → is_irrevocable (known_of u o) ≡ false → IsOpaque good c n (known_of u o)
         → ClosesFor c n None u v → LooksUntil c n good looks.Quiet v w → Promotes c n good promotes.Alone (known_of u o) (known_of w p)
     promotes-alone u v w o p own inside quiet closes revocable q a b = subst (λ (r : Own). Promotes c n good promotes.Alone (known_of u o) (known_of w r)) (sym own)
-        (let t = takes-looked u v w a b.0 in (waits-by u w t.gate t.more o t.is t.phase t.algorithm t.fence t.granted inside quiet closes revocable q, ap (λ (y : View). y.gate.holds) t.is ∙ t.holds, b.1, (t.more, ap (λ (y : View). y.steps.step_trace) t.is, t.spares)))
+        (let t = takes-looked u v w a b.0 in (
+          waits-by u w t.gate t.more o t.is t.phase t.algorithm t.fence t.granted inside quiet closes revocable q,
+          ap (λ (y : View). y.gate.holds) t.is ∙ t.holds,
+          b.1,
+          (t.more, ap (λ (y : View). y.steps.step_trace) t.is, t.spares),
+        ))
 
-    pub promotes-busy : (k status : ℕ) (u v w : View) (o p : Own) → p ≡ o → u.gate.phase ≡ In → o.committing ≡ false → closes_gate u.gate.algorithm ≡ true → is_irrevocable (known_of u o) ≡ false → IsOpaque good c n (known_of u o)
+    pub promotes-busy : (k status : ℕ) (u v w : View) (o p : Own) → p ≡ o → u.gate.phase ≡ In → o.committing ≡ false
+        → closes_gate u.gate.algorithm ≡ true → is_irrevocable (known_of u o) ≡ false → IsOpaque good c n (known_of u o)
         → ClosesFor c n None u v → LooksUntil c n good (looks.Busy k status) v w → Promotes c n good (promotes.Busy k status) (known_of u o) (known_of w p)
     promotes-busy k status u v w o p own inside quiet closes revocable q a b = subst (λ (r : Own). Promotes c n good (promotes.Busy k status) (known_of u o) (known_of w r)) (sym own)
         (let t = takes-looked u v w a b.0 in (
           waits-by u w t.gate t.more o t.is t.phase t.algorithm t.fence t.granted inside quiet closes revocable q,
           ap (λ (y : View). y.gate.holds) t.is ∙ t.holds,
-          record { other = b.1.other; announced = b.1.announced; found = found-earlier _ status (known_of u (idle_own c)) (known_of v (idle_own c)) (known_of w (idle_own c)) b.1.found a.more (ap (λ (y : View). y.steps.step_trace) a.is); before = b.1.before },
+          record {
+            other = b.1.other;
+            announced = b.1.announced;
+            found = found-earlier _ status (known_of u (idle_own c)) (known_of v (idle_own c)) (known_of w (idle_own c)) b.1.found a.more
+                (ap (λ (y : View). y.steps.step_trace) a.is);
+            before = b.1.before;
+          },
         ))
 
     or-no : (a b : Bool) → (a || b) ≡ false → (a ≡ false) × (b ≡ false)
@@ -168,11 +203,15 @@ module _ (c : Config) (n : ℕ) where
     or-no false b e = (refl, e)
 
     -- an attempt of TML that can still be cancelled reads
-    pub revocable-tml : (l : Local) (v : View) (o : Own) → IsInside good c n l v → v.gate.algorithm ≡ Tml → is_irrevocable (known_of v o) ≡ false → (v.gate.granted ≡ false) × (l.granted ≡ false) × (l.wrote ≡ false) × IsTml c l v
+    pub revocable-tml : (l : Local) (v : View) (o : Own) → IsInside good c n l v → v.gate.algorithm ≡ Tml
+        → is_irrevocable (known_of v o) ≡ false → (v.gate.granted ≡ false) × (l.granted ≡ false) × (l.wrote ≡ false) × IsTml c l v
     revocable-tml l v o i tml revocable = (free.0, plain, clean l.wrote refl, reader)
       where
         free : (v.gate.granted ≡ false) × (not (is_empty (items v.attempt.stores)) ≡ false)
-        free = or-no v.gate.granted (not (is_empty (items v.attempt.stores))) (subst (λ (a : Alg). irrevocable_under a (granted_under a v.gate v.lock) (not (is_empty (written_under a v.gate.granted v o))) ≡ false) tml revocable)
+        free =
+            or-no v.gate.granted (not (is_empty (items v.attempt.stores))) (subst
+            (λ (a : Alg). irrevocable_under a (granted_under a v.gate v.lock) (not (is_empty (written_under a v.gate.granted v o))) ≡ false)
+            tml revocable)
 
         plain : l.granted ≡ false
         plain = ap (λ b. b && l.granted) (sym (ap closes_gate (sym i.named ∙ tml))) ∙ (sym i.granted ∙ free.0)
@@ -195,11 +234,39 @@ module _ (c : Config) (n : ℕ) where
 
     -- nothing but the gate changes
     optimistic-gated : (v : View) (g : GateView) (step_trace : List TracedStep) → g.granted ≡ v.gate.granted → g.quiescent ≡ false → IsOptimistic v → IsOptimistic (gated v g step_trace)
-    optimistic-gated v g step_trace granted quiescent k = record { unlocked = k.unlocked; unfixed = k.unfixed; unwritten = k.unwritten; uncommitted = k.uncommitted; ungranted = granted ∙ k.ungranted; not_quiescent = quiescent; unstored = k.unstored; rises = k.rises }
+    optimistic-gated v g step_trace granted quiescent k =
+        record {
+          unlocked = k.unlocked;
+          unfixed = k.unfixed;
+          unwritten = k.unwritten;
+          uncommitted = k.uncommitted;
+          ungranted = granted ∙ k.ungranted;
+          not_quiescent = quiescent;
+          unstored = k.unstored;
+          rises = k.rises;
+        }
 
     keeps-seized : (l : Local) (v : View) (step_trace : List TracedStep) (a : Alg) → closes_gate a ≡ true → Keeps c a false l v → Keeps c a false (record l { holds = true; next = 0 }) (gated v (seized v.gate) step_trace)
     keeps-seized l v step_trace Cgl e k = absurd cc
-    keeps-seized l v step_trace Tml e k = record { inside = k.inside; settled = k.settled; unlocked = k.unlocked; uncommitted = k.uncommitted; unfixed = k.unfixed; ungranted = k.ungranted; even = k.even; writer = k.writer; clean = k.clean; dirty = k.dirty; not_quiescent = refl; rises = k.rises; limit = k.limit; unbuffered = k.unbuffered; marked = k.marked; sole = k.sole }
+    keeps-seized l v step_trace Tml e k =
+        record {
+          inside = k.inside;
+          settled = k.settled;
+          unlocked = k.unlocked;
+          uncommitted = k.uncommitted;
+          unfixed = k.unfixed;
+          ungranted = k.ungranted;
+          even = k.even;
+          writer = k.writer;
+          clean = k.clean;
+          dirty = k.dirty;
+          not_quiescent = refl;
+          rises = k.rises;
+          limit = k.limit;
+          unbuffered = k.unbuffered;
+          marked = k.marked;
+          sole = k.sole;
+        }
     keeps-seized l v step_trace OrecLazy e k = record {
       optimistic = optimistic-gated v (seized v.gate) step_trace refl refl k.optimistic;
       buffers = record { wrote = k.buffers.wrote; once = k.buffers.once; inside = k.buffers.inside; small = k.buffers.small; apart = k.buffers.apart };
@@ -270,8 +337,15 @@ module _ (c : Config) (n : ℕ) where
     running-by l v false false e s = absurd (let k : Idle ≡ In = sym s.phase ∙ e in cc)
 
     -- the attempt that closed the gate stands
-    pub seized-stands : (l : Local) (v w : View) (o : Own) (step_trace : List TracedStep) → w ≡ gated v (seized v.gate) step_trace → v.gate.phase ≡ In → closes_gate v.gate.algorithm ≡ true → is_irrevocable (known_of v o) ≡ false → Stands good c n l v → Stands good c n (record l { holds = true; next = 0 }) w
-    seized-stands l v w o step_trace is inside closes revocable s = subst (λ (y : View). Stands good c n m y) (sym is) (record { holds = refl; lengths = s.lengths; by = subst (λ r. StandsBy good c n m r true y) (sym (running-by l v l.running l.holds inside s.by)) stays })
+    pub seized-stands : (l : Local) (v w : View) (o : Own) (step_trace : List TracedStep) → w ≡ gated v (seized v.gate) step_trace
+        → v.gate.phase ≡ In → closes_gate v.gate.algorithm ≡ true → is_irrevocable (known_of v o) ≡ false → Stands good c n l v
+        → Stands good c n (record l { holds = true; next = 0 }) w
+    seized-stands l v w o step_trace is inside closes revocable s =
+        subst (λ (y : View). Stands good c n m y) (sym is) (record {
+          holds = refl;
+          lengths = s.lengths;
+          by = subst (λ r. StandsBy good c n m r true y) (sym (running-by l v l.running l.holds inside s.by)) stays;
+        })
       where
         m : Local
         m = record l { holds = true; next = 0 }

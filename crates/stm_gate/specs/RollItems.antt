@@ -58,7 +58,9 @@ minus-last : (ws : List (ℕ × ℕ)) (w : ℕ × ℕ) → item_at w.0 ws ≡ No
 minus-last [] w e = ap (λ (b : Bool). if b then [] else w ∷ []) (let here : (w.0 == w.0) ≡ true = grind (arith, nat_tests) in here)
 minus-last (u ∷ ws) w e = by (u.0 == w.0) refl e (minus-last ws w)
   where
-    by : (b : Bool) → (u.0 == w.0) ≡ b → (if u.0 == w.0 then Some u.1 else item_at w.0 ws) ≡ None → (item_at w.0 ws ≡ None → minus w.0 (ws ++ w ∷ []) ≡ ws) → (if u.0 == w.0 then minus w.0 (ws ++ w ∷ []) else u ∷ minus w.0 (ws ++ w ∷ [])) ≡ u ∷ ws
+    by : (b : Bool) → (u.0 == w.0) ≡ b → (if u.0 == w.0 then Some u.1 else item_at w.0 ws) ≡ None
+        → (item_at w.0 ws ≡ None → minus w.0 (ws ++ w ∷ []) ≡ ws)
+        → (if u.0 == w.0 then minus w.0 (ws ++ w ∷ []) else u ∷ minus w.0 (ws ++ w ∷ [])) ≡ u ∷ ws
     by true q f rec = absurd (let g = rw q at f in cc)
     by false q f rec = rw q (ap (λ (l : List (ℕ × ℕ)). u ∷ l) (rec (rw q at f)))
 
@@ -66,7 +68,9 @@ item-last : (ws : List (ℕ × ℕ)) (w : ℕ × ℕ) → item_at w.0 ws ≡ Non
 item-last [] w e = ap (λ (b : Bool). if b then Some w.1 else None) (let here : (w.0 == w.0) ≡ true = grind (arith, nat_tests) in here)
 item-last (u ∷ ws) w e = by (u.0 == w.0) refl e (item-last ws w)
   where
-    by : (b : Bool) → (u.0 == w.0) ≡ b → (if u.0 == w.0 then Some u.1 else item_at w.0 ws) ≡ None → (item_at w.0 ws ≡ None → item_at w.0 (ws ++ w ∷ []) ≡ Some w.1) → (if u.0 == w.0 then Some u.1 else item_at w.0 (ws ++ w ∷ [])) ≡ Some w.1
+    by : (b : Bool) → (u.0 == w.0) ≡ b → (if u.0 == w.0 then Some u.1 else item_at w.0 ws) ≡ None
+        → (item_at w.0 ws ≡ None → item_at w.0 (ws ++ w ∷ []) ≡ Some w.1)
+        → (if u.0 == w.0 then Some u.1 else item_at w.0 (ws ++ w ∷ [])) ≡ Some w.1
     by true q f rec = absurd (let g = rw q at f in cc)
     by false q f rec = rw q (rec (rw q at f))
 
@@ -74,7 +78,9 @@ put-at : (a x y : ℕ) (ps qs : List (ℕ × ℕ)) → item_at a ps ≡ None →
 put-at a x y [] qs e = ap (λ (b : Bool). if b then (a, x) ∷ qs else (a, y) ∷ put a x qs) (let here : (a == a) ≡ true = grind (arith, nat_tests) in here)
 put-at a x y (p ∷ ps) qs e = by (p.0 == a) refl e (put-at a x y ps qs)
   where
-    by : (b : Bool) → (p.0 == a) ≡ b → (if p.0 == a then Some p.1 else item_at a ps) ≡ None → (item_at a ps ≡ None → put a x (ps ++ (a, y) ∷ qs) ≡ ps ++ (a, x) ∷ qs) → (if p.0 == a then (a, x) ∷ (ps ++ (a, y) ∷ qs) else p ∷ put a x (ps ++ (a, y) ∷ qs)) ≡ p ∷ (ps ++ (a, x) ∷ qs)
+    by : (b : Bool) → (p.0 == a) ≡ b → (if p.0 == a then Some p.1 else item_at a ps) ≡ None
+        → (item_at a ps ≡ None → put a x (ps ++ (a, y) ∷ qs) ≡ ps ++ (a, x) ∷ qs)
+        → (if p.0 == a then (a, x) ∷ (ps ++ (a, y) ∷ qs) else p ∷ put a x (ps ++ (a, y) ∷ qs)) ≡ p ∷ (ps ++ (a, x) ∷ qs)
     by true q f rec = absurd (let g = rw q at f in cc)
     by false q f rec = rw q (ap (λ (l : List (ℕ × ℕ)). p ∷ l) (rec (rw q at f)))
 

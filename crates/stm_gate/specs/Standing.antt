@@ -39,7 +39,8 @@ module _ {K : Type 0} (good : K → List ℕ → Type 0) where
       subst (λ (f : Config). Stands (good rule) f n l v) config (subst (λ (r : Option K). Stands (good_by good r) who.config n l v) value s)
 
   -- a running descriptor runs an attempt
-  pub runs-of : (c : Config) (rule : K) (d e : Handle K) (n : ℕ) (l : Local) → d ≡ e → e.who.config ≡ c → e.who.rule ≡ Some rule → (known e).running ≡ true → Stands (good_by good d.who.rule) d.who.config n l d.view → IsInside (good rule) c n l d.view
+  pub runs-of : (c : Config) (rule : K) (d e : Handle K) (n : ℕ) (l : Local) → d ≡ e → e.who.config ≡ c → e.who.rule ≡ Some rule
+      → (known e).running ≡ true → Stands (good_by good d.who.rule) d.who.config n l d.view → IsInside (good rule) c n l d.view
   runs-of c rule d e n l same configured ruled runs stands =
       let config = subst (λ (h : Handle K). h.who.config ≡ c) (sym same) configured in
       let value = subst (λ (h : Handle K). h.who.rule ≡ Some rule) (sym same) ruled in

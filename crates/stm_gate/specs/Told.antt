@@ -28,7 +28,9 @@ running-by good c n l v inside s = go l.running l.holds s.by
     go false false s = absurd (let e : Idle ≡ In = sym s.phase ∙ inside in cc)
 
 -- an attempt of a descriptor goes on
-pub stands-in : {K : Type 0} → (good : K → List ℕ → Type 0) (c : Config) (rule : K) (who : Who K) (n : ℕ) (l : Local) (v : View) → who.config ≡ c → who.rule ≡ Some rule → l.running ≡ true → l.holds ≡ v.gate.holds → HasRoom l → IsInside (good rule) c n l v → Stands (good_by good who.rule) who.config n l v
+pub stands-in : {K : Type 0} → (good : K → List ℕ → Type 0) (c : Config) (rule : K) (who : Who K) (n : ℕ) (l : Local) (v : View)
+    → who.config ≡ c → who.rule ≡ Some rule → l.running ≡ true → l.holds ≡ v.gate.holds → HasRoom l → IsInside (good rule) c n l v
+    → Stands (good_by good who.rule) who.config n l v
 stands-in {K} good c rule who n l v config value running holds lengths i =
     subst (λ (r : Option K). Stands (good_by good r) who.config n l v) (sym value) (subst (λ (f : Config). Stands (good rule) f n l v) (sym config)
     (record { holds = holds; lengths = lengths; by = subst (λ (r : Bool). StandsBy (good rule) c n l r l.holds v) (sym running) i }))
@@ -41,7 +43,8 @@ told {K} P d e n t m same who role p = subst (λ (h : Handle K). P (number h) (k
     (subst (λ (r : Role). P (caller_of r) (known d) (known_of t.view (own_of m))) (sym role) p))
 
 -- a running attempt that goes on stands
-pub stands-on : (good : List ℕ → Type 0) (c : Config) (n : ℕ) (l m : Local) (v w : View) → v.gate.phase ≡ In → Stands good c n l v → m.running ≡ l.running → m.holds ≡ l.holds → HasRoom m → w.gate.holds ≡ v.gate.holds → IsInside good c n m w → Stands good c n m w
+pub stands-on : (good : List ℕ → Type 0) (c : Config) (n : ℕ) (l m : Local) (v w : View) → v.gate.phase ≡ In → Stands good c n l v
+    → m.running ≡ l.running → m.holds ≡ l.holds → HasRoom m → w.gate.holds ≡ v.gate.holds → IsInside good c n m w → Stands good c n m w
 stands-on good c n l m v w inside s running held lengths gate i = record {
   holds = held ∙ (s.holds ∙ sym gate);
   lengths = lengths;
@@ -49,6 +52,7 @@ stands-on good c n l m v w inside s running held lengths gate i = record {
 }
 
 -- the tie of a descriptor in its own terms
-pub stands-back : {K : Type 0} (good : K → List ℕ → Type 0) (c : Config) (rule : K) (who : Who K) (n : ℕ) (l : Local) (v : View) → who.config ≡ c → who.rule ≡ Some rule → Stands (good rule) c n l v → Stands (good_by good who.rule) who.config n l v
+pub stands-back : {K : Type 0} (good : K → List ℕ → Type 0) (c : Config) (rule : K) (who : Who K) (n : ℕ) (l : Local) (v : View)
+    → who.config ≡ c → who.rule ≡ Some rule → Stands (good rule) c n l v → Stands (good_by good who.rule) who.config n l v
 stands-back {K} good c rule who n l v config value s =
     subst (λ (f : Config). Stands (good_by good who.rule) f n l v) (sym config) (subst (λ (r : Option K). Stands (good_by good r) c n l v) (sym value) s)

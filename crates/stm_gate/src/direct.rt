@@ -25,7 +25,8 @@ pub fn direct_load<K: MemRule>(desc: &mut Desc<K>, stm: &Stm<K>, a: usize) -> Re
     requires inside { a < stm.now.config.words }
     requires spared { fenced (known desc.old).fence a ≡ false }
     ensures same { IsSameCaller desc.old desc.new }
-    ensures read { HasRead (K.good stm.now.rule) stm.now.config (number desc.old) a result (known desc.old) (known desc.new) }
+    ensures read { HasRead (K.good stm.now.rule) stm.now.config (number desc.old) a result
+        (known desc.old) (known desc.new) }
     ensures steps { AddsAtMost 1 (known desc.old) (known desc.new) }
 {
     Read::Value(stm.direct_load(&mut desc.seat, desc.number, a))
@@ -40,7 +41,8 @@ pub fn direct_store<K: MemRule>(desc: &mut Desc<K>, stm: &Stm<K>, a: usize, x: u
     requires inside { a < stm.now.config.words }
     requires spared { fenced (known desc.old).fence a ≡ false }
     ensures same { IsSameCaller desc.old desc.new }
-    ensures write { HasWritten (K.good stm.now.rule) stm.now.config (number desc.old) a x result (known desc.old) (known desc.new) }
+    ensures write { HasWritten (K.good stm.now.rule) stm.now.config (number desc.old) a x result
+        (known desc.old) (known desc.new) }
     ensures steps { AddsAtMost 1 (known desc.old) (known desc.new) }
 {
     stm.direct_store(&mut desc.seat, desc.number, a, x);
@@ -57,9 +59,11 @@ pub fn direct_commit<K: MemRule>(desc: &mut Desc<K>, stm: &Stm<K>) -> Commit
     requires closes { closes_gate (known desc.old).alg ≡ true }
     requires granted { (known desc.old).granted ≡ true }
     requires disowned { is_eager (known desc.old).alg ≡ false }
-    requires keeps { KeepsRule (K.good stm.now.rule) stm.now.config (number desc.old) (known desc.old) }
+    requires keeps { KeepsRule (K.good stm.now.rule) stm.now.config (number desc.old)
+        (known desc.old) }
     ensures same { IsSameCaller desc.old desc.new }
-    ensures commits { Commits (K.good stm.now.rule) stm.now.config (number desc.old) result (known desc.old) (known desc.new) }
+    ensures commits { Commits (K.good stm.now.rule) stm.now.config (number desc.old) result
+        (known desc.old) (known desc.new) }
     ensures steps { AddsAtMost 5 (known desc.old) (known desc.new) }
 {
     let caller = desc.number;

@@ -30,11 +30,13 @@ pub fn fence<K: MemRule>(desc: &mut Desc<K>, stm: &Stm<K>, from: usize, count: u
     requires stm { IsOf desc.old stm.now }
     requires takes { stm.now.config.fence ≡ true }
     requires closing { HoldsClosed (known desc.old) }
-    requires quiet { SeesQuiet (K.good stm.now.rule) stm.now.config (number desc.old) (known desc.old) }
+    requires quiet { SeesQuiet (K.good stm.now.rule) stm.now.config (number desc.old)
+        (known desc.old) }
     requires some { 1 ≤ count }
     requires inside { from + count ≤ stm.now.config.words }
     ensures same { IsSameCaller desc.old desc.new }
-    ensures fences { Fences (K.good stm.now.rule) stm.now.config (number desc.old) from count result (known desc.old) (known desc.new) }
+    ensures fences { Fences (K.good stm.now.rule) stm.now.config (number desc.old) from count result
+        (known desc.old) (known desc.new) }
     ensures steps { AddsAtMost 1 (known desc.old) (known desc.new) }
 {
     let caller = desc.number;
@@ -59,7 +61,8 @@ pub fn direct_read<K: MemRule>(desc: &mut Desc<K>, stm: &Stm<K>, a: usize) -> u6
     requires fenced { fenced (known desc.old).fenced.number a ≡ true }
     ensures same { IsSameCaller desc.old desc.new }
     ensures steps { AddsAtMost 1 (known desc.old) (known desc.new) }
-    ensures reads { ReadsDirect (K.good stm.now.rule) stm.now.config (number desc.old) a result (known desc.old) (known desc.new) }
+    ensures reads { ReadsDirect (K.good stm.now.rule) stm.now.config (number desc.old) a result
+        (known desc.old) (known desc.new) }
 {
     stm.fence_load(&mut desc.seat, desc.number, a)
 }
@@ -74,7 +77,8 @@ pub fn direct_write<K: MemRule>(desc: &mut Desc<K>, stm: &Stm<K>, a: usize, x: u
     requires fenced { fenced (known desc.old).fenced.number a ≡ true }
     ensures same { IsSameCaller desc.old desc.new }
     ensures steps { AddsAtMost 1 (known desc.old) (known desc.new) }
-    ensures writes { WritesDirect (K.good stm.now.rule) stm.now.config (number desc.old) a x (known desc.old) (known desc.new) }
+    ensures writes { WritesDirect (K.good stm.now.rule) stm.now.config (number desc.old) a x
+        (known desc.old) (known desc.new) }
 {
     stm.fence_store(&mut desc.seat, desc.number, a, x);
 }
@@ -88,11 +92,14 @@ pub fn direct_write<K: MemRule>(desc: &mut Desc<K>, stm: &Stm<K>, a: usize, x: u
 pub fn give_back<K: MemRule>(desc: &mut Desc<K>, stm: &Stm<K>) -> Give
     requires stm { IsOf desc.old stm.now }
     requires closing { HoldsClosed (known desc.old) }
-    requires quiet { SeesQuiet (K.good stm.now.rule) stm.now.config (number desc.old) (known desc.old) }
+    requires quiet { SeesQuiet (K.good stm.now.rule) stm.now.config (number desc.old)
+        (known desc.old) }
     requires held { (known desc.old).fenced.held ≡ true }
-    requires keeps { KeepsFenced (K.good stm.now.rule) stm.now.config (number desc.old) (known desc.old) }
+    requires keeps { KeepsFenced (K.good stm.now.rule) stm.now.config (number desc.old)
+        (known desc.old) }
     ensures same { IsSameCaller desc.old desc.new }
-    ensures gives { Gives (K.good stm.now.rule) stm.now.config (number desc.old) result (known desc.old) (known desc.new) }
+    ensures gives { Gives (K.good stm.now.rule) stm.now.config (number desc.old) result
+        (known desc.old) (known desc.new) }
     ensures steps { AddsAtMost 5 (known desc.old) (known desc.new) }
 {
     let caller = desc.number;

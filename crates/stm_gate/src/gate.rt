@@ -32,7 +32,8 @@ pub fn close_gate<K: MemRule>(desc: &mut Desc<K>, stm: &Stm<K>) -> CloseGate
     requires stm { IsOf desc.old stm.now }
     requires idle { IsIdle (known desc.old) }
     ensures same { IsSameCaller desc.old desc.new }
-    ensures closes { Closes (K.good stm.now.rule) stm.now.config (number desc.old) result (known desc.old) (known desc.new) }
+    ensures closes { Closes (K.good stm.now.rule) stm.now.config (number desc.old) result
+        (known desc.old) (known desc.new) }
     ensures steps { AddsAtMost 4 (known desc.old) (known desc.new) }
 {
     let caller = desc.number;
@@ -61,7 +62,8 @@ pub fn look<K: MemRule>(desc: &mut Desc<K>, stm: &Stm<K>) -> Look
     requires stm { IsOf desc.old stm.now }
     requires closing { HoldsClosed (known desc.old) }
     ensures same { IsSameCaller desc.old desc.new }
-    ensures looks { Looks (K.good stm.now.rule) stm.now.config (number desc.old) result (known desc.old) (known desc.new) }
+    ensures looks { Looks (K.good stm.now.rule) stm.now.config (number desc.old) result
+        (known desc.old) (known desc.new) }
     ensures steps { AddsAtMost stm.now.config.callers (known desc.old) (known desc.new) }
 {
     look_on(desc, stm)
@@ -72,9 +74,11 @@ pub fn look<K: MemRule>(desc: &mut Desc<K>, stm: &Stm<K>) -> Look
 pub fn install<K: MemRule>(desc: &mut Desc<K>, stm: &Stm<K>, alg: Alg)
     requires stm { IsOf desc.old stm.now }
     requires closing { HoldsClosed (known desc.old) }
-    requires quiet { SeesQuiet (K.good stm.now.rule) stm.now.config (number desc.old) (known desc.old) }
+    requires quiet { SeesQuiet (K.good stm.now.rule) stm.now.config (number desc.old)
+        (known desc.old) }
     ensures same { IsSameCaller desc.old desc.new }
-    ensures installs { Installs (K.good stm.now.rule) stm.now.config (number desc.old) alg (known desc.old) (known desc.new) }
+    ensures installs { Installs (K.good stm.now.rule) stm.now.config (number desc.old) alg
+        (known desc.old) (known desc.new) }
     ensures steps { AddsAtMost 5 (known desc.old) (known desc.new) }
 {
     let caller = desc.number;
@@ -114,7 +118,8 @@ pub fn reopen<K: MemRule>(desc: &mut Desc<K>, stm: &Stm<K>)
     requires stm { IsOf desc.old stm.now }
     requires closing { HoldsClosed (known desc.old) }
     ensures same { IsSameCaller desc.old desc.new }
-    ensures reopens { Reopens (K.good stm.now.rule) stm.now.config (number desc.old) (known desc.old) (known desc.new) }
+    ensures reopens { Reopens (K.good stm.now.rule) stm.now.config (number desc.old)
+        (known desc.old) (known desc.new) }
     ensures steps { AddsAtMost 1 (known desc.old) (known desc.new) }
 {
     let caller = desc.number;

@@ -18,7 +18,8 @@ pub(crate) fn look_on<K: MemRule>(desc: &mut Desc<K>, stm: &Stm<K>) -> Look
     requires holds { desc.old.view.gate.holds ≡ true }
     ensures same { IsSameCaller desc.old desc.new }
     ensures own { desc.new.own ≡ desc.old.own }
-    ensures looks { LooksUntil stm.now.config (number desc.old) (K.good stm.now.rule) result desc.old.view desc.new.view }
+    ensures looks { LooksUntil stm.now.config (number desc.old) (K.good stm.now.rule) result
+        desc.old.view desc.new.view }
     ensures steps { AddsAtMost stm.now.config.callers (known desc.old) (known desc.new) }
 {
     for other in first_unseen(desc)..stm.config.callers {
@@ -51,7 +52,8 @@ fn look_at<K: MemRule>(desc: &mut Desc<K>, stm: &Stm<K>, other: usize) -> u64
     ensures same { IsSameCaller desc.old desc.new }
     ensures own { (desc.new.own ≡ desc.old.own) × (number desc.old < stm.now.config.callers) }
     ensures looks { LooksOn desc.old.view desc.new.view }
-    ensures found { Finds stm.now.config (number desc.old) other result desc.old.view desc.new.view }
+    ensures found { Finds stm.now.config (number desc.old) other result desc.old.view
+        desc.new.view }
     ensures steps { AddsAtMost 1 (known desc.old) (known desc.new) }
 {
     let caller = desc.number;

@@ -34,7 +34,8 @@ pub fn promote<K: MemRule>(desc: &mut Desc<K>, stm: &Stm<K>) -> Promotion
     requires closes { closes_gate (known desc.old).alg ≡ true }
     requires revocable { is_irrevocable (known desc.old) ≡ false }
     ensures same { IsSameCaller desc.old desc.new }
-    ensures promotes { Promotes stm.now.config (number desc.old) (K.good stm.now.rule) result (known desc.old) (known desc.new) }
+    ensures promotes { Promotes stm.now.config (number desc.old) (K.good stm.now.rule) result
+        (known desc.old) (known desc.new) }
     ensures steps { AddsAtMost (2 + stm.now.config.callers) (known desc.old) (known desc.new) }
 {
     match close_for(desc, stm) {
@@ -55,7 +56,8 @@ fn close_for<K: MemRule>(desc: &mut Desc<K>, stm: &Stm<K>) -> Option<u64>
     requires revocable { is_irrevocable (known desc.old) ≡ false }
     ensures same { IsSameCaller desc.old desc.new }
     ensures own { desc.new.own ≡ desc.old.own }
-    ensures opaque { IsOpaque (K.good stm.now.rule) stm.now.config (number desc.old) (known desc.old) }
+    ensures opaque { IsOpaque (K.good stm.now.rule) stm.now.config (number desc.old)
+        (known desc.old) }
     ensures closes { ClosesFor stm.now.config (number desc.old) result desc.old.view desc.new.view }
     ensures steps { AddsAtMost 2 (known desc.old) (known desc.new) }
 {

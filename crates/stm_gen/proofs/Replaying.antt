@@ -254,7 +254,9 @@ module _ (laws : Laws) where
       (cast o (c + 1) put (o + 0) (c + 1) (λ j. put j + 0) (effect_of version_one (Count 0 stripe 1) m).memory (omega arith) refl (λ j. omega arith) (count-state laws o c put m stripe lt st))
   made-state s (inserting key lt e) o c put m st =
       subst (λ (x : List Op). State (o + weigh opens x) (c + weigh counts x) (λ j. put j + weigh (inserts j) x) (run version_one x m).memory) (sym e)
-      (cast o c (λ j. put j + (if key == j then 1 else 0)) (o + 0) (c + 0) (λ j. put j + ((if key == j then 1 else 0) + 0)) (effect_of version_one (ListInsert 1 key) m).memory (omega arith) (omega arith) (λ j. omega arith) (insert-state laws o c put m key lt st))
+      (cast o c (λ j. put j + (if key == j then 1 else 0)) (o + 0) (c + 0) (λ j. put j + ((if key == j then 1 else 0) + 0))
+      (effect_of version_one (ListInsert 1 key) m).memory (omega arith) (omega arith) (λ j. omega arith)
+      (insert-state laws o c put m key lt st))
 
   -- the rows of a report, in its order
   pub replay-state : (script : Row → List Op) → ((r : Row) → IsMade (script r)) → (rows : List Row) (o c : ℕ) (put : ℕ → ℕ) (m last : List ℕ) → State o c put m

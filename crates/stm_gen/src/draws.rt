@@ -16,7 +16,8 @@ pub fn seeded(seed: u64) -> Pcg32
 /// The next draw, modulo `below`.
 pub fn draw(draws: &mut Pcg32, below: u32) -> u32
     requires { 0 < below }
-    ensures { (seed k : ℕ) → draws.old ≡ generator_at seed k → (result ≡ drawn seed k % below) × (draws.new ≡ generator_at seed (k + 1)) }
+    ensures { (seed k : ℕ) → draws.old ≡ generator_at seed k
+        → (result ≡ drawn seed k % below) × (draws.new ≡ generator_at seed (k + 1)) }
 {
     draws.next_word() % below
 }

@@ -146,7 +146,8 @@ fn transaction(alloc: Global, caller: usize, op: Op) -> Result<Item, AllocError>
 /// The operation of transaction `i`.
 fn operation(draws: &mut Pcg32, i: usize) -> Op
     requires { i < MOST_TRANSACTIONS }
-    ensures { (seed : ℕ) → draws.old ≡ generator_at seed (draws_before i) → (result ≡ operation seed i) × (draws.new ≡ generator_at seed (draws_before (i + 1))) }
+    ensures { (seed : ℕ) → draws.old ≡ generator_at seed (draws_before i)
+        → (result ≡ operation seed i) × (draws.new ≡ generator_at seed (draws_before (i + 1))) }
 {
     match i % 4 {
         2 => Op::Count(COUNTER, i / 4 % STRIPES, 1),
@@ -157,7 +158,8 @@ fn operation(draws: &mut Pcg32, i: usize) -> Op
 
 /// A move by the next three draws.
 fn drawn_move(draws: &mut Pcg32) -> Op
-    ensures { (seed k : ℕ) → draws.old ≡ generator_at seed k → (result ≡ drawn_move seed k) × (draws.new ≡ generator_at seed (k + 3)) }
+    ensures { (seed k : ℕ) → draws.old ≡ generator_at seed k
+        → (result ≡ drawn_move seed k) × (draws.new ≡ generator_at seed (k + 3)) }
 {
     let from = draw(draws, ACCOUNTS) as usize;
     let to = draw(draws, ACCOUNTS) as usize;

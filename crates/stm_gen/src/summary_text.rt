@@ -22,7 +22,8 @@ pub fn summary_text(alloc: Global, summary: &Summary) -> Result<Vec<u8>, Memory>
 
 /// `NAME N`.
 fn put_line(text: &mut String, name: &str, n: u64) -> Result<(), AllocError>
-    ensures { OnOk result (string_bytes text.new ≡ string_bytes text.old ++ summary_line name.now n) }
+    ensures { OnOk result
+        (string_bytes text.new ≡ string_bytes text.old ++ summary_line name.now n) }
 {
     text.push_str(name)?;
     write!(text, " {n}\n")

@@ -45,7 +45,8 @@ impl<R> ReadSource<R> {
 /// One read, made again where a signal interrupted it, as std's own loops do.
 fn read_once<R: Read>(reader: &mut R, buf: &mut [u8]) -> Result<usize, Failed>
     ensures count { IfOk result (λ k. k ≤ length buf.old) }
-    ensures consumed { IfOk result (λ k. Consumes (R.remaining reader.old) (R.remaining reader.new) (take k buf.new)) }
+    ensures consumed { IfOk result (λ k.
+        Consumes (R.remaining reader.old) (R.remaining reader.new) (take k buf.new)) }
     ensures end { IfOk result (λ k. k ≡ 0 → 0 < length buf.old → IsAtEnd (R.remaining reader.new)) }
     ensures failed { OnErr result (Keeps (R.remaining reader.old) (R.remaining reader.new)) }
 {
@@ -77,7 +78,8 @@ impl<R: Read> Source for ReadSource<R> {
     fn take(&mut self, buf: &mut [u8]) -> Result<usize, Failed>
         ensures count { IfOk result (λ k. k ≤ length buf.old) }
         ensures calm { OnOk result (read_source_faults self.new ≡ read_source_faults self.old) }
-        ensures counted { OnErr result (read_source_faults self.new ≡ next_count (read_source_faults self.old)) }
+        ensures counted { OnErr result
+            (read_source_faults self.new ≡ next_count (read_source_faults self.old)) }
         ensures never_falls { read_source_faults self.old ≤ read_source_faults self.new }
 
         // Of the reader, where its bytes are known.
@@ -138,7 +140,8 @@ impl<W> WriteSink<W> {
 fn write_once<W: Write>(writer: &mut W, piece: &[u8]) -> Result<usize, Failed>
     ensures count { IfOk result (λ k. k ≤ length piece.now) }
     ensures some { IfOk result (λ k. 0 < length piece.now → 0 < k) }
-    ensures appended { IfOk result (λ k. Appends (W.contents writer.old) (W.contents writer.new) (take k piece.now)) }
+    ensures appended { IfOk result (λ k.
+        Appends (W.contents writer.old) (W.contents writer.new) (take k piece.now)) }
     ensures failed { OnErr result (Keeps (W.contents writer.old) (W.contents writer.new)) }
 {
     for _ in 0..u64::MAX {
@@ -176,7 +179,8 @@ impl<W: Write> Sink for WriteSink<W> {
         ensures count { IfOk result (λ k. k ≤ length piece.now) }
         ensures some { IfOk result (λ k. 0 < length piece.now → 0 < k) }
         ensures calm { OnOk result (write_sink_faults self.new ≡ write_sink_faults self.old) }
-        ensures counted { OnErr result (write_sink_faults self.new ≡ next_count (write_sink_faults self.old)) }
+        ensures counted { OnErr result
+            (write_sink_faults self.new ≡ next_count (write_sink_faults self.old)) }
         ensures never_falls { write_sink_faults self.old ≤ write_sink_faults self.new }
 
         // Of the writer, where its bytes are known.

@@ -52,7 +52,8 @@ pub trait Sink {
     /// stands at 2^64 - 1.
     fn put(&mut self, piece: &[u8]) -> Result<usize, Failed>
         ensures count { IfOk result (λ k. k ≤ length piece.now) }
-        ensures gained { IfOk result (λ k. Gained (held self.old) (held self.new) (take k piece.now)) }
+        ensures gained { IfOk result (λ k.
+            Gained (held self.old) (held self.new) (take k piece.now)) }
         ensures some { IfOk result (λ k. 0 < length piece.now → 0 < k) }
         ensures calm { OnOk result (faults self.new ≡ faults self.old) }
 

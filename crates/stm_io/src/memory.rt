@@ -72,7 +72,8 @@ impl MemSource {
     /// A source that has these bytes left. Its calls of `take` are numbered from 0, and those
     /// whose numbers stand in `failing` fail.
     pub fn new(bytes: Vec<u8>, failing: Vec<u64>) -> Self
-        ensures { result ≡ record { left = bytes.items; failing = failing.items; calls = 0; faults = 0 } }
+        ensures { result
+            ≡ record { left = bytes.items; failing = failing.items; calls = 0; faults = 0 } }
     {
         MemSource {
             bytes,
@@ -108,7 +109,8 @@ impl Source for MemSource {
     /// fail.
     fn take(&mut self, buf: &mut [u8]) -> Result<usize, Failed>
         ensures count { IfOk result (λ k. k ≤ length buf.old) }
-        ensures taken { IfOk result (λ k. Took (Some self.old.left) (Some self.new.left) (take k buf.new)) }
+        ensures taken { IfOk result (λ k.
+            Took (Some self.old.left) (Some self.new.left) (take k buf.new)) }
         ensures end { IfOk result (λ k.
             0 < length buf.old → IfSome (Some self.old.left) (λ all. (k ≡ 0) ↔ (all ≡ []))) }
         ensures calm { OnOk result (self.new.faults ≡ self.old.faults) }
@@ -206,15 +208,18 @@ impl Sink for MemSink {
     /// fail, or the sink is full and `piece` isn't empty.
     fn put(&mut self, piece: &[u8]) -> Result<usize, Failed>
         ensures count { IfOk result (λ k. k ≤ length piece.now) }
-        ensures gained { IfOk result (λ k. Gained (Some self.old.held) (Some self.new.held) (take k piece.now)) }
+        ensures gained { IfOk result (λ k.
+            Gained (Some self.old.held) (Some self.new.held) (take k piece.now)) }
         ensures some { IfOk result (λ k. 0 < length piece.now → 0 < k) }
         ensures calm { OnOk result (self.new.faults ≡ self.old.faults) }
         ensures failed { OnErr result (Some self.new.held ≡ Some self.old.held) }
         ensures cause { OnErr result (Rose self.old.faults self.new.faults) }
         ensures never_falls { self.old.faults ≤ self.new.faults }
 
-        ensures failing { IsErr result ↔ (Contains self.old.failing self.old.calls ⊎ NothingFits self.old piece.now) }
-        ensures fits { IfOk result (λ k. k ≡ min (length piece.now) (self.old.room - length self.old.held)) }
+        ensures failing { IsErr result
+            ↔ (Contains self.old.failing self.old.calls ⊎ NothingFits self.old piece.now) }
+        ensures fits { IfOk result (λ k.
+            k ≡ min (length piece.now) (self.old.room - length self.old.held)) }
         ensures after_ok { IfOk result (λ k.
             self.new ≡ record self.old { held = self.old.held ++ take k piece.now; calls = next_count self.old.calls }) }
         ensures after_err { OnErr result (

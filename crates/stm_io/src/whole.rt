@@ -44,7 +44,8 @@ pub fn read_all<S: Source>(
     ensures calm { OnOk result (S.faults source.new ≡ S.faults source.old) }
 
     ensures memory { IsErrOf result ReadError.Memory → S.faults source.new ≡ S.faults source.old }
-    ensures failed { IsErrOf result ReadError.Failed → Rose (S.faults source.old) (S.faults source.new) }
+    ensures failed { IsErrOf result ReadError.Failed
+        → Rose (S.faults source.old) (S.faults source.new) }
     ensures lost { OnErr result (TookSome limit (S.left source.old) (S.left source.new)) }
     ensures never_falls { S.faults source.old ≤ S.faults source.new }
 {

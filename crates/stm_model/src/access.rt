@@ -30,7 +30,8 @@ pub trait Access {
         requires within { a < words self.old }
         ensures value { IfOk result (λ v. Reads (log self.old) a v (log self.new)) }
         ensures range { IfOk result (λ v. v < 2 ^ 64) }
-        ensures explained { OnOk result (IsExplained (good self.new) (words self.new) (log self.new)) }
+        ensures explained { OnOk result
+            (IsExplained (good self.new) (words self.new) (log self.new)) }
         ensures goes { OnOk result (stopped self.new ≡ None) }
         ensures stops { IfErr result (λ s. stopped self.new ≡ Some s) }
         ensures cause { IfErr result IsReadStop }
@@ -43,7 +44,8 @@ pub trait Access {
         requires going { stopped self.old ≡ None }
         requires within { a < words self.old }
         ensures value { OnOk result (Writes (log self.old) a v (log self.new)) }
-        ensures explained { OnOk result (IsExplained (good self.new) (words self.new) (log self.new)) }
+        ensures explained { OnOk result
+            (IsExplained (good self.new) (words self.new) (log self.new)) }
         ensures goes { OnOk result (stopped self.new ≡ None) }
         ensures stops { IfErr result (λ s. stopped self.new ≡ Some s) }
         ensures good { SameMemories (good self.old) (good self.new) }

@@ -5,7 +5,8 @@ ghost use Rattle.stm_profile.specs.PolicyWords.{IsUpTo};
 
 /// The number that a word is: decimal, without sign and leading zeros, below 2^64.
 pub fn number(word: &str) -> Option<u64>
-    ensures { MatchOption result ((n : ℕ) → n < 2 ^ 64 → word.now ≢ decimal n) (λ n. word.now ≡ decimal n) }
+    ensures { MatchOption result ((n : ℕ) → n < 2 ^ 64 → word.now ≢ decimal n) (λ n.
+        word.now ≡ decimal n) }
 {
     if word.starts_with('+') {
         return None;
@@ -21,7 +22,8 @@ pub fn number(word: &str) -> Option<u64>
 
 /// The number that a word is, from 1 to `most`.
 pub fn number_up_to(most: u32, word: &str) -> Option<u32>
-    ensures { MatchOption result ((n : ℕ) → IsUpTo most n → word.now ≢ decimal n) (λ n. IsUpTo most n × (word.now ≡ decimal n)) }
+    ensures { MatchOption result ((n : ℕ) → IsUpTo most n → word.now ≢ decimal n) (λ n.
+        IsUpTo most n × (word.now ≡ decimal n)) }
 {
     let n = number(word)?;
     if n < 1 || u64::from(most) < n {

@@ -60,7 +60,8 @@ impl FromStr for Policy {
 
 /// The policy of a word.
 fn read(word: &str) -> Option<Policy>
-    ensures { MatchOption result ((policy : Policy) → IsWordOf word.now policy → ⊥) (IsWordOf word.now) }
+    ensures { MatchOption result ((policy : Policy) → IsWordOf word.now policy → ⊥)
+        (IsWordOf word.now) }
 {
     match word.split_once(':') {
         Some((name, digits)) => numbered(name, digits),
@@ -70,7 +71,8 @@ fn read(word: &str) -> Option<Policy>
 
 /// The policy of a word without a colon.
 fn named(word: &str) -> Option<Policy>
-    ensures { MatchOption result ((word.now ≢ codes "fixed") × (word.now ≢ codes "expert")) (IsWordOf word.now) }
+    ensures { MatchOption result ((word.now ≢ codes "fixed") × (word.now ≢ codes "expert"))
+        (IsWordOf word.now) }
 {
     match word {
         "fixed" => Some(Policy::Fixed),
@@ -81,7 +83,8 @@ fn named(word: &str) -> Option<Policy>
 
 /// The policy of a name and of the number after its colon.
 fn numbered(name: &str, digits: &str) -> Option<Policy>
-    ensures { MatchOption result (IsNoneNumbered name.now digits.now) (IsWordOf (name.now ++ 58 ∷ digits.now)) }
+    ensures { MatchOption result (IsNoneNumbered name.now digits.now)
+        (IsWordOf (name.now ++ 58 ∷ digits.now)) }
 {
     match name {
         "round" => Some(Policy::Round(number_up_to(MOST_ROUND, digits)?)),

@@ -46,7 +46,8 @@ impl Profile {
     /// Notes what one more attempt came to.
     pub fn note(&mut self, outcome: Outcome)
         ensures one_more { self.new ≡ with_outcome self.old outcome }
-        ensures since_clear { (outcomes : List Outcome) → self.old ≡ profile_of outcomes → self.new ≡ profile_of (outcomes ++ outcome ∷ []) }
+        ensures since_clear { (outcomes : List Outcome) → self.old ≡ profile_of outcomes
+            → self.new ≡ profile_of (outcomes ++ outcome ∷ []) }
     {
         self.window.push_back(outcome);
         if self.since < MOST_SINCE {

@@ -30,7 +30,8 @@ use Rattle.stm_rule.proofs.Opens.{invariant_opens, opening_lies}
 kept_by : {Rule : World → Type 0} {kind : StepKind} {shows : World → View → ℕ → Type 0} {n : ℕ} {w : World} → StepOutcome Rule kind shows n w → Rule (world_after kind n w) × Advances w (world_after kind n w)
 kept_by o = (o.rule, o.advances)
 
-pub one_step : (good : (ℕ → ℕ) → Type 0) (c : Config) (n : ℕ) (s : CoreStep) (w : World) → Invariant good c w → CoreMay good c n s (w.views n) → Invariant good c (world_after (core_kind n s) n w) × Advances w (world_after (core_kind n s) n w)
+pub one_step : (good : (ℕ → ℕ) → Type 0) (c : Config) (n : ℕ) (s : CoreStep) (w : World) → Invariant good c w
+    → CoreMay good c n s (w.views n) → Invariant good c (world_after (core_kind n s) n w) × Advances w (world_after (core_kind n s) n w)
 one_step good c n announces w r m = kept_by (lifted.announces good c n m.0 w r m.1)
 one_step good c n loads_gate w r m = kept_by (lifted.loads_gate good c n w r m.1)
 one_step good c n departs w r m = kept_by (lifted.departs good c n w r m.1)
@@ -61,12 +62,19 @@ one_step good c n (of_tml (tml_commits t)) w r m = kept_by (lifted.tml_commits g
 one_step good c n (of_ring ring_begins) w r m = kept_by (lifted.ring_begins good c n w r m.1)
 one_step good c n (of_ring (ring_loads a)) w r m = kept_by (lifted.ring_loads good c n a w r m.1)
 one_step good c n (of_ring ring_looks) w r m = kept_by (lifted.ring_looks good c n w r m.1)
-one_step good c n (of_ring (ring_words k e i)) w r m = subst (λ (q : ℕ). Invariant good c (world_after (ring_word q e i) n w) × Advances w (world_after (ring_word q e i) n w)) (sym m.1.0) (kept_by (lifted.ring_words good c n e i w r m.1.1))
-one_step good c n (of_ring (ring_agains k)) w r m = subst (λ (q : ℕ). Invariant good c (world_after (ring_again q) n w) × Advances w (world_after (ring_again q) n w)) (sym m.1.0) (kept_by (lifted.ring_agains good c n w r m.1.1))
+one_step good c n (of_ring (ring_words k e i)) w r m =
+    subst (λ (q : ℕ). Invariant good c (world_after (ring_word q e i) n w) × Advances w (world_after (ring_word q e i) n w)) (sym m.1.0)
+    (kept_by (lifted.ring_words good c n e i w r m.1.1))
+one_step good c n (of_ring (ring_agains k)) w r m =
+    subst (λ (q : ℕ). Invariant good c (world_after (ring_again q) n w) × Advances w (world_after (ring_again q) n w)) (sym m.1.0)
+    (kept_by (lifted.ring_agains good c n w r m.1.1))
 one_step good c n (of_ring ring_moves) w r m = kept_by (lifted.ring_moves good c n w r m.1)
 one_step good c n (of_ring ring_locks) w r m = kept_by (lifted.ring_locks good c n w r m.1)
 one_step good c n (of_ring ring_ticks) w r m = kept_by (lifted.ring_ticks good c n w r m.1)
-one_step good c n (of_ring (ring_slots k e i ws)) w r m = subst (λ (q : ℕ). Invariant good c (world_after (ring_slot slot_filter q e i ws) n w) × Advances w (world_after (ring_slot slot_filter q e i ws) n w)) (sym m.1.0) (kept_by (lifted.ring_slots good c n e i ws w r m.1.1))
+one_step good c n (of_ring (ring_slots k e i ws)) w r m =
+    subst (λ (q : ℕ).
+    Invariant good c (world_after (ring_slot slot_filter q e i ws) n w) × Advances w (world_after (ring_slot slot_filter q e i ws) n w))
+    (sym m.1.0) (kept_by (lifted.ring_slots good c n e i ws w r m.1.1))
 one_step good c n (of_ring (ring_enters t)) w r m = kept_by (lifted.ring_enters good c n t m.0 w r m.1)
 one_step good c n (of_ring (ring_writes a x)) w r m = kept_by (lifted.ring_writes good c n a x w r m.1)
 one_step good c n (of_ring (ring_dones t)) w r m = kept_by (lifted.ring_dones good c n t w r m.1)
@@ -140,7 +148,18 @@ core_promotes_lem good c x inside small keeps = (
       ▸ (omega arith, record { has = record { runs = record { phase = refl; algorithm = refl; plain = refl }; inside = refl }; reads = refl })
       ▸ (omega arith, record { has = record { runs = record { phase = refl; algorithm = refl; plain = refl }; inside = refl }; reads = refl; start = refl; limit = omega arith; settled = refl; not_quiescent = refl })
       ▸ (omega arith, (record { has = record { runs = record { phase = refl; algorithm = refl; plain = refl }; inside = refl }; writes = refl; inside = inside; small = small }, fenced-none 0))
-      ▸ (omega arith, record { has = record { runs = record { phase = refl; algorithm = refl; plain = refl }; inside = refl }; writes = refl; not_quiescent = refl; time = refl; limit = omega arith; wrote = λ e. cc; keeps = keeps 0 })
+      ▸ (
+        omega arith,
+        record {
+          has = record { runs = record { phase = refl; algorithm = refl; plain = refl }; inside = refl };
+          writes = refl;
+          not_quiescent = refl;
+          time = refl;
+          limit = omega arith;
+          wrote = λ e. cc;
+          keeps = keeps 0;
+        },
+      )
       ▸ (omega arith, record { phase = refl; reopened = λ e. refl; unlocked = refl; disowned = refl; unwritten = refl; uncommitted = refl; unentered = λ e. refl })
       ▸ (omega arith, refl)
       ▸ (omega arith, refl)
@@ -153,7 +172,22 @@ core_promotes_lem good c x inside small keeps = (
       ▸ (omega arith, record { phase = refl; granted = refl; named = refl; time = refl; limit = omega arith; wrote = λ e. cc; keeps = keeps x })
       ▸ (omega arith, record { closing = λ e. absurd cc; quiescent = refl; time = refl })
       ▸ (omega arith, record { closing = λ e. absurd cc; quiescent = refl; time = refl })
-      ▸ (omega arith, record { phase = refl; holds = refl; named = refl; spared = refl; marked = λ e. (refl, refl); unstored = refl; unlocked = refl; disowned = refl; unwritten = refl; uncommitted = refl; plain = λ e. absurd cc })
+      ▸ (
+        omega arith,
+        record {
+          phase = refl;
+          holds = refl;
+          named = refl;
+          spared = refl;
+          marked = λ e. (refl, refl);
+          unstored = refl;
+          unlocked = refl;
+          disowned = refl;
+          unwritten = refl;
+          uncommitted = refl;
+          plain = λ e. absurd cc;
+        },
+      )
       ▸ (omega arith, record { phase = refl; reopened = λ e. refl; unlocked = refl; disowned = refl; unwritten = refl; uncommitted = refl; unentered = λ e. refl })
       ▸ (omega arith, refl)
       ▸ (omega arith, refl)
@@ -215,23 +249,283 @@ core_rings_lem good c x inside small keeps = (
       ▸ (omega arith, record { has = record { runs = record { phase = refl; algorithm = refl; plain = refl }; inside = refl }; free = refl })
       ▸ (omega arith, record { has = record { runs = record { phase = refl; algorithm = refl; plain = refl }; inside = refl }; taken = refl; unentered = refl })
       ▸ (omega arith, record { has = record { runs = record { phase = refl; algorithm = refl; plain = refl }; inside = refl } })
-      ▸ (omega arith, (refl, record { turn = record { has = record { runs = record { phase = refl; algorithm = refl; plain = refl }; inside = refl }; taken = refl; unentered = refl }; ticked = refl; checked = refl; next = refl; index = refl; low = omega arith; same = λ l. absurd (omega arith) }))
-      ▸ (omega arith, (refl, record { turn = record { has = record { runs = record { phase = refl; algorithm = refl; plain = refl }; inside = refl }; taken = refl; unentered = refl }; ticked = refl; checked = refl; next = refl; index = refl; low = omega arith; same = λ l. refl }))
-      ▸ (omega arith, (refl, record { turn = record { has = record { runs = record { phase = refl; algorithm = refl; plain = refl }; inside = refl }; taken = refl; unentered = refl }; ticked = refl; checked = refl; next = refl; index = refl; low = omega arith; same = λ l. refl }))
-      ▸ (omega arith, (refl, record { turn = record { has = record { runs = record { phase = refl; algorithm = refl; plain = refl }; inside = refl }; taken = refl; unentered = refl }; ticked = refl; checked = refl; next = refl; index = refl; low = omega arith; same = λ l. refl }))
-      ▸ (omega arith, (refl, record { turn = record { has = record { runs = record { phase = refl; algorithm = refl; plain = refl }; inside = refl }; taken = refl; unentered = refl }; ticked = refl; checked = refl; next = refl; index = refl; low = omega arith; same = λ l. refl }))
-      ▸ (omega arith, (refl, record { turn = record { has = record { runs = record { phase = refl; algorithm = refl; plain = refl }; inside = refl }; taken = refl; unentered = refl }; ticked = refl; checked = refl; next = refl; index = refl; low = omega arith; same = λ l. refl }))
-      ▸ (omega arith, (refl, record { turn = record { has = record { runs = record { phase = refl; algorithm = refl; plain = refl }; inside = refl }; taken = refl; unentered = refl }; ticked = refl; checked = refl; next = refl; index = refl; low = omega arith; same = λ l. refl }))
-      ▸ (omega arith, (refl, record { turn = record { has = record { runs = record { phase = refl; algorithm = refl; plain = refl }; inside = refl }; taken = refl; unentered = refl }; ticked = refl; checked = refl; next = refl; index = refl; low = omega arith; same = λ l. refl }))
-      ▸ (omega arith, (refl, record { turn = record { has = record { runs = record { phase = refl; algorithm = refl; plain = refl }; inside = refl }; taken = refl; unentered = refl }; ticked = refl; checked = refl; next = refl; index = refl; low = omega arith; same = λ l. refl }))
-      ▸ (omega arith, (refl, record { turn = record { has = record { runs = record { phase = refl; algorithm = refl; plain = refl }; inside = refl }; taken = refl; unentered = refl }; ticked = refl; checked = refl; next = refl; index = refl; low = omega arith; same = λ l. refl }))
-      ▸ (omega arith, (refl, record { turn = record { has = record { runs = record { phase = refl; algorithm = refl; plain = refl }; inside = refl }; taken = refl; unentered = refl }; ticked = refl; checked = refl; next = refl; index = refl; low = omega arith; same = λ l. refl }))
-      ▸ (omega arith, (refl, record { turn = record { has = record { runs = record { phase = refl; algorithm = refl; plain = refl }; inside = refl }; taken = refl; unentered = refl }; ticked = refl; checked = refl; next = refl; index = refl; low = omega arith; same = λ l. refl }))
-      ▸ (omega arith, (refl, record { turn = record { has = record { runs = record { phase = refl; algorithm = refl; plain = refl }; inside = refl }; taken = refl; unentered = refl }; ticked = refl; checked = refl; next = refl; index = refl; low = omega arith; same = λ l. refl }))
-      ▸ (omega arith, (refl, record { turn = record { has = record { runs = record { phase = refl; algorithm = refl; plain = refl }; inside = refl }; taken = refl; unentered = refl }; ticked = refl; checked = refl; next = refl; index = refl; low = omega arith; same = λ l. refl }))
-      ▸ (omega arith, (refl, record { turn = record { has = record { runs = record { phase = refl; algorithm = refl; plain = refl }; inside = refl }; taken = refl; unentered = refl }; ticked = refl; checked = refl; next = refl; index = refl; low = omega arith; same = λ l. refl }))
-      ▸ (omega arith, (refl, record { turn = record { has = record { runs = record { phase = refl; algorithm = refl; plain = refl }; inside = refl }; taken = refl; unentered = refl }; ticked = refl; checked = refl; next = refl; index = refl; low = omega arith; same = λ l. refl }))
-      ▸ (omega arith, (record { turn = record { has = record { runs = record { phase = refl; algorithm = refl; plain = refl }; inside = refl }; taken = refl; unentered = refl }; ticked = refl; checked = refl; full = refl; time = refl; limit = omega arith; settled = refl; free = refl; wrote = λ e. cc; writes_inside = inside-more c.words (record { at = 0; value = x }) [] inside (λ a e. absurd cc); writes_small = small-more (record { at = 0; value = x }) [] small (λ a d l. l); keeps = keeps 0 }, λ b e. fenced-none b))
+      ▸ (
+        omega arith,
+        (
+          refl,
+          record {
+            turn = record
+                { has = record { runs = record { phase = refl; algorithm = refl; plain = refl }; inside = refl }; taken = refl; unentered = refl };
+            ticked = refl;
+            checked = refl;
+            next = refl;
+            index = refl;
+            low = omega arith;
+            same = λ l. absurd (omega arith);
+          },
+        ),
+      )
+      ▸ (
+        omega arith,
+        (
+          refl,
+          record {
+            turn = record
+                { has = record { runs = record { phase = refl; algorithm = refl; plain = refl }; inside = refl }; taken = refl; unentered = refl };
+            ticked = refl;
+            checked = refl;
+            next = refl;
+            index = refl;
+            low = omega arith;
+            same = λ l. refl;
+          },
+        ),
+      )
+      ▸ (
+        omega arith,
+        (
+          refl,
+          record {
+            turn = record
+                { has = record { runs = record { phase = refl; algorithm = refl; plain = refl }; inside = refl }; taken = refl; unentered = refl };
+            ticked = refl;
+            checked = refl;
+            next = refl;
+            index = refl;
+            low = omega arith;
+            same = λ l. refl;
+          },
+        ),
+      )
+      ▸ (
+        omega arith,
+        (
+          refl,
+          record {
+            turn = record
+                { has = record { runs = record { phase = refl; algorithm = refl; plain = refl }; inside = refl }; taken = refl; unentered = refl };
+            ticked = refl;
+            checked = refl;
+            next = refl;
+            index = refl;
+            low = omega arith;
+            same = λ l. refl;
+          },
+        ),
+      )
+      ▸ (
+        omega arith,
+        (
+          refl,
+          record {
+            turn = record
+                { has = record { runs = record { phase = refl; algorithm = refl; plain = refl }; inside = refl }; taken = refl; unentered = refl };
+            ticked = refl;
+            checked = refl;
+            next = refl;
+            index = refl;
+            low = omega arith;
+            same = λ l. refl;
+          },
+        ),
+      )
+      ▸ (
+        omega arith,
+        (
+          refl,
+          record {
+            turn = record
+                { has = record { runs = record { phase = refl; algorithm = refl; plain = refl }; inside = refl }; taken = refl; unentered = refl };
+            ticked = refl;
+            checked = refl;
+            next = refl;
+            index = refl;
+            low = omega arith;
+            same = λ l. refl;
+          },
+        ),
+      )
+      ▸ (
+        omega arith,
+        (
+          refl,
+          record {
+            turn = record
+                { has = record { runs = record { phase = refl; algorithm = refl; plain = refl }; inside = refl }; taken = refl; unentered = refl };
+            ticked = refl;
+            checked = refl;
+            next = refl;
+            index = refl;
+            low = omega arith;
+            same = λ l. refl;
+          },
+        ),
+      )
+      ▸ (
+        omega arith,
+        (
+          refl,
+          record {
+            turn = record
+                { has = record { runs = record { phase = refl; algorithm = refl; plain = refl }; inside = refl }; taken = refl; unentered = refl };
+            ticked = refl;
+            checked = refl;
+            next = refl;
+            index = refl;
+            low = omega arith;
+            same = λ l. refl;
+          },
+        ),
+      )
+      ▸ (
+        omega arith,
+        (
+          refl,
+          record {
+            turn = record
+                { has = record { runs = record { phase = refl; algorithm = refl; plain = refl }; inside = refl }; taken = refl; unentered = refl };
+            ticked = refl;
+            checked = refl;
+            next = refl;
+            index = refl;
+            low = omega arith;
+            same = λ l. refl;
+          },
+        ),
+      )
+      ▸ (
+        omega arith,
+        (
+          refl,
+          record {
+            turn = record
+                { has = record { runs = record { phase = refl; algorithm = refl; plain = refl }; inside = refl }; taken = refl; unentered = refl };
+            ticked = refl;
+            checked = refl;
+            next = refl;
+            index = refl;
+            low = omega arith;
+            same = λ l. refl;
+          },
+        ),
+      )
+      ▸ (
+        omega arith,
+        (
+          refl,
+          record {
+            turn = record
+                { has = record { runs = record { phase = refl; algorithm = refl; plain = refl }; inside = refl }; taken = refl; unentered = refl };
+            ticked = refl;
+            checked = refl;
+            next = refl;
+            index = refl;
+            low = omega arith;
+            same = λ l. refl;
+          },
+        ),
+      )
+      ▸ (
+        omega arith,
+        (
+          refl,
+          record {
+            turn = record
+                { has = record { runs = record { phase = refl; algorithm = refl; plain = refl }; inside = refl }; taken = refl; unentered = refl };
+            ticked = refl;
+            checked = refl;
+            next = refl;
+            index = refl;
+            low = omega arith;
+            same = λ l. refl;
+          },
+        ),
+      )
+      ▸ (
+        omega arith,
+        (
+          refl,
+          record {
+            turn = record
+                { has = record { runs = record { phase = refl; algorithm = refl; plain = refl }; inside = refl }; taken = refl; unentered = refl };
+            ticked = refl;
+            checked = refl;
+            next = refl;
+            index = refl;
+            low = omega arith;
+            same = λ l. refl;
+          },
+        ),
+      )
+      ▸ (
+        omega arith,
+        (
+          refl,
+          record {
+            turn = record
+                { has = record { runs = record { phase = refl; algorithm = refl; plain = refl }; inside = refl }; taken = refl; unentered = refl };
+            ticked = refl;
+            checked = refl;
+            next = refl;
+            index = refl;
+            low = omega arith;
+            same = λ l. refl;
+          },
+        ),
+      )
+      ▸ (
+        omega arith,
+        (
+          refl,
+          record {
+            turn = record
+                { has = record { runs = record { phase = refl; algorithm = refl; plain = refl }; inside = refl }; taken = refl; unentered = refl };
+            ticked = refl;
+            checked = refl;
+            next = refl;
+            index = refl;
+            low = omega arith;
+            same = λ l. refl;
+          },
+        ),
+      )
+      ▸ (
+        omega arith,
+        (
+          refl,
+          record {
+            turn = record
+                { has = record { runs = record { phase = refl; algorithm = refl; plain = refl }; inside = refl }; taken = refl; unentered = refl };
+            ticked = refl;
+            checked = refl;
+            next = refl;
+            index = refl;
+            low = omega arith;
+            same = λ l. refl;
+          },
+        ),
+      )
+      ▸ (
+        omega arith,
+        (
+          record {
+            turn = record
+                { has = record { runs = record { phase = refl; algorithm = refl; plain = refl }; inside = refl }; taken = refl; unentered = refl };
+            ticked = refl;
+            checked = refl;
+            full = refl;
+            time = refl;
+            limit = omega arith;
+            settled = refl;
+            free = refl;
+            wrote = λ e. cc;
+            writes_inside = inside-more c.words (record { at = 0; value = x }) [] inside (λ a e. absurd cc);
+            writes_small = small-more (record { at = 0; value = x }) [] small (λ a d l. l);
+            keeps = keeps 0;
+          },
+          λ b e. fenced-none b,
+        ),
+      )
       ▸ (omega arith, record { entered = record { runs = record { phase = refl; algorithm = refl; plain = refl }; committed = refl; unfinished = refl }; owed = refl; value = refl })
       ▸ (omega arith, record { entered = record { runs = record { phase = refl; algorithm = refl; plain = refl }; committed = refl; unfinished = refl }; time = refl; written = λ a. refl; free = refl })
       ▸ (omega arith, record { runs = record { phase = refl; algorithm = refl; plain = refl }; taken = refl; finished = λ e. refl })
@@ -243,12 +537,37 @@ core_rings_lem good c x inside small keeps = (
       ▸ (omega arith, refl)
       ▸ (omega arith, record { phase = refl; named = refl; spared = refl; free = refl })
       ▸ (omega arith, record { holds = refl; quiet = λ k l o. absurd (o (omega arith)) })
-      ▸ (omega arith, record { has = record { runs = record { phase = refl; algorithm = refl; plain = refl }; inside = refl }; quiescent = refl; limit = omega arith; unlocked = refl; uncommitted = refl; unwritten = refl })
+      ▸ (
+        omega arith,
+        record {
+          has = record { runs = record { phase = refl; algorithm = refl; plain = refl }; inside = refl };
+          quiescent = refl;
+          limit = omega arith;
+          unlocked = refl;
+          uncommitted = refl;
+          unwritten = refl;
+        },
+      )
       ▸ (omega arith, (record { granted = refl; inside = inside; small = small }, fenced-none 0))
       ▸ (omega arith, record { phase = refl; granted = refl; named = refl; time = refl; limit = omega arith; wrote = λ e. cc; keeps = keeps x })
       ▸ (omega arith, record { closing = λ e. absurd cc; quiescent = refl; time = refl })
       ▸ (omega arith, record { closing = λ e. absurd cc; quiescent = refl; time = refl })
-      ▸ (omega arith, record { phase = refl; holds = refl; named = refl; spared = refl; marked = λ e. (refl, refl); unstored = refl; unlocked = refl; disowned = refl; unwritten = refl; uncommitted = refl; plain = λ e. absurd cc })
+      ▸ (
+        omega arith,
+        record {
+          phase = refl;
+          holds = refl;
+          named = refl;
+          spared = refl;
+          marked = λ e. (refl, refl);
+          unstored = refl;
+          unlocked = refl;
+          disowned = refl;
+          unwritten = refl;
+          uncommitted = refl;
+          plain = λ e. absurd cc;
+        },
+      )
       ▸ (omega arith, record { phase = refl; reopened = λ e. refl; unlocked = refl; disowned = refl; unwritten = refl; uncommitted = refl; unentered = λ e. refl })
       ▸ tt
       ),

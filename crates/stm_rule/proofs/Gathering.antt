@@ -112,18 +112,26 @@ module _ {K : Type 0} where
   idle_last t c rule n (x ∷ ds) d a = idle_last t c rule (suc n) ds d a.3
 
   -- the first seat shows the last descriptor
-  pub shown_first : (all ds : List (Handle K)) (d : Handle K) (s : SeatView K) (m : ℕ) → all ≡ ds ++ d ∷ [] → d.who.role ≡ Caller m → s.view ≡ d.view → s.gathered ≡ [] → shown all ≡ shown ds ++ (s.gathered ++ record { caller = m; view = s.view } ∷ [])
+  pub shown_first : (all ds : List (Handle K)) (d : Handle K) (s : SeatView K) (m : ℕ) → all ≡ ds ++ d ∷ [] → d.who.role ≡ Caller m
+      → s.view ≡ d.view → s.gathered ≡ [] → shown all ≡ shown ds ++ (s.gathered ++ record { caller = m; view = s.view } ∷ [])
   shown_first all ds d s m is role view bare =
-      ap shown is ∙ shown_append ds (d ∷ []) ∙ ap (λ (r : Role). shown ds ++ claimed r d.view []) role ∙ ap (λ (v : View). shown ds ++ record { caller = m; view = v } ∷ []) (sym view) ∙ ap (λ (l : List Gathered). shown ds ++ (l ++ record { caller = m; view = s.view } ∷ [])) (sym bare)
+      ap shown is ∙ shown_append ds (d ∷ []) ∙ ap (λ (r : Role). shown ds ++ claimed r d.view []) role
+      ∙ ap (λ (v : View). shown ds ++ record { caller = m; view = v } ∷ []) (sym view)
+      ∙ ap (λ (l : List Gathered). shown ds ++ (l ++ record { caller = m; view = s.view } ∷ [])) (sym bare)
 
   -- and after another was gathered, one more
-  pub shown_next : (all old ds : List (Handle K)) (d : Handle K) (s t s' : SeatView K) (m k : ℕ) (own : View) → shown all ≡ shown old ++ (s.gathered ++ record { caller = m; view = own } ∷ []) → old ≡ ds ++ d ∷ [] → d.who.role ≡ Caller k → t.who.role ≡ Caller k → t.view ≡ d.view → t.gathered ≡ [] → s' ≡ gathers s t
+  pub shown_next : (all old ds : List (Handle K)) (d : Handle K) (s t s' : SeatView K) (m k : ℕ) (own : View)
+      → shown all ≡ shown old ++ (s.gathered ++ record { caller = m; view = own } ∷ []) → old ≡ ds ++ d ∷ [] → d.who.role ≡ Caller k
+      → t.who.role ≡ Caller k → t.view ≡ d.view → t.gathered ≡ [] → s' ≡ gathers s t
       → shown all ≡ shown ds ++ (s'.gathered ++ record { caller = m; view = own } ∷ [])
   shown_next all old ds d s t s' m k own before is role their view bare next =
       let last : List Gathered = record { caller = m; view = own } ∷ [] in
       let one : List Gathered = record { caller = k; view = d.view } ∷ [] in
       let olds : shown old ≡ shown ds ++ one = ap shown is ∙ shown_append ds (d ∷ []) ∙ ap (λ (r : Role). shown ds ++ claimed r d.view []) role in
-      let joined : s'.gathered ≡ one ++ s.gathered = ap (λ (q : SeatView K). q.gathered) next ∙ ap (λ (r : Role). claimed r t.view t.gathered ++ s.gathered) their ∙ ap (λ (v : View). record { caller = k; view = v } ∷ (t.gathered ++ s.gathered)) view ∙ ap (λ (l : List Gathered). record { caller = k; view = d.view } ∷ (l ++ s.gathered)) bare in
+      let joined : s'.gathered ≡ one ++ s.gathered = ap (λ (q : SeatView K). q.gathered) next ∙ ap
+      (λ (r : Role). claimed r t.view t.gathered ++ s.gathered) their ∙ ap
+      (λ (v : View). record { caller = k; view = v } ∷ (t.gathered ++ s.gathered)) view ∙ ap
+      (λ (l : List Gathered). record { caller = k; view = d.view } ∷ (l ++ s.gathered)) bare in
       before ∙ ap (λ (l : List Gathered). l ++ (s.gathered ++ last)) olds ∙ regroup (shown ds) one s.gathered last
       ∙ ap (λ (l : List Gathered). shown ds ++ (l ++ last)) (sym joined)
     where
@@ -142,7 +150,12 @@ installs_found f (g ∷ gs) k v all h = ⊎_elim
 
 -- while all callers are idle, and where there is no fence, the memory lies in the heap
 bare_rests : (good : (ℕ → ℕ) → Type 0) (c : Config) (w : World) → Core good c w → ((k : ℕ) → k < c.callers → (w.views k).gate.phase ≡ Idle) → (a : ℕ) → w.heap a ≡ word_now w.history a
-bare_rests good c w g idle = (at-rest c (alg_of w.gate) (run_projection w) (subst (λ (r : Regime). Runs c r (run_projection w)) (regime-running w ungranted) g.running) (free w.lock refl) (λ m t. let o : (w.views m).gate.phase ≡ In = g.attempts.busy m (busy-writer (w.views m) t) in let i = out m in cc) (λ m t. let o : (w.views m).gate.phase ≡ In = g.attempts.busy m (busy-turn (w.views m) t) in let i = out m in cc) (λ has r m e. let o : (w.views m).gate.phase ≡ In = g.records.inside m r (owner-holds good c w g r m e) in let i = out m in cc)).0
+bare_rests good c w g idle =
+    (at-rest c (alg_of w.gate) (run_projection w)
+    (subst (λ (r : Regime). Runs c r (run_projection w)) (regime-running w ungranted) g.running) (free w.lock refl)
+    (λ m t. let o : (w.views m).gate.phase ≡ In = g.attempts.busy m (busy-writer (w.views m) t) in let i = out m in cc)
+    (λ m t. let o : (w.views m).gate.phase ≡ In = g.attempts.busy m (busy-turn (w.views m) t) in let i = out m in cc) (λ has r m e.
+    let o : (w.views m).gate.phase ≡ In = g.records.inside m r (owner-holds good c w g r m e) in let i = out m in cc)).0
   where
     out : (k : ℕ) → (w.views k).gate.phase ≡ Idle
     out k = ⊎_elim (λ (t : (leb c.callers k ≡ true) × (c.callers ≤ k)). g.gate.far k t.1) (λ (t : (leb c.callers k ≡ false) × (k < c.callers)). idle k t.1) (leb_tells c.callers k)
@@ -155,7 +168,9 @@ bare_rests good c w g idle = (at-rest c (alg_of w.gate) (run_projection w) (subs
     ungranted n h = plain-mode (w.views n).gate (ungranted-out good c w n g (λ e. let i = out n in let k : Idle ≡ In = sym i ∙ e in cc)) (ungiven-out good c w n g (λ e. let i = out n in let k : Idle ≡ Closing = sym i ∙ e in cc))
 
 -- and where nobody has a fence
-pub rests : (good : (ℕ → ℕ) → Type 0) (c : Config) (w : World) → Invariant good c w → ((k : ℕ) → k < c.callers → (w.views k).gate.phase ≡ Idle) → ((k : ℕ) → k < c.callers → c.fence ≡ true → (w.views k).fence.holds ≡ false) → (a : ℕ) → w.heap a ≡ word_now w.history a
+pub rests : (good : (ℕ → ℕ) → Type 0) (c : Config) (w : World) → Invariant good c w
+    → ((k : ℕ) → k < c.callers → (w.views k).gate.phase ≡ Idle)
+    → ((k : ℕ) → k < c.callers → c.fence ≡ true → (w.views k).fence.holds ≡ false) → (a : ℕ) → w.heap a ≡ word_now w.history a
 rests good c w g idle free a = sym (ap (λ (f : ℕ → ℕ). f a) (ap (λ k. heap_without_fence k w.heap w.history) none ∙ heap_without_fence-none w.heap w.history)) ∙ bare_rests good c (without_fence w) g.core idle a
   where
     by : c.fence ≡ true → (k : ℕ) → fence_owner (fence_of w.gate) ≡ k → fence_of w.gate ≡ 0

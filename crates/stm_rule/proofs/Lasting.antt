@@ -28,7 +28,8 @@ module _ (good : (ℕ → ℕ) → Type 0) (c : Config) where
   Stands w x = (x.history ≡ w.history) × (x.clock ≡ w.clock)
 
   -- a caller at rest takes no step that adds an entry or stores the clock
-  stands : (m : ℕ) (s : CoreStep) (w : World) → Invariant good c w → ((w.views m).gate.phase ≡ In → ⊥) → ((w.views m).gate.phase ≡ Closing → ⊥) → CoreMay good c m s (w.views m) → Stands w (world_after (core_kind m s) m w)
+  stands : (m : ℕ) (s : CoreStep) (w : World) → Invariant good c w → ((w.views m).gate.phase ≡ In → ⊥)
+      → ((w.views m).gate.phase ≡ Closing → ⊥) → CoreMay good c m s (w.views m) → Stands w (world_after (core_kind m s) m w)
   stands m announces w g out apart may = (refl, refl)
   stands m loads_gate w g out apart may = (refl, refl)
   stands m departs w g out apart may = (refl, refl)

@@ -27,7 +27,7 @@ use Rattle.rule_base.specs.Seating.{Claims, Seats}
 use Rattle.rule_base.specs.Lemmas.WordLemmas.{lies-write}
 use Rattle.rule_base.specs.World.{World, Lies, fetch}
 use Rattle.rule_seq.specs.CglOpening.{cgl_world-opening}
-use Rattle.stm_rule.specs.declared.refusal.NewError.TheVariants.{Words, Records, Ring, Callers, Logs, Memory}
+use Rattle.stm_rule.specs.declared.refusal.NewError.TheVariants.{Words, Records, Ring, Callers, Logs}
 use Rattle.stm_rule.specs.declared.refusal.NewError.TheVariants as faults
 use Rattle.stm_rule.specs.declared.stm.Key.{Key}
 use Rattle.stm_rule.specs.Kept.{good_of, Kept, newcomer}
@@ -188,7 +188,9 @@ pub no_fault : (c : Config) → first_fault c ≡ None → IsConfig c
 no_fault c e = go (in_range 1 c.words MAX_WORDS) (in_range 1 c.records MAX_RECORDS) (in_range MIN_RING c.ring MAX_RING) (in_range 1 c.callers MAX_CALLERS) (in_range 1 c.reads MAX_LOG) (in_range 1 c.writes MAX_LOG) (nat_le c.clock CLOCK_LIMIT)
     refl refl refl refl refl refl refl e
   where
-    go : (w r s k l m t : Bool) → in_range 1 c.words MAX_WORDS ≡ w → in_range 1 c.records MAX_RECORDS ≡ r → in_range MIN_RING c.ring MAX_RING ≡ s → in_range 1 c.callers MAX_CALLERS ≡ k → in_range 1 c.reads MAX_LOG ≡ l → in_range 1 c.writes MAX_LOG ≡ m → nat_le c.clock CLOCK_LIMIT ≡ t
+    go : (w r s k l m t : Bool) → in_range 1 c.words MAX_WORDS ≡ w → in_range 1 c.records MAX_RECORDS ≡ r
+        → in_range MIN_RING c.ring MAX_RING ≡ s → in_range 1 c.callers MAX_CALLERS ≡ k → in_range 1 c.reads MAX_LOG ≡ l
+        → in_range 1 c.writes MAX_LOG ≡ m → nat_le c.clock CLOCK_LIMIT ≡ t
         → (if w then (if r then (if s then (if k then (if l && m then (if t then None else Some faults.Clock) else Some Logs) else Some Callers) else Some Ring) else Some Records) else Some Words) ≡ None → IsConfig c
     go true true true true true true true a b d f g h i e = record {
       words = within 1 c.words MAX_WORDS a;

@@ -21,14 +21,16 @@ begins-history h seen t front below is =
 
 module _ (good : (ℕ → ℕ) → Type 0) (c : Config) where
   -- a deed adds none but later entries
-  kept : (n : ℕ) (d : Deed) (x : Shared) → SharedRule good c x → MayDo good c n d x → (f : ℕ) → f ≤ x.world.clock → (upto (after_deed n d x).world.history f ≡ upto x.world.history f) × (f ≤ (after_deed n d x).world.clock)
+  kept : (n : ℕ) (d : Deed) (x : Shared) → SharedRule good c x → MayDo good c n d x → (f : ℕ) → f ≤ x.world.clock
+      → (upto (after_deed n d x).world.history f ≡ upto x.world.history f) × (f ≤ (after_deed n d x).world.clock)
   kept n (steps s) x r may f low = let a = (one_step good c n s x.world r.rule may).1 in (a.seen f low, (let k = a.clock in omega arith))
   kept n tells x r may f low = (refl, low)
   kept n (learns i) x r may f low = (refl, low)
   kept n gathers x r may f low = (refl, low)
 
   -- nor do many
-  all-kept : (ds : List (ℕ × Deed)) (x : Shared) → SharedRule good c x → AllMay good c ds x → (f : ℕ) → f ≤ x.world.clock → (upto (after_deeds good c ds x).world.history f ≡ upto x.world.history f) × SharedRule good c (after_deeds good c ds x)
+  all-kept : (ds : List (ℕ × Deed)) (x : Shared) → SharedRule good c x → AllMay good c ds x → (f : ℕ) → f ≤ x.world.clock
+      → (upto (after_deeds good c ds x).world.history f ≡ upto x.world.history f) × SharedRule good c (after_deeds good c ds x)
   all-kept [] x r a f low = (refl, r)
   all-kept (d ∷ ds) x r a f low =
       let k = kept d.0 d.1 x r a.0 f low in

@@ -88,7 +88,9 @@ left-is w (Heap a) act r x e l = absurd cc
 -- the load of a split or a join is of no record
 pub alone-seated : (c : Config) (w : World) (n : ℕ) (v : View) → v.steps ≡ (after_seat_load (w.views n)).steps → Alone c w → Alone c (record w { views = put w.views n v })
 alone-seated c w n v own a sole r x e =
-    let same : left_at r (put w.views n v 0).steps.step_trace ≡ left_at r (w.views 0).steps.step_trace = put-all w.views n v (λ m u. left_at r u.steps.step_trace ≡ left_at r (w.views m).steps.step_trace) (ap (λ (s : Steps). left_at r s.step_trace) own) (λ m d. refl) 0 in
+    let same : left_at r (put w.views n v 0).steps.step_trace ≡ left_at r (w.views 0).steps.step_trace = put-all w.views n v
+    (λ m u. left_at r u.steps.step_trace ≡ left_at r (w.views m).steps.step_trace) (ap (λ (s : Steps). left_at r s.step_trace) own)
+    (λ m d. refl) 0 in
     a sole r x (sym same ∙ e)
 
 module _ (c : Config) (kind : StepKind) (n : ℕ) (w : World) where
@@ -104,5 +106,9 @@ module _ (c : Config) (kind : StepKind) (n : ℕ) (w : World) where
       mine false e l = records-act w kind.place kind.act r e ∙ a sole r x l
 
       go : (b : Bool) → eqb 0 n ≡ b → left_at r (if b then view_after kind w (w.views n) (answer kind w) else w.views 0).steps.step_trace ≡ Some x → (world_after kind n w).records r ≡ x
-      go true e l = let z : 0 ≡ n = eqb-true 0 n e in mine (is_record r kind.place) refl (ap (λ (t : List TracedStep). if is_record r kind.place then left_by kind.act (found_in kind.act (answer kind w)) else left_at r t) (sym (own ∙ ap (λ (m : ℕ). step_trace_of (w.views m)) (sym z))) ∙ l)
+      go true e l =
+          let z : 0 ≡ n = eqb-true 0 n e in
+          mine (is_record r kind.place) refl (ap
+          (λ (t : List TracedStep). if is_record r kind.place then left_by kind.act (found_in kind.act (answer kind w)) else left_at r t)
+          (sym (own ∙ ap (λ (m : ℕ). step_trace_of (w.views m)) (sym z))) ∙ l)
       go false e l = ⊎_elim (λ z. absurd (eqb-false 0 n e (sym z))) (λ same. ap (λ (f : ℕ → ℕ). f r) same ∙ a sole r x l) (one sole)

@@ -52,7 +52,9 @@ module _ (good : (ℕ → ℕ) → Type 0) (c : Config) (w : World) (g : Invaria
       by : (b : Bool) → (w.views m).gate.granted ≡ b → m ≡ n
       by true e = sym (with_promoted m n e other)
       by false e =
-          let r : TmlRule c.words (tml_part (run_projection (without_fence w))) = subst (λ (q : Regime). Runs c q (run_projection (without_fence w))) (regime-inside c (without_fence w) m g.core.gate g.core.install inside e ∙ ap Running tml) g.core.running in
+          let r : TmlRule c.words (tml_part (run_projection (without_fence w))) = subst
+          (λ (q : Regime). Runs c q (run_projection (without_fence w)))
+          (regime-inside c (without_fence w) m g.core.gate g.core.install inside e ∙ ap Running tml) g.core.running in
           r.one m n wm wn
 
   pub one-irrevocable : (m n : ℕ) → IsIrrevocable (w.views m) → IsIrrevocable (w.views n) → m ≡ n

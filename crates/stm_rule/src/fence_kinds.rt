@@ -22,7 +22,9 @@ impl<K: MemRule> Stm<K> {
         requires caller { caller < self.now.config.callers }
         requires view { CanFence self.now.config caller from count alg (view_of seat.old) }
         ensures same { IsSameSeat seat.old seat.new }
-        ensures step { SeatTells (fence caller (fence_number caller from count) alg) (FindsPast (good_of K.good self.now.config self.now.rule) self.now.config) seat.old.me.0 (gate_word (fence_number caller from count) (1 + caller) alg) seat.new.me.0 }
+        ensures step { SeatTells (fence caller (fence_number caller from count) alg)
+            (FindsPast (good_of K.good self.now.config self.now.rule) self.now.config) seat.old.me.0
+            (gate_word (fence_number caller from count) (1 + caller) alg) seat.new.me.0 }
     {
         let number = fence_number(caller as u64, from as u64, count as u64);
         let word = gate_word(number, 1 + caller as u64, alg);
@@ -78,9 +80,12 @@ impl<K: MemRule> Stm<K> {
     /// Stores the clock, which appends the entry of a give-back.
     pub fn fence_commit(&self, seat: &mut Token<K>, caller: usize, alg: Alg, time: u64)
         requires seat { IsSeatOf self.now caller seat.old }
-        requires view { CanFenceCommit (good_of K.good self.now.config self.now.rule) alg time (view_of seat.old) }
+        requires view { CanFenceCommit (good_of K.good self.now.config self.now.rule) alg time
+            (view_of seat.old) }
         ensures same { IsSameSeat seat.old seat.new }
-        ensures step { SeatTells (fence_commit caller alg time) (FenceCommits (good_of K.good self.now.config self.now.rule) self.now.config caller time) seat.old.me.0 time seat.new.me.0 }
+        ensures step { SeatTells (fence_commit caller alg time)
+            (FenceCommits (good_of K.good self.now.config self.now.rule) self.now.config caller
+            time) seat.old.me.0 time seat.new.me.0 }
     {
         let own = OwnFence {
             number: seat.own_fence().number,
@@ -95,7 +100,8 @@ impl<K: MemRule> Stm<K> {
         requires caller { caller < self.now.config.callers }
         requires view { CanUnfence self.now.config.callers caller alg (view_of seat.old) }
         ensures same { IsSameSeat seat.old seat.new }
-        ensures step { SeatTells (unfence caller alg) Nothing seat.old.me.0 (gate_word 0 (1 + caller) alg) seat.new.me.0 }
+        ensures step { SeatTells (unfence caller alg) Nothing seat.old.me.0
+            (gate_word 0 (1 + caller) alg) seat.new.me.0 }
     {
         let word = gate_word(0, 1 + caller as u64, alg);
         let own = OwnFence {

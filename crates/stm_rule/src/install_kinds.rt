@@ -65,7 +65,8 @@ impl<K: MemRule> Stm<K> {
         requires fence { fence < 2 ^ 48 }
         requires view { CanInstall fence alg (view_of seat.old) }
         ensures same { IsSameSeat seat.old seat.new }
-        ensures step { SeatTells (install caller fence alg) Nothing seat.old.me.0 (gate_word fence (1 + caller) alg) seat.new.me.0 }
+        ensures step { SeatTells (install caller fence alg) Nothing seat.old.me.0
+            (gate_word fence (1 + caller) alg) seat.new.me.0 }
     {
         let word = gate_word(fence, 1 + caller as u64, alg);
         self.store_as::<Brand, (usize, u64, Alg)>(seat, At::Gate, word, &(caller, fence, alg));

@@ -25,7 +25,8 @@ pub fn core_keeps_along<K: MemRule>()
 
 /// The opening words, by name and in the table, and the first views meet the rule.
 pub fn core_opens<K: MemRule>()
-    ensures { (rule : K) (c : Config) → IsConfig c → K.good rule (replicate c.words 0) → CoreOpens (good_of K.good c rule) c }
+    ensures { (rule : K) (c : Config) → IsConfig c → K.good rule (replicate c.words 0)
+        → CoreOpens (good_of K.good c rule) c }
 {}
 
 /// These laws speak of some runs: an attempt from the opening is one.

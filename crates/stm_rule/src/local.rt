@@ -13,23 +13,24 @@ use tx_logs::write_log::WriteLog;
 /// The plain fields of a descriptor. What stands of its view by them is said in `specs/Attempts.antt`.
 #[derive(Drop)]
 pub struct Local {
-    /// Whether an attempt runs; if so, under which algorithm, and its start.
+    /// Whether it has closed the gate; if so, the callers below `next` were seen idle since.
+    pub holds: bool,
+    /// Whether an attempt runs.
     pub running: bool,
     /// Whether it is in the middle of its commit, which answered Again.
     pub committing: bool,
-    pub algorithm: Alg,
-    /// The fence that the gate had when it let the attempt in or was closed, 0 for none.
-    pub fence: u64,
-    pub start: u64,
     /// Whether the attempt wrote.
     pub wrote: bool,
     /// Whether the attempt was made irrevocable on demand, by a promotion or by Serial's grant.
     pub granted: bool,
-    /// Whether it has closed the gate; if so, the callers below `next` were seen idle since.
-    pub holds: bool,
-    pub next: usize,
+    /// Under which algorithm the attempt runs, and its start.
+    pub algorithm: Alg,
+    pub start: u64,
     /// How many marks stand.
     pub depth: usize,
+    /// The fence that the gate had when it let the attempt in or was closed, 0 for none.
+    pub fence: u64,
+    pub next: usize,
     /// What stood in the heap before the attempt's first write of each address, while it can be taken back. An address
     /// whose write is rolled back to a mark keeps its item, and under OrecEager its record.
     pub undo: UndoLog,
@@ -53,16 +54,16 @@ impl Local {
         ensures { IfOk result (λ l. l ≡ idle_local reads writes) }
     {
         Ok(Local {
+            holds: false,
             running: false,
             committing: false,
-            algorithm: Alg::Cgl,
-            fence: 0,
-            start: 0,
             wrote: false,
             granted: false,
-            holds: false,
-            next: 0,
+            algorithm: Alg::Cgl,
+            start: 0,
             depth: 0,
+            fence: 0,
+            next: 0,
             undo: UndoLog::new(alloc, writes)?,
             reads: ReadLog::new(alloc, reads)?,
             writes: WriteLog::new(alloc, writes)?,
@@ -78,10 +79,10 @@ impl Local {
     {
         self.running = true;
         self.committing = false;
-        self.algorithm = algorithm;
-        self.start = start;
         self.wrote = false;
         self.granted = false;
+        self.algorithm = algorithm;
+        self.start = start;
         self.depth = 0;
         self.undo.renew();
         self.reads.renew();

@@ -20,7 +20,8 @@ impl<K: MemRule> Stm<K> {
         requires caller { caller < self.now.config.callers }
         requires view { CanTakeLock (view_of seat.old) }
         ensures same { IsSameSeat seat.old seat.new }
-        ensures step { SeatTells (take_lock caller) (FindsLock self.now.config caller) seat.old.me.0 result seat.new.me.0 }
+        ensures step { SeatTells (take_lock caller) (FindsLock self.now.config caller) seat.old.me.0
+            result seat.new.me.0 }
     {
         self.exchange_as::<Brand, usize>(seat, At::Lock, 0, 1 + caller as u64, &caller)
     }
@@ -30,7 +31,9 @@ impl<K: MemRule> Stm<K> {
         requires seat { IsSeatOf self.now caller seat.old }
         requires view { CanLoadStart (view_of seat.old) }
         ensures same { IsSameSeat seat.old seat.new }
-        ensures step { SeatTells load_start (Begins (good_of K.good self.now.config self.now.rule) self.now.config) seat.old.me.0 result seat.new.me.0 }
+        ensures step { SeatTells load_start
+            (Begins (good_of K.good self.now.config self.now.rule) self.now.config) seat.old.me.0
+            result seat.new.me.0 }
     {
         self.load_as::<Brand, usize>(seat, At::Clock, &caller)
     }
@@ -41,7 +44,9 @@ impl<K: MemRule> Stm<K> {
         requires view { CanLoadHeap self.now.config.words a (view_of seat.old) }
         requires spared { IsSpared a (view_of seat.old) }
         ensures same { IsSameSeat seat.old seat.new }
-        ensures step { SeatTells (load_heap a) (Loads (good_of K.good self.now.config self.now.rule) self.now.config a) seat.old.me.0 result seat.new.me.0 }
+        ensures step { SeatTells (load_heap a)
+            (Loads (good_of K.good self.now.config self.now.rule) self.now.config a) seat.old.me.0
+            result seat.new.me.0 }
     {
         self.load_as::<Brand, usize>(seat, At::Heap(a), &caller)
     }
@@ -61,9 +66,12 @@ impl<K: MemRule> Stm<K> {
     pub fn store_clock(&self, seat: &mut Token<K>, caller: usize, time: u64)
         requires seat { IsSeatOf self.now caller seat.old }
         requires caller { caller < self.now.config.callers }
-        requires view { CanStoreClock (good_of K.good self.now.config self.now.rule) time (view_of seat.old) }
+        requires view { CanStoreClock (good_of K.good self.now.config self.now.rule) time
+            (view_of seat.old) }
         ensures same { IsSameSeat seat.old seat.new }
-        ensures step { SeatTells (store_clock caller time) (Commits (good_of K.good self.now.config self.now.rule) self.now.config caller time) seat.old.me.0 time seat.new.me.0 }
+        ensures step { SeatTells (store_clock caller time)
+            (Commits (good_of K.good self.now.config self.now.rule) self.now.config caller time)
+            seat.old.me.0 time seat.new.me.0 }
     {
         self.store_as::<Brand, usize>(seat, At::Clock, time, &caller);
     }

@@ -25,7 +25,9 @@ impl<K: MemRule> Stm<K> {
         requires seat { IsSeatOf self.now caller seat.old }
         requires view { CanLoadEnd (view_of seat.old) }
         ensures same { IsSameSeat seat.old seat.new }
-        ensures step { SeatTells load_end (Ends (good_of K.good self.now.config self.now.rule) self.now.config) seat.old.me.0 result seat.new.me.0 }
+        ensures step { SeatTells load_end
+            (Ends (good_of K.good self.now.config self.now.rule) self.now.config) seat.old.me.0
+            result seat.new.me.0 }
     {
         self.load_as::<Brand, usize>(seat, At::Clock, &caller)
     }

@@ -24,7 +24,8 @@ impl<K: MemRule> Stm<K> {
         requires seat { IsSeatOf self.now caller seat.old }
         requires view { CanLookGate (view_of seat.old) }
         ensures same { IsSameSeat seat.old seat.new }
-        ensures step { SeatTells look_gate (FindsGate self.now.config caller) seat.old.me.0 result seat.new.me.0 }
+        ensures step { SeatTells look_gate (FindsGate self.now.config caller) seat.old.me.0 result
+            seat.new.me.0 }
     {
         self.load_as::<Brand, usize>(seat, At::Gate, &caller)
     }
@@ -36,7 +37,9 @@ impl<K: MemRule> Stm<K> {
         requires fence { fence < 2 ^ 48 }
         requires view { CanSeize fence alg (view_of seat.old) }
         ensures same { IsSameSeat seat.old seat.new }
-        ensures step { SeatTells (seize caller fence alg) (FindsTaken self.now.config caller (gate_word fence 0 alg)) seat.old.me.0 result seat.new.me.0 }
+        ensures step { SeatTells (seize caller fence alg)
+            (FindsTaken self.now.config caller (gate_word fence 0 alg)) seat.old.me.0 result
+            seat.new.me.0 }
     {
         self.exchange_as::<Brand, (usize, u64, Alg)>(
             seat,
@@ -52,7 +55,8 @@ impl<K: MemRule> Stm<K> {
         requires seat { IsSeatOf self.now caller seat.old }
         requires view { CanTmlGrant self.now.config.callers caller (view_of seat.old) }
         ensures same { IsSameSeat seat.old seat.new }
-        ensures step { SeatTells tml_grant (FindsSole self.now.config) seat.old.me.0 result seat.new.me.0 }
+        ensures step { SeatTells tml_grant (FindsSole self.now.config) seat.old.me.0 result
+            seat.new.me.0 }
     {
         self.load_as::<Brand, usize>(seat, At::Clock, &caller)
     }
@@ -63,7 +67,9 @@ impl<K: MemRule> Stm<K> {
         requires view { CanDirectLoad self.now.config.words a (view_of seat.old) }
         requires spared { IsSpared a (view_of seat.old) }
         ensures same { IsSameSeat seat.old seat.new }
-        ensures step { SeatTells (direct_load a) (Loads (good_of K.good self.now.config self.now.rule) self.now.config a) seat.old.me.0 result seat.new.me.0 }
+        ensures step { SeatTells (direct_load a)
+            (Loads (good_of K.good self.now.config self.now.rule) self.now.config a) seat.old.me.0
+            result seat.new.me.0 }
     {
         self.load_as::<Brand, usize>(seat, At::Heap(a), &caller)
     }
@@ -83,9 +89,12 @@ impl<K: MemRule> Stm<K> {
     pub fn direct_commit(&self, seat: &mut Token<K>, caller: usize, alg: Alg, time: u64)
         requires seat { IsSeatOf self.now caller seat.old }
         requires caller { caller < self.now.config.callers }
-        requires view { CanDirectCommit (good_of K.good self.now.config self.now.rule) alg time (view_of seat.old) }
+        requires view { CanDirectCommit (good_of K.good self.now.config self.now.rule) alg time
+            (view_of seat.old) }
         ensures same { IsSameSeat seat.old seat.new }
-        ensures step { SeatTells (direct_commit caller alg time) (Commits (good_of K.good self.now.config self.now.rule) self.now.config caller time) seat.old.me.0 time seat.new.me.0 }
+        ensures step { SeatTells (direct_commit caller alg time)
+            (Commits (good_of K.good self.now.config self.now.rule) self.now.config caller time)
+            seat.old.me.0 time seat.new.me.0 }
     {
         self.store_as::<Brand, (usize, Alg)>(seat, At::Clock, time, &(caller, alg));
     }
@@ -96,7 +105,8 @@ impl<K: MemRule> Stm<K> {
         requires fence { fence < 2 ^ 48 }
         requires view { CanReturn fence alg (view_of seat.old) }
         ensures same { IsSameSeat seat.old seat.new }
-        ensures step { SeatTells (return_gate fence alg) Nothing seat.old.me.0 (gate_word fence 0 alg) seat.new.me.0 }
+        ensures step { SeatTells (return_gate fence alg) Nothing seat.old.me.0
+            (gate_word fence 0 alg) seat.new.me.0 }
     {
         let word = gate_word(fence, 0, alg);
         self.store_as::<Brand, (usize, u64, Alg)>(seat, At::Gate, word, &(caller, fence, alg));

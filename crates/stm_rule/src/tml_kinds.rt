@@ -20,7 +20,9 @@ impl<K: MemRule> Stm<K> {
         requires seat { IsSeatOf self.now caller seat.old }
         requires view { CanTmlBegin (view_of seat.old) }
         ensures same { IsSameSeat seat.old seat.new }
-        ensures step { SeatTells tml_begin (FindsBegin (good_of K.good self.now.config self.now.rule) self.now.config) seat.old.me.0 result seat.new.me.0 }
+        ensures step { SeatTells tml_begin
+            (FindsBegin (good_of K.good self.now.config self.now.rule) self.now.config)
+            seat.old.me.0 result seat.new.me.0 }
     {
         self.load_as::<Brand, usize>(seat, At::Clock, &caller)
     }
@@ -31,7 +33,9 @@ impl<K: MemRule> Stm<K> {
         requires view { CanTmlLoad self.now.config.words a (view_of seat.old) }
         requires spared { IsSpared a (view_of seat.old) }
         ensures same { IsSameSeat seat.old seat.new }
-        ensures step { SeatTells (tml_load a) (TmlLoads (good_of K.good self.now.config self.now.rule) self.now.config a) seat.old.me.0 result seat.new.me.0 }
+        ensures step { SeatTells (tml_load a)
+            (TmlLoads (good_of K.good self.now.config self.now.rule) self.now.config a)
+            seat.old.me.0 result seat.new.me.0 }
     {
         self.load_as::<Brand, usize>(seat, At::Heap(a), &caller)
     }
@@ -41,7 +45,9 @@ impl<K: MemRule> Stm<K> {
         requires seat { IsSeatOf self.now caller seat.old }
         requires view { CanTmlAgain (view_of seat.old) }
         ensures same { IsSameSeat seat.old seat.new }
-        ensures step { SeatTells tml_again (FindsAgain (good_of K.good self.now.config self.now.rule) self.now.config) seat.old.me.0 result seat.new.me.0 }
+        ensures step { SeatTells tml_again
+            (FindsAgain (good_of K.good self.now.config self.now.rule) self.now.config)
+            seat.old.me.0 result seat.new.me.0 }
     {
         self.load_as::<Brand, usize>(seat, At::Clock, &caller)
     }
@@ -52,7 +58,8 @@ impl<K: MemRule> Stm<K> {
         requires caller { caller < self.now.config.callers }
         requires view { CanTmlWrite start (view_of seat.old) }
         ensures same { IsSameSeat seat.old seat.new }
-        ensures step { SeatTells (tml_write start) (FindsSole self.now.config) seat.old.me.0 result seat.new.me.0 }
+        ensures step { SeatTells (tml_write start) (FindsSole self.now.config) seat.old.me.0 result
+            seat.new.me.0 }
     {
         self.exchange_as::<Brand, usize>(seat, At::Clock, start, start + 1, &caller)
     }
@@ -72,9 +79,12 @@ impl<K: MemRule> Stm<K> {
     pub fn tml_commit(&self, seat: &mut Token<K>, caller: usize, time: u64)
         requires seat { IsSeatOf self.now caller seat.old }
         requires caller { caller < self.now.config.callers }
-        requires view { CanTmlCommit (good_of K.good self.now.config self.now.rule) time (view_of seat.old) }
+        requires view { CanTmlCommit (good_of K.good self.now.config self.now.rule) time
+            (view_of seat.old) }
         ensures same { IsSameSeat seat.old seat.new }
-        ensures step { SeatTells (tml_commit caller time) (Commits (good_of K.good self.now.config self.now.rule) self.now.config caller time) seat.old.me.0 time seat.new.me.0 }
+        ensures step { SeatTells (tml_commit caller time)
+            (Commits (good_of K.good self.now.config self.now.rule) self.now.config caller time)
+            seat.old.me.0 time seat.new.me.0 }
     {
         self.store_as::<Brand, usize>(seat, At::Clock, time, &caller);
     }

@@ -88,7 +88,9 @@ module _ (regions : List Region) where
       let long = length-memory_at (e.time - 1) es opening in
       let fit = row.fits m (legal.good_always (e.time - 1)) long reads in
       let left = row.left m (legal.good_always (e.time - 1)) long reads in
-      let step : memory_at e.time es opening ≡ overlay m e.writes = subst (λ x. memory_at x.time es opening ≡ overlay (memory_at (x.time - 1) es opening) x.writes) at.2 (memory_at-entry floor es opening at.0 e legal.ascending at.1) in
+      let step : memory_at e.time es opening ≡ overlay m e.writes = subst
+      (λ x. memory_at x.time es opening ≡ overlay (memory_at (x.time - 1) es opening) x.writes) at.2
+      (memory_at-entry floor es opening at.0 e legal.ascending at.1) in
       let before : m ≡ memory_at (before_of r.kind r.place) es opening = ap (λ t. memory_at (t - 1) es opening) row.time ∙ sym (ap (λ j. memory_at (before_of j r.place) es opening) is) in
       record {
         fits = subst (RowFits regions script r) before fit;

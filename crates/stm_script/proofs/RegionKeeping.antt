@@ -40,20 +40,54 @@ module _ (plain : PlainWriteKeeps) (add : AddKeeps) (list : ListKeeps) (hash : H
   operation-keeps regions words Cancel fits = λ m g len. g
   operation-keeps regions words (Count region stripe k) fits = λ m g len. add regions (counter_in regions region) m stripe k fits.0.0.apart fits.0.1 fits.1 g
   operation-keeps regions words (Total region) fits = λ m g len. g
-  operation-keeps regions words (ListInsert region key) fits = λ m g len. (list regions (list_in regions region) m key fits.0.0.apart fits.0.1 (ends-within regions words (OfList (list_in regions region)) m fits.0 len) fits.1 g).0
-  operation-keeps regions words (ListRemove region key) fits = λ m g len. (list regions (list_in regions region) m key fits.0.0.apart fits.0.1 (ends-within regions words (OfList (list_in regions region)) m fits.0 len) fits.1 g).1
+  operation-keeps regions words (ListInsert region key) fits =
+      λ m g len.
+      (list regions (list_in regions region) m key fits.0.0.apart fits.0.1
+      (ends-within regions words (OfList (list_in regions region)) m fits.0 len) fits.1 g).0
+  operation-keeps regions words (ListRemove region key) fits =
+      λ m g len.
+      (list regions (list_in regions region) m key fits.0.0.apart fits.0.1
+      (ends-within regions words (OfList (list_in regions region)) m fits.0 len) fits.1 g).1
   operation-keeps regions words (ListContains region key) fits = λ m g len. g
   operation-keeps regions words (ListLength region) fits = λ m g len. g
-  operation-keeps regions words (HashInsert region key) fits = λ m g len. (hash regions (hash_in regions region) m key fits.0.0.apart fits.0.1 (ends-within regions words (OfHash (hash_in regions region)) m fits.0 len) fits.1 g).0
-  operation-keeps regions words (HashRemove region key) fits = λ m g len. (hash regions (hash_in regions region) m key fits.0.0.apart fits.0.1 (ends-within regions words (OfHash (hash_in regions region)) m fits.0 len) fits.1 g).1
+  operation-keeps regions words (HashInsert region key) fits =
+      λ m g len.
+      (hash regions (hash_in regions region) m key fits.0.0.apart fits.0.1
+      (ends-within regions words (OfHash (hash_in regions region)) m fits.0 len) fits.1 g).0
+  operation-keeps regions words (HashRemove region key) fits =
+      λ m g len.
+      (hash regions (hash_in regions region) m key fits.0.0.apart fits.0.1
+      (ends-within regions words (OfHash (hash_in regions region)) m fits.0 len) fits.1 g).1
   operation-keeps regions words (HashContains region key) fits = λ m g len. g
-  operation-keeps regions words (TreeInsert region key) fits = λ m g len. (tree regions (tree_in regions region) m key fits.0.0.apart fits.0.1 (ends-within regions words (OfTree (tree_in regions region)) m fits.0 len) fits.1 g).0
-  operation-keeps regions words (TreeRemove region key) fits = λ m g len. (tree regions (tree_in regions region) m key fits.0.0.apart fits.0.1 (ends-within regions words (OfTree (tree_in regions region)) m fits.0 len) fits.1 g).1
+  operation-keeps regions words (TreeInsert region key) fits =
+      λ m g len.
+      (tree regions (tree_in regions region) m key fits.0.0.apart fits.0.1
+      (ends-within regions words (OfTree (tree_in regions region)) m fits.0 len) fits.1 g).0
+  operation-keeps regions words (TreeRemove region key) fits =
+      λ m g len.
+      (tree regions (tree_in regions region) m key fits.0.0.apart fits.0.1
+      (ends-within regions words (OfTree (tree_in regions region)) m fits.0 len) fits.1 g).1
   operation-keeps regions words (TreeContains region key) fits = λ m g len. g
   operation-keeps regions words (TreeLeast region) fits = λ m g len. g
-  operation-keeps regions words (QueuePut region v) fits = λ m g len. (queue regions (queue_in regions region) m v fits.0.0.apart fits.0.1 (ends-within regions words (OfQueue (queue_in regions region)) m fits.0 len) fits.1 (queue-below regions words region fits.0) fits.2 g).0
-  operation-keeps regions words (QueueGet region) fits = λ m g len. (queue regions (queue_in regions region) m 0 fits.0.0.apart fits.0.1 (ends-within regions words (OfQueue (queue_in regions region)) m fits.0 len) fits.1 (queue-below regions words region fits.0) (omega arith) g).1
-  operation-keeps regions words (MapPut region key v) fits = λ m g len. (sums regions (sum_map_in regions region) m key v fits.0.0.apart fits.0.1 (ends-within regions words (OfSumMap (sum_map_in regions region)) m fits.0 len) (map-below regions words region fits.0) fits.1 fits.2 g).0
-  operation-keeps regions words (MapRemove region key) fits = λ m g len. (sums regions (sum_map_in regions region) m key 0 fits.0.0.apart fits.0.1 (ends-within regions words (OfSumMap (sum_map_in regions region)) m fits.0 len) (map-below regions words region fits.0) fits.1 (omega arith) g).1
+  operation-keeps regions words (QueuePut region v) fits =
+      λ m g len.
+      (queue regions (queue_in regions region) m v fits.0.0.apart fits.0.1
+      (ends-within regions words (OfQueue (queue_in regions region)) m fits.0 len) fits.1 (queue-below regions words region fits.0) fits.2
+      g).0
+  operation-keeps regions words (QueueGet region) fits =
+      λ m g len.
+      (queue regions (queue_in regions region) m 0 fits.0.0.apart fits.0.1
+      (ends-within regions words (OfQueue (queue_in regions region)) m fits.0 len) fits.1 (queue-below regions words region fits.0)
+      (omega arith) g).1
+  operation-keeps regions words (MapPut region key v) fits =
+      λ m g len.
+      (sums regions (sum_map_in regions region) m key v fits.0.0.apart fits.0.1
+      (ends-within regions words (OfSumMap (sum_map_in regions region)) m fits.0 len) (map-below regions words region fits.0) fits.1 fits.2
+      g).0
+  operation-keeps regions words (MapRemove region key) fits =
+      λ m g len.
+      (sums regions (sum_map_in regions region) m key 0 fits.0.0.apart fits.0.1
+      (ends-within regions words (OfSumMap (sum_map_in regions region)) m fits.0 len) (map-below regions words region fits.0) fits.1
+      (omega arith) g).1
   operation-keeps regions words (MapGet region key) fits = λ m g len. g
   operation-keeps regions words (MapSum region lo hi) fits = λ m g len. g

@@ -37,7 +37,8 @@ times-stamps [] = refl
 times-stamps (e ∷ es) = ap (λ l. e.time ∷ l) (times-stamps es)
 
 -- with one caller, the places give the places with their callers
-callers-by : (k : Kind) (p c n : ℕ) (xs : List ℕ) (ys : List (ℕ × ℕ)) → c ≡ n → ys ≡ map (λ (t : ℕ). let x : ℕ × ℕ = (t, n) in x) xs → writer_to k (p, c) ys ≡ map (λ (t : ℕ). let x : ℕ × ℕ = (t, n) in x) (writer_to k p xs)
+callers-by : (k : Kind) (p c n : ℕ) (xs : List ℕ) (ys : List (ℕ × ℕ)) → c ≡ n → ys ≡ map (λ (t : ℕ). let x : ℕ × ℕ = (t, n) in x) xs
+    → writer_to k (p, c) ys ≡ map (λ (t : ℕ). let x : ℕ × ℕ = (t, n) in x) (writer_to k p xs)
 callers-by W p c n xs ys e h = ap (λ l. (p, c) ∷ l) h ∙ ap (λ m. (p, m) ∷ map (λ (t : ℕ). let x : ℕ × ℕ = (t, n) in x) xs) e
 callers-by R p c n xs ys e h = h
 callers-by C p c n xs ys e h = h
@@ -209,7 +210,9 @@ pub report-replays : (good : List ℕ → Type 0) → ReportReplays good
 report-replays good w es clock parts report h =
     let rows = report.rows in
     let opening = zeros w.header.words in
-    let fit = as-list good w es rows (All-permutation (λ (r : Row). FitsAt (regions_of w.header) (script_of w.items r) es (zeros w.header.words) r) (all_rows parts) rows h.moved (parts-fit good w es parts h.legal h.each)) in
+    let fit = as-list good w es rows (All-permutation
+    (λ (r : Row). FitsAt (regions_of w.header) (script_of w.items r) es (zeros w.header.words) r) (all_rows parts) rows h.moved
+    (parts-fit good w es parts h.legal h.each)) in
     let counts : (t : ℕ × ℕ) → count t (writers_by rows) ≡ count t (stamps es) = λ t.
     count-writers t rows ∙ (sum_by-IsPermutation (row_weight t) (all_rows parts) rows h.moved ∙ (part-counts good w es t parts h.each ∙ (sym (h.gathers (entry_weight t)) ∙ sym (count-stamps t es)))) in
     let stamped : writers_by rows ≡ stamps es = same_rising (writers_by rows) (stamps es) (rising-writers rows h.ordered) (rising-stamps w.header.clock es h.legal.ascending) counts in
@@ -217,7 +220,10 @@ report-replays good w es clock parts report h =
       record {
         ordered = h.ordered;
         apart = subst Apart (sym same) (apart-times w.header.clock es h.legal.ascending);
-        complete = λ n. complete good w es n parts rows (whole-from good w es n 0 w.header.callers parts (omega arith) h.callers h.each (λ far. scripts-other (regions_of w.header) w.header n w.items (omega arith) h.items)) h.moved h.ordered;
+        complete =
+            λ n.
+            complete good w es n parts rows (whole-from good w es n 0 w.header.callers parts (omega arith) h.callers h.each (λ far.
+            scripts-other (regions_of w.header) w.header n w.items (omega arith) h.items)) h.moved h.ordered;
         last = memory_after es opening;
         replay = replays (regions_of w.header) (script_of w.items) rows w.header.clock es opening h.ordered h.legal.ascending same fit;
         memory = h.memory ∙ ap (nonzero 0) (memory_at-all clock es opening h.times);

@@ -4,6 +4,7 @@ pub mod Operations
 pub mod Scripts
 pub mod ScriptLaws
 pub mod Keeping
+pub mod Accesses
 pub mod StructureLaws
 pub mod KeepingLaws
 pub mod Statements

@@ -82,32 +82,8 @@ effect_of regions (MapSum r lo hi) m = replied_as (λ n. n) (summed_in (sum_map_
 
 -- what an operation with this reply emits
 abbrev pub emits_of : Op → ℕ → List ℕ
-emits_of (Read a) reply = []
-emits_of (Write a v) reply = []
-emits_of (Add a k) reply = []
-emits_of (Move a b k) reply = []
 emits_of (Emit a) reply = reply ∷ []
-emits_of Irrev reply = []
-emits_of Cancel reply = []
-emits_of (Count r stripe k) reply = []
-emits_of (Total r) reply = []
-emits_of (ListInsert r key) reply = []
-emits_of (ListRemove r key) reply = []
-emits_of (ListContains r key) reply = []
-emits_of (ListLength r) reply = []
-emits_of (HashInsert r key) reply = []
-emits_of (HashRemove r key) reply = []
-emits_of (HashContains r key) reply = []
-emits_of (TreeInsert r key) reply = []
-emits_of (TreeRemove r key) reply = []
-emits_of (TreeContains r key) reply = []
-emits_of (TreeLeast r) reply = []
-emits_of (QueuePut r v) reply = []
-emits_of (QueueGet r) reply = []
-emits_of (MapPut r key v) reply = []
-emits_of (MapRemove r key) reply = []
-emits_of (MapGet r key) reply = []
-emits_of (MapSum r lo hi) reply = []
+emits_of op reply = []
 
 -- an operation that a memory of so many words and these regions takes: a plain one is on words of no region
 abbrev pub OpFits : List Region → ℕ → Op → Type 0
@@ -139,60 +115,12 @@ OpFits regions words (MapGet r key) = HasRegion regions words (OfSumMap (sum_map
 OpFits regions words (MapSum r lo hi) = HasRegion regions words (OfSumMap (sum_map_in regions r)) × (lo < 2 ^ 32) × (hi < 2 ^ 32)
 
 abbrev pub is_cancel : Op → Bool
-is_cancel (Read a) = false
-is_cancel (Write a v) = false
-is_cancel (Add a k) = false
-is_cancel (Move a b k) = false
-is_cancel (Emit a) = false
-is_cancel Irrev = false
 is_cancel Cancel = true
-is_cancel (Count r stripe k) = false
-is_cancel (Total r) = false
-is_cancel (ListInsert r key) = false
-is_cancel (ListRemove r key) = false
-is_cancel (ListContains r key) = false
-is_cancel (ListLength r) = false
-is_cancel (HashInsert r key) = false
-is_cancel (HashRemove r key) = false
-is_cancel (HashContains r key) = false
-is_cancel (TreeInsert r key) = false
-is_cancel (TreeRemove r key) = false
-is_cancel (TreeContains r key) = false
-is_cancel (TreeLeast r) = false
-is_cancel (QueuePut r v) = false
-is_cancel (QueueGet r) = false
-is_cancel (MapPut r key v) = false
-is_cancel (MapRemove r key) = false
-is_cancel (MapGet r key) = false
-is_cancel (MapSum r lo hi) = false
+is_cancel op = false
 
 abbrev pub is_irrev : Op → Bool
-is_irrev (Read a) = false
-is_irrev (Write a v) = false
-is_irrev (Add a k) = false
-is_irrev (Move a b k) = false
-is_irrev (Emit a) = false
 is_irrev Irrev = true
-is_irrev Cancel = false
-is_irrev (Count r stripe k) = false
-is_irrev (Total r) = false
-is_irrev (ListInsert r key) = false
-is_irrev (ListRemove r key) = false
-is_irrev (ListContains r key) = false
-is_irrev (ListLength r) = false
-is_irrev (HashInsert r key) = false
-is_irrev (HashRemove r key) = false
-is_irrev (HashContains r key) = false
-is_irrev (TreeInsert r key) = false
-is_irrev (TreeRemove r key) = false
-is_irrev (TreeContains r key) = false
-is_irrev (TreeLeast r) = false
-is_irrev (QueuePut r v) = false
-is_irrev (QueueGet r) = false
-is_irrev (MapPut r key v) = false
-is_irrev (MapRemove r key) = false
-is_irrev (MapGet r key) = false
-is_irrev (MapSum r lo hi) = false
+is_irrev op = false
 
 -- the operation works on a structure
 abbrev pub of_structure : Op → Bool
@@ -203,25 +131,7 @@ of_structure (Move a b k) = false
 of_structure (Emit a) = false
 of_structure Irrev = false
 of_structure Cancel = false
-of_structure (Count r stripe k) = true
-of_structure (Total r) = true
-of_structure (ListInsert r key) = true
-of_structure (ListRemove r key) = true
-of_structure (ListContains r key) = true
-of_structure (ListLength r) = true
-of_structure (HashInsert r key) = true
-of_structure (HashRemove r key) = true
-of_structure (HashContains r key) = true
-of_structure (TreeInsert r key) = true
-of_structure (TreeRemove r key) = true
-of_structure (TreeContains r key) = true
-of_structure (TreeLeast r) = true
-of_structure (QueuePut r v) = true
-of_structure (QueueGet r) = true
-of_structure (MapPut r key v) = true
-of_structure (MapRemove r key) = true
-of_structure (MapGet r key) = true
-of_structure (MapSum r lo hi) = true
+of_structure op = true
 
 -- the operation with another key, where it takes one alone
 abbrev pub with_key : ℕ → Op → Op
@@ -283,13 +193,6 @@ with_region r Cancel = Cancel
 
 -- the structure that it works on, and the number of its region
 abbrev pub structure_in : Op → Option (Structure × ℕ)
-structure_in (Read a) = None
-structure_in (Write a v) = None
-structure_in (Add a k) = None
-structure_in (Move a b k) = None
-structure_in (Emit a) = None
-structure_in Irrev = None
-structure_in Cancel = None
 structure_in (Count r stripe k) = Some (structures.Counter, r)
 structure_in (Total r) = Some (structures.Counter, r)
 structure_in (ListInsert r key) = Some (structures.List, r)
@@ -309,6 +212,7 @@ structure_in (MapPut r key v) = Some (structures.SumMap, r)
 structure_in (MapRemove r key) = Some (structures.SumMap, r)
 structure_in (MapGet r key) = Some (structures.SumMap, r)
 structure_in (MapSum r lo hi) = Some (structures.SumMap, r)
+structure_in op = None
 
 -- an operation's word
 abbrev pub op_name : Op → List ℕ
@@ -356,28 +260,15 @@ DoesOver good words effect l reply k = (m : List ℕ) → good m → length m �
 -- an operation that never writes
 abbrev pub OnlyReads : Op → Type 0
 OnlyReads (Read a) = Unit {0}
-OnlyReads (Write a v) = ⊥
-OnlyReads (Add a k) = ⊥
-OnlyReads (Move a b k) = ⊥
 OnlyReads (Emit a) = Unit {0}
 OnlyReads Irrev = Unit {0}
 OnlyReads Cancel = Unit {0}
-OnlyReads (Count r stripe k) = ⊥
 OnlyReads (Total r) = Unit {0}
-OnlyReads (ListInsert r key) = ⊥
-OnlyReads (ListRemove r key) = ⊥
 OnlyReads (ListContains r key) = Unit {0}
 OnlyReads (ListLength r) = Unit {0}
-OnlyReads (HashInsert r key) = ⊥
-OnlyReads (HashRemove r key) = ⊥
 OnlyReads (HashContains r key) = Unit {0}
-OnlyReads (TreeInsert r key) = ⊥
-OnlyReads (TreeRemove r key) = ⊥
 OnlyReads (TreeContains r key) = Unit {0}
 OnlyReads (TreeLeast r) = Unit {0}
-OnlyReads (QueuePut r v) = ⊥
-OnlyReads (QueueGet r) = ⊥
-OnlyReads (MapPut r key v) = ⊥
-OnlyReads (MapRemove r key) = ⊥
 OnlyReads (MapGet r key) = Unit {0}
 OnlyReads (MapSum r lo hi) = Unit {0}
+OnlyReads op = ⊥

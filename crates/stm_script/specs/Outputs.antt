@@ -1,5 +1,7 @@
 -- Replies and emits, and the room for them.
-use Rattle.std.specs.Prelude.{ℕ, ◌+◌, ◌≤◌, List, length}
+use Rattle.std.specs.Prelude.{ℕ, ◌+◌, ◌≤◌, List, [], ◌∷◌, ◌++◌, length}
+use Rattle.stm_script.specs.declared.op.Op.{Op}
+use Rattle.stm_script.specs.Operations.{emits_of}
 
 pub record Output : Type 0 where
   pub replies : List ℕ
@@ -9,3 +11,7 @@ pub record Output : Type 0 where
 -- there is room for n more of each
 abbrev pub HasRoom : Output → ℕ → Type 0
 HasRoom o n = (length o.replies + n ≤ o.room) × (length o.emits + n ≤ o.room)
+
+-- the operation's reply is told, and what it emits
+abbrev pub with_reply : Output → Op → ℕ → Output
+with_reply o op reply = record o { replies = o.replies ++ reply ∷ []; emits = o.emits ++ emits_of op reply }

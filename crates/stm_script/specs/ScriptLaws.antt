@@ -52,12 +52,17 @@ pub gives-step : (regions : List Region) (all : List Op) (op : Op) (rest : List 
     → GivesOn regions all (op ∷ rest) m l before k now → Gave (ran_one regions op) m k now j next → GivesOn regions all rest m l before j next
 gives-step regions all op rest m l before k now j next on one = λ i after h. on i after (record {
   explained = one.explained;
-  replied = h.replied ∙ (ap (λ w. w ++ (run regions rest (overlay m j.writes)).replies) one.replied ∙ (append_assoc now.replies ((effect_of regions op (overlay m k.writes)).reply ∷ []) (run regions rest (overlay m j.writes)).replies
+  replied = h.replied ∙ (ap (λ w. w ++ (run regions rest (overlay m j.writes)).replies) one.replied ∙ (append_assoc now.replies
+      ((effect_of regions op (overlay m k.writes)).reply ∷ []) (run regions rest (overlay m j.writes)).replies
       ∙ ap (λ w. now.replies ++ ((effect_of regions op (overlay m k.writes)).reply ∷ (run regions rest w).replies)) one.left));
-  emitted = h.emitted ∙ (ap (λ w. w ++ (run regions rest (overlay m j.writes)).emits) (one.emitted ∙ ap (λ w. now.emits ++ w) (append-nil (effect_of regions op (overlay m k.writes)).emits)) ∙ (append_assoc now.emits (effect_of regions op (overlay m k.writes)).emits (run regions rest (overlay m j.writes)).emits
+  emitted = h.emitted ∙ (ap (λ w. w ++ (run regions rest (overlay m j.writes)).emits)
+      (one.emitted ∙ ap (λ w. now.emits ++ w) (append-nil (effect_of regions op (overlay m k.writes)).emits)) ∙ (append_assoc now.emits
+      (effect_of regions op (overlay m k.writes)).emits (run regions rest (overlay m j.writes)).emits
       ∙ ap (λ w. now.emits ++ ((effect_of regions op (overlay m k.writes)).emits ++ (run regions rest w).emits)) one.left));
   left = h.left ∙ ap (λ w. (run regions rest w).memory) one.left;
-  wrote = h.wrote ∙ (ap (λ w. w || (run regions rest (overlay m j.writes)).wrote) (one.wrote ∙ ap (λ w. not (is_empty k.writes) || w) (or-false (effect_of regions op (overlay m k.writes)).wrote)) ∙ (or-assoc (not (is_empty k.writes)) (effect_of regions op (overlay m k.writes)).wrote (run regions rest (overlay m j.writes)).wrote
+  wrote = h.wrote ∙ (ap (λ w. w || (run regions rest (overlay m j.writes)).wrote)
+      (one.wrote ∙ ap (λ w. not (is_empty k.writes) || w) (or-false (effect_of regions op (overlay m k.writes)).wrote)) ∙
+      (or-assoc (not (is_empty k.writes)) (effect_of regions op (overlay m k.writes)).wrote (run regions rest (overlay m j.writes)).wrote
       ∙ ap (λ w. not (is_empty k.writes) || ((effect_of regions op (overlay m k.writes)).wrote || (run regions rest w).wrote)) one.left));
 })
 

@@ -22,51 +22,27 @@ region_at regions n = slice_index_or regions n (OfCounter (record { at = 0; stri
 
 abbrev pub as_counter : Region → Counter
 as_counter (OfCounter c) = c
-as_counter (OfList l) = record { at = 0; stripes = 0 }
-as_counter (OfHash h) = record { at = 0; stripes = 0 }
-as_counter (OfTree t) = record { at = 0; stripes = 0 }
-as_counter (OfQueue q) = record { at = 0; stripes = 0 }
-as_counter (OfSumMap r) = record { at = 0; stripes = 0 }
+as_counter r = record { at = 0; stripes = 0 }
 
 abbrev pub as_list : Region → KeyList
-as_list (OfCounter c) = record { at = 0; cells = 0 }
 as_list (OfList l) = l
-as_list (OfHash h) = record { at = 0; cells = 0 }
-as_list (OfTree t) = record { at = 0; cells = 0 }
-as_list (OfQueue q) = record { at = 0; cells = 0 }
-as_list (OfSumMap r) = record { at = 0; cells = 0 }
+as_list r = record { at = 0; cells = 0 }
 
 abbrev pub as_hash : Region → Hash
-as_hash (OfCounter c) = record { at = 0; cells = 0 }
-as_hash (OfList l) = record { at = 0; cells = 0 }
 as_hash (OfHash h) = h
-as_hash (OfTree t) = record { at = 0; cells = 0 }
-as_hash (OfQueue q) = record { at = 0; cells = 0 }
-as_hash (OfSumMap r) = record { at = 0; cells = 0 }
+as_hash r = record { at = 0; cells = 0 }
 
 abbrev pub as_tree : Region → Tree
-as_tree (OfCounter c) = record { at = 0; cells = 0 }
-as_tree (OfList l) = record { at = 0; cells = 0 }
-as_tree (OfHash h) = record { at = 0; cells = 0 }
 as_tree (OfTree t) = t
-as_tree (OfQueue q) = record { at = 0; cells = 0 }
-as_tree (OfSumMap r) = record { at = 0; cells = 0 }
+as_tree r = record { at = 0; cells = 0 }
 
 abbrev pub as_queue : Region → Queue
-as_queue (OfCounter c) = record { at = 0; cells = 0 }
-as_queue (OfList l) = record { at = 0; cells = 0 }
-as_queue (OfHash h) = record { at = 0; cells = 0 }
-as_queue (OfTree t) = record { at = 0; cells = 0 }
 as_queue (OfQueue q) = q
-as_queue (OfSumMap r) = record { at = 0; cells = 0 }
+as_queue r = record { at = 0; cells = 0 }
 
 abbrev pub as_sum_map : Region → SumMap
-as_sum_map (OfCounter c) = record { at = 0; cells = 0 }
-as_sum_map (OfList l) = record { at = 0; cells = 0 }
-as_sum_map (OfHash h) = record { at = 0; cells = 0 }
-as_sum_map (OfTree t) = record { at = 0; cells = 0 }
-as_sum_map (OfQueue q) = record { at = 0; cells = 0 }
 as_sum_map (OfSumMap r) = r
+as_sum_map r = record { at = 0; cells = 0 }
 
 -- the structure of this number: without words where the region is of another kind, or missing
 abbrev pub counter_in : List Region → ℕ → Counter

@@ -1,13 +1,13 @@
 //! Scripts over any access.
-ghost use Rattle.std.specs.Prelude.{◌≡◌, ◌<◌, ◌≤◌, ◌+◌, ◌++◌, ◌∷◌, [], ℕ, None, Some, All, IfOk, OnOk, IfErr, length, ltb, take};
-ghost use Rattle.stm_model.specs.Logs.{SameMemories, IsExplained, IsReadStop};
-ghost use Rattle.tx_effects.specs.Effects.{Under};
+ghost use Rattle.std.specs.Prelude.{◌≡◌, ◌<◌, ◌≤◌, ◌+◌, ℕ, None, Some, All, IfOk, OnOk, IfErr, length, ltb, take};
+ghost use Rattle.stm_model.specs.Logs.{SameMemories, IsReadStop};
+ghost use Rattle.tx_effects.specs.Accesses.{ExplainedFor, HoldsFor};
 ghost use Rattle.tx_regions.specs.Regions.{AllWellFormed};
-ghost use Rattle.stm_script.specs.Keeping.{ScriptKeeps};
-ghost use Rattle.stm_script.specs.Operations.{OpFits, ScriptFits, OnlyReads, emits_of};
+ghost use Rattle.stm_script.specs.Operations.{OpFits, ScriptFits, OnlyReads};
 ghost use Rattle.stm_script.specs.Scripts.{run, before_cancel, has_cancel, up_to_end, ran_to_end};
-ghost use Rattle.stm_script.specs.ScriptLaws.{GaveOver, GaveUpTo, ran_one};
-ghost use Rattle.stm_script.specs.Outputs.{HasRoom};
+ghost use Rattle.stm_script.specs.ScriptLaws.{ran_one};
+ghost use Rattle.stm_script.specs.Accesses.{GaveFor, GaveUpFor, ScriptKeepsGood};
+ghost use Rattle.stm_script.specs.Outputs.{HasRoom, with_reply};
 
 use crate::lists::Script;
 use crate::op::Op;
@@ -31,13 +31,15 @@ pub fn perform<A: Access>(
 ) -> Result<u64, Stop>
     requires going { A.stopped acc.old ≡ None }
     requires within { OpFits regions.now (A.words acc.old) op.now }
-    requires well { Under (A.good acc.old) (A.words acc.old) (A.log acc.old) (AllWellFormed regions.now) }
+    requires well { HoldsFor A.Access acc.old (AllWellFormed regions.now) }
     requires room { HasRoom out.old 1 }
-    ensures gave { OnOk result (GaveOver (A.good acc.old) (A.words acc.old) (ran_one regions.now op.now) (A.log acc.old) out.old (A.log acc.new) out.new) }
-    ensures told { IfOk result (λ r. out.new ≡ record out.old { replies = out.old.replies ++ r ∷ []; emits = out.old.emits ++ emits_of op.now r }) }
+    ensures gave { OnOk result
+        (GaveFor A.Access acc.old acc.new (ran_one regions.now op.now) out.old out.new) }
+    ensures told { IfOk result (λ r. out.new ≡ with_reply out.old op.now r) }
     ensures untold { IfErr result (λ s. out.new ≡ out.old) }
-    ensures explained { OnOk result (IsExplained (A.good acc.old) (A.words acc.old) (A.log acc.old) → IsExplained (A.good acc.new) (A.words acc.new) (A.log acc.new)) }
-    ensures well { OnOk result (Under (A.good acc.new) (A.words acc.new) (A.log acc.new) (AllWellFormed regions.now)) }
+    ensures explained { OnOk result
+        (ExplainedFor A.Access acc.old → ExplainedFor A.Access acc.new) }
+    ensures well { OnOk result (HoldsFor A.Access acc.new (AllWellFormed regions.now)) }
     ensures kept_room { out.new.room ≡ out.old.room }
     ensures goes { OnOk result (A.stopped acc.new ≡ None) }
     ensures stops { IfErr result (λ s. A.stopped acc.new ≡ Some s) }
@@ -64,15 +66,20 @@ fn perform_all<A: Access>(
 ) -> Result<(), Stop>
     requires going { A.stopped acc.old ≡ None }
     requires within { ScriptFits regions.now (A.words acc.old) ops.now }
-    requires well { Under (A.good acc.old) (A.words acc.old) (A.log acc.old) (AllWellFormed regions.now) }
+    requires well { HoldsFor A.Access acc.old (AllWellFormed regions.now) }
     requires room { HasRoom out.old (length ops.now) }
-    ensures gave { OnOk result (GaveOver (A.good acc.old) (A.words acc.old) (run regions.now ops.now) (A.log acc.old) out.old (A.log acc.new) out.new) }
-    ensures gave_up_to { IfErr result (λ s. GaveUpTo (A.good acc.old) (A.words acc.old) regions.now ops.now (A.log acc.old) out.old out.new) }
-    ensures explained { OnOk result (IsExplained (A.good acc.old) (A.words acc.old) (A.log acc.old) → IsExplained (A.good acc.new) (A.words acc.new) (A.log acc.new)) }
-    ensures keeps_rule { OnOk result (ScriptKeeps (A.good acc.old) (A.words acc.old) regions.now ops.now → Under (A.good acc.old) (A.words acc.old) (A.log acc.old) (A.good acc.old) → Under (A.good acc.old) (A.words acc.old) (A.log acc.new) (A.good acc.old)) }
-    ensures well { OnOk result (Under (A.good acc.new) (A.words acc.new) (A.log acc.new) (AllWellFormed regions.now)) }
+    ensures gave { OnOk result
+        (GaveFor A.Access acc.old acc.new (run regions.now ops.now) out.old out.new) }
+    ensures gave_up_to { IfErr result (λ s.
+        GaveUpFor A.Access acc.old regions.now ops.now out.old out.new) }
+    ensures explained { OnOk result
+        (ExplainedFor A.Access acc.old → ExplainedFor A.Access acc.new) }
+    ensures keeps_rule { OnOk result
+        (ScriptKeepsGood A.Access acc.old acc.new regions.now ops.now) }
+    ensures well { OnOk result (HoldsFor A.Access acc.new (AllWellFormed regions.now)) }
     ensures kept_room { out.new.room ≡ out.old.room }
-    ensures room { OnOk result ((n : ℕ) → HasRoom out.old (length ops.now + n) → HasRoom out.new n) }
+    ensures room { OnOk result
+        ((n : ℕ) → HasRoom out.old (length ops.now + n) → HasRoom out.new n) }
     ensures goes { OnOk result (A.stopped acc.new ≡ None) }
     ensures stops { IfErr result (λ s. A.stopped acc.new ≡ Some s) }
     ensures cause { All OnlyReads ops.now → IfErr result IsReadStop }
@@ -118,14 +125,18 @@ pub fn interpret<A: Access>(
 ) -> Result<(), Stop>
     requires going { A.stopped acc.old ≡ None }
     requires within { ScriptFits regions.now (A.words acc.old) script.now }
-    requires well { Under (A.good acc.old) (A.words acc.old) (A.log acc.old) (AllWellFormed regions.now) }
+    requires well { HoldsFor A.Access acc.old (AllWellFormed regions.now) }
     requires room { HasRoom out.old (length script.now) }
-    ensures gave { OnOk result (GaveOver (A.good acc.old) (A.words acc.old) (ran_to_end regions.now kind script.now) (A.log acc.old) out.old (A.log acc.new) out.new) }
-    ensures gave_up_to { IfErr result (λ s. GaveUpTo (A.good acc.old) (A.words acc.old) regions.now (up_to_end kind script.now) (A.log acc.old) out.old out.new) }
-    ensures explained { OnOk result (IsExplained (A.good acc.old) (A.words acc.old) (A.log acc.old) → IsExplained (A.good acc.new) (A.words acc.new) (A.log acc.new)) }
+    ensures gave { OnOk result (GaveFor A.Access acc.old acc.new
+        (ran_to_end regions.now kind script.now) out.old out.new) }
+    ensures gave_up_to { IfErr result (λ s.
+        GaveUpFor A.Access acc.old regions.now (up_to_end kind script.now) out.old out.new) }
+    ensures explained { OnOk result
+        (ExplainedFor A.Access acc.old → ExplainedFor A.Access acc.new) }
     // what the caller owes for a commit stays met where each operation keeps the rule on memories
-    ensures keeps_rule { OnOk result (ScriptKeeps (A.good acc.old) (A.words acc.old) regions.now script.now → Under (A.good acc.old) (A.words acc.old) (A.log acc.old) (A.good acc.old) → Under (A.good acc.old) (A.words acc.old) (A.log acc.new) (A.good acc.old)) }
-    ensures well { OnOk result (Under (A.good acc.new) (A.words acc.new) (A.log acc.new) (AllWellFormed regions.now)) }
+    ensures keeps_rule { OnOk result
+        (ScriptKeepsGood A.Access acc.old acc.new regions.now script.now) }
+    ensures well { OnOk result (HoldsFor A.Access acc.new (AllWellFormed regions.now)) }
     ensures kept_room { out.new.room ≡ out.old.room }
     ensures goes { OnOk result (A.stopped acc.new ≡ None) }
     ensures stops { IfErr result (λ s. A.stopped acc.new ≡ Some s) }

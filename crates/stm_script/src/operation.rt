@@ -1,10 +1,10 @@
 //! One operation over any access.
-ghost use Rattle.std.specs.Prelude.{◌≡◌, ◌<◌, ◌^◌, ◌+◌, ◌%◌, slice_index, None, Some, false, IfOk, OnOk, IfErr, length};
-ghost use Rattle.stm_model.specs.Logs.{SameMemories, IsExplained, IsReadStop};
-ghost use Rattle.tx_effects.specs.Effects.{Under};
+ghost use Rattle.std.specs.Prelude.{◌≡◌, ◌<◌, ◌^◌, ◌+◌, ◌%◌, slice_index, None, Some, false, IfOk, OnOk, IfErr};
+ghost use Rattle.stm_model.specs.Logs.{SameMemories, IsReadStop};
+ghost use Rattle.tx_effects.specs.Accesses.{ExplainedFor, HoldsFor};
 ghost use Rattle.tx_regions.specs.Regions.{AllWellFormed};
-ghost use Rattle.stm_script.specs.Keeping.{OpKeeps};
-ghost use Rattle.stm_script.specs.Operations.{OpFits, is_irrev, is_cancel, OnlyReads, DoesOver, effect_of, stores, moves, replies};
+ghost use Rattle.stm_script.specs.Operations.{OpFits, is_irrev, is_cancel, OnlyReads, effect_of, stores, moves, replies};
+ghost use Rattle.stm_script.specs.Accesses.{DoesFor, OpKeepsGood};
 
 use crate::laws::operations_keep_regions;
 use crate::op::Op;
@@ -23,13 +23,13 @@ pub fn run_op<A: Access>(acc: &mut A, regions: &Regions, op: &Op) -> Result<u64,
     requires no_cancel { is_cancel op.now ≡ false }
     requires going { A.stopped acc.old ≡ None }
     requires within { OpFits regions.now (A.words acc.old) op.now }
-    requires well { Under (A.good acc.old) (A.words acc.old) (A.log acc.old) (AllWellFormed regions.now) }
-    ensures reply { IfOk result (λ r. DoesOver (A.good acc.old) (A.words acc.old) (effect_of regions.now op.now) (A.log acc.old) r (A.log acc.new)) }
+    requires well { HoldsFor A.Access acc.old (AllWellFormed regions.now) }
+    ensures reply { IfOk result (DoesFor A.Access acc.old acc.new (effect_of regions.now op.now)) }
     ensures range { IfOk result (λ r. r < 2 ^ 64) }
-    ensures explained { OnOk result (IsExplained (A.good acc.new) (A.words acc.new) (A.log acc.new)) }
-    ensures well { OnOk result (Under (A.good acc.new) (A.words acc.new) (A.log acc.new) (AllWellFormed regions.now)) }
+    ensures explained { OnOk result (ExplainedFor A.Access acc.new) }
+    ensures well { OnOk result (HoldsFor A.Access acc.new (AllWellFormed regions.now)) }
     // what the caller owes for a commit stays met where the operation keeps the rule on memories
-    ensures keeps_rule { OnOk result (OpKeeps (A.good acc.old) (A.words acc.old) regions.now op.now → Under (A.good acc.old) (A.words acc.old) (A.log acc.old) (A.good acc.old) → Under (A.good acc.old) (A.words acc.old) (A.log acc.new) (A.good acc.old)) }
+    ensures keeps_rule { OnOk result (OpKeepsGood A.Access acc.old acc.new regions.now op.now) }
     ensures goes { OnOk result (A.stopped acc.new ≡ None) }
     ensures stops { IfErr result (λ s. A.stopped acc.new ≡ Some s) }
     ensures cause { OnlyReads op.now → IfErr result IsReadStop }
@@ -48,10 +48,10 @@ fn act<A: Access>(acc: &mut A, regions: &Regions, op: Op) -> Result<u64, Stop>
     requires no_cancel { is_cancel op ≡ false }
     requires going { A.stopped acc.old ≡ None }
     requires within { OpFits regions.now (A.words acc.old) op }
-    requires well { Under (A.good acc.old) (A.words acc.old) (A.log acc.old) (AllWellFormed regions.now) }
-    ensures reply { IfOk result (λ r. DoesOver (A.good acc.old) (A.words acc.old) (effect_of regions.now op) (A.log acc.old) r (A.log acc.new)) }
+    requires well { HoldsFor A.Access acc.old (AllWellFormed regions.now) }
+    ensures reply { IfOk result (DoesFor A.Access acc.old acc.new (effect_of regions.now op)) }
     ensures range { IfOk result (λ r. r < 2 ^ 64) }
-    ensures explained { OnOk result (IsExplained (A.good acc.new) (A.words acc.new) (A.log acc.new)) }
+    ensures explained { OnOk result (ExplainedFor A.Access acc.new) }
     ensures goes { OnOk result (A.stopped acc.new ≡ None) }
     ensures stops { IfErr result (λ s. A.stopped acc.new ≡ Some s) }
     ensures cause { OnlyReads op → IfErr result IsReadStop }
@@ -73,9 +73,10 @@ fn act<A: Access>(acc: &mut A, regions: &Regions, op: Op) -> Result<u64, Stop>
 fn read<A: Access>(acc: &mut A, a: usize) -> Result<u64, Stop>
     requires going { A.stopped acc.old ≡ None }
     requires within { a < A.words acc.old }
-    ensures reply { IfOk result (λ r. DoesOver (A.good acc.old) (A.words acc.old) (λ m. replies (slice_index m a) m) (A.log acc.old) r (A.log acc.new)) }
+    ensures reply { IfOk result
+        (DoesFor A.Access acc.old acc.new (λ m. replies (slice_index m a) m)) }
     ensures range { IfOk result (λ r. r < 2 ^ 64) }
-    ensures explained { OnOk result (IsExplained (A.good acc.new) (A.words acc.new) (A.log acc.new)) }
+    ensures explained { OnOk result (ExplainedFor A.Access acc.new) }
     ensures goes { OnOk result (A.stopped acc.new ≡ None) }
     ensures stops { IfErr result (λ s. A.stopped acc.new ≡ Some s) }
     ensures cause { IfErr result IsReadStop }
@@ -90,9 +91,9 @@ fn read<A: Access>(acc: &mut A, a: usize) -> Result<u64, Stop>
 fn write<A: Access>(acc: &mut A, a: usize, v: u64) -> Result<u64, Stop>
     requires going { A.stopped acc.old ≡ None }
     requires within { a < A.words acc.old }
-    ensures reply { IfOk result (λ r. DoesOver (A.good acc.old) (A.words acc.old) (stores a v) (A.log acc.old) r (A.log acc.new)) }
+    ensures reply { IfOk result (DoesFor A.Access acc.old acc.new (stores a v)) }
     ensures range { IfOk result (λ r. r < 2 ^ 64) }
-    ensures explained { OnOk result (IsExplained (A.good acc.new) (A.words acc.new) (A.log acc.new)) }
+    ensures explained { OnOk result (ExplainedFor A.Access acc.new) }
     ensures goes { OnOk result (A.stopped acc.new ≡ None) }
     ensures stops { IfErr result (λ s. A.stopped acc.new ≡ Some s) }
     ensures good { SameMemories (A.good acc.old) (A.good acc.new) }
@@ -106,9 +107,10 @@ fn write<A: Access>(acc: &mut A, a: usize, v: u64) -> Result<u64, Stop>
 fn add<A: Access>(acc: &mut A, a: usize, k: u64) -> Result<u64, Stop>
     requires going { A.stopped acc.old ≡ None }
     requires within { a < A.words acc.old }
-    ensures reply { IfOk result (λ r. DoesOver (A.good acc.old) (A.words acc.old) (λ m. stores a ((slice_index m a + k) % 2 ^ 64) m) (A.log acc.old) r (A.log acc.new)) }
+    ensures reply { IfOk result
+        (DoesFor A.Access acc.old acc.new (λ m. stores a ((slice_index m a + k) % 2 ^ 64) m)) }
     ensures range { IfOk result (λ r. r < 2 ^ 64) }
-    ensures explained { OnOk result (IsExplained (A.good acc.new) (A.words acc.new) (A.log acc.new)) }
+    ensures explained { OnOk result (ExplainedFor A.Access acc.new) }
     ensures goes { OnOk result (A.stopped acc.new ≡ None) }
     ensures stops { IfErr result (λ s. A.stopped acc.new ≡ Some s) }
     ensures good { SameMemories (A.good acc.old) (A.good acc.new) }
@@ -125,9 +127,9 @@ fn move_between<A: Access>(acc: &mut A, a: usize, b: usize, k: u64) -> Result<u6
     requires going { A.stopped acc.old ≡ None }
     requires from { a < A.words acc.old }
     requires onto { b < A.words acc.old }
-    ensures reply { IfOk result (λ r. DoesOver (A.good acc.old) (A.words acc.old) (moves a b k) (A.log acc.old) r (A.log acc.new)) }
+    ensures reply { IfOk result (DoesFor A.Access acc.old acc.new (moves a b k)) }
     ensures range { IfOk result (λ r. r < 2 ^ 64) }
-    ensures explained { OnOk result (IsExplained (A.good acc.new) (A.words acc.new) (A.log acc.new)) }
+    ensures explained { OnOk result (ExplainedFor A.Access acc.new) }
     ensures goes { OnOk result (A.stopped acc.new ≡ None) }
     ensures stops { IfErr result (λ s. A.stopped acc.new ≡ Some s) }
     ensures good { SameMemories (A.good acc.old) (A.good acc.new) }

@@ -1,7 +1,6 @@
 //! Room for the replies and emits of an attempt.
 ghost use Rattle.std.specs.Prelude.{◌≡◌, ◌<◌, ◌+◌, [], ◌∷◌, ◌++◌, IfOk, length};
-ghost use Rattle.stm_script.specs.Operations.{emits_of};
-ghost use Rattle.stm_script.specs.Outputs.{Output, HasRoom};
+ghost use Rattle.stm_script.specs.Outputs.{Output, HasRoom, with_reply};
 
 use crate::lists::Words;
 use crate::op::Op;
@@ -19,7 +18,7 @@ pub struct Replies {
 }
 
 impl Model for Replies {
-    ghost use Rattle.std.specs.Prelude.{ℕ, ◌≤◌};
+    ghost use Rattle.std.specs.Prelude.{◌≤◌};
     ghost use Rattle.stm_script.specs.Outputs.{Output};
 
     ghost Value = { Output };
@@ -66,7 +65,7 @@ impl Replies {
     /// Adds the reply of an operation, and what it emits. Takes no memory.
     pub fn add(&mut self, op: &Op, reply: u64)
         requires { HasRoom self.old 1 }
-        ensures { self.new ≡ record self.old { replies = self.old.replies ++ reply ∷ []; emits = self.old.emits ++ emits_of op.now reply } }
+        ensures { self.new ≡ with_reply self.old op.now reply }
     {
         match op {
             Op::Emit(_) => {

@@ -1,9 +1,10 @@
 //! The structures that operations work on, and one operation on them over any access.
 ghost use Rattle.std.specs.Prelude.{◌≡◌, ◌<◌, ◌^◌, None, Some, true, IfOk, OnOk, IfErr};
-ghost use Rattle.stm_model.specs.Logs.{SameMemories, IsExplained, IsReadStop};
-ghost use Rattle.tx_effects.specs.Effects.{Under};
+ghost use Rattle.stm_model.specs.Logs.{SameMemories, IsReadStop};
+ghost use Rattle.tx_effects.specs.Accesses.{ExplainedFor, HoldsFor};
 ghost use Rattle.tx_regions.specs.Regions.{AllWellFormed};
-ghost use Rattle.stm_script.specs.Operations.{OpFits, OnlyReads, DoesOver, effect_of, of_structure};
+ghost use Rattle.stm_script.specs.Operations.{OpFits, OnlyReads, effect_of, of_structure};
+ghost use Rattle.stm_script.specs.Accesses.{DoesFor};
 ghost use Rattle.stm_script.specs.Structures.{counter_in, list_in, hash_in, tree_in, queue_in, sum_map_in, insert_reply, bool_reply, least_reply, put_reply, map_put_reply, value_reply};
 
 use crate::op::Op;
@@ -145,10 +146,10 @@ pub fn run_on_structure<A: Access>(acc: &mut A, regions: &Regions, op: Op) -> Re
     requires on_structure { of_structure op ≡ true }
     requires going { A.stopped acc.old ≡ None }
     requires within { OpFits regions.now (A.words acc.old) op }
-    requires well { Under (A.good acc.old) (A.words acc.old) (A.log acc.old) (AllWellFormed regions.now) }
-    ensures reply { IfOk result (λ r. DoesOver (A.good acc.old) (A.words acc.old) (effect_of regions.now op) (A.log acc.old) r (A.log acc.new)) }
+    requires well { HoldsFor A.Access acc.old (AllWellFormed regions.now) }
+    ensures reply { IfOk result (DoesFor A.Access acc.old acc.new (effect_of regions.now op)) }
     ensures range { IfOk result (λ r. r < 2 ^ 64) }
-    ensures explained { OnOk result (IsExplained (A.good acc.new) (A.words acc.new) (A.log acc.new)) }
+    ensures explained { OnOk result (ExplainedFor A.Access acc.new) }
     ensures goes { OnOk result (A.stopped acc.new ≡ None) }
     ensures stops { IfErr result (λ s. A.stopped acc.new ≡ Some s) }
     ensures cause { OnlyReads op → IfErr result IsReadStop }

@@ -9,7 +9,16 @@ use Rattle.stm_steps.specs.Fresh.{IsFresh}
 
 module _ (m : Stm AnyMem) where
   pub fresh : (n : ℕ) (xs ys : List (Handle AnyMem)) (d : Handle AnyMem) → AllOpened m n (xs ++ d ∷ ys) → IsFresh m d
-  fresh n [] ys d h = (h.0, (ap (λ (v : View). v.gate.phase) h.2, ap (λ (v : View). is_in v.gate.phase) h.2, ap (λ (v : View). is_closing v.gate.phase) h.2, ap (λ (v : View). v.gate.holds) h.2, ap (λ (v : View). locked_under v.gate.algorithm v.lock.taken v.tml.writer) h.2))
+  fresh n [] ys d h = (
+    h.0,
+    (
+      ap (λ (v : View). v.gate.phase) h.2,
+      ap (λ (v : View). is_in v.gate.phase) h.2,
+      ap (λ (v : View). is_closing v.gate.phase) h.2,
+      ap (λ (v : View). v.gate.holds) h.2,
+      ap (λ (v : View). locked_under v.gate.algorithm v.lock.taken v.tml.writer) h.2,
+    ),
+  )
   fresh n (x ∷ xs) ys d h = fresh (suc n) xs ys d h.4
 
   front : (n : ℕ) (xs ys : List (Handle AnyMem)) → AllOpened m n (xs ++ ys) → AllOpened m n xs

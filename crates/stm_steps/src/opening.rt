@@ -16,7 +16,8 @@ pub struct Opened {
 /// Opens a memory; None where it has fewer callers, or no memory is found.
 pub fn open(alloc: Global, config: Config) -> Option<Opened>
     ensures config { IfSome result (λ o. o.stm.config ≡ config) }
-    ensures fresh { IfSome result (λ o. IsFresh o.stm o.first × IsFresh o.stm o.second × IsFresh o.stm o.third) }
+    ensures fresh { IfSome result (λ o.
+        IsFresh o.stm o.first × IsFresh o.stm o.second × IsFresh o.stm o.third) }
 {
     let Ok((stm, mut descs)) = Stm::new(alloc, config, AnyMem) else {
         return None;

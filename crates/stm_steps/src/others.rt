@@ -73,7 +73,8 @@ fn count_fence(stm: &Stm<AnyMem>, desc: &mut Desc<AnyMem>) -> bool
     ensures same { IsSameCaller desc.old desc.new }
     ensures idle { IsIdle (known desc.new) }
     ensures held { result ≡ true → (known desc.new).fenced.held ≡ true }
-    ensures words { result ≡ true → (a : ℕ) → fenced (known desc.new).fenced.number a ≡ is_within 4 2 a }
+    ensures words { result ≡ true → (a : ℕ)
+        → fenced (known desc.new).fenced.number a ≡ is_within 4 2 a }
 {
     let CloseGate::Closed = close_gate(desc, stm) else {
         return false;

@@ -194,38 +194,94 @@ header_line-fits Words h n w v f at =
     (λ k le.
     let c = f.config in
     let most = le.1 in
-    let all = most-words h.version in
-    (record { config = record { words = (le.0, omega arith); records = c.records; ring = c.ring; callers = c.callers; reads = c.reads; writes = c.writes; clock = c.clock }; words = most; layout = bare-fits h.version (record h { words = k }) at }, at))
+    let all = most-words h.version in (
+      record {
+        config = record {
+          words = (le.0, omega arith);
+          records = c.records;
+          ring = c.ring;
+          callers = c.callers;
+          reads = c.reads;
+          writes = c.writes;
+          clock = c.clock;
+        };
+        words = most;
+        layout = bare-fits h.version (record h { words = k }) at;
+      },
+      at,
+    ))
 header_line-fits Callers h n w v f at =
     number-fits (Puts h n Records) (codes "callers") 1 MAX_CALLERS w v (λ k. fields.Callers k)
     (λ k le.
-    let c = f.config in
-    (record { config = record { words = c.words; records = c.records; ring = c.ring; callers = le; reads = c.reads; writes = c.writes; clock = c.clock }; words = f.words; layout = bare-fits h.version (record h { callers = k }) at }, at))
+    let c = f.config in (
+      record {
+        config =
+            record { words = c.words; records = c.records; ring = c.ring; callers = le; reads = c.reads; writes = c.writes; clock = c.clock };
+        words = f.words;
+        layout = bare-fits h.version (record h { callers = k }) at;
+      },
+      at,
+    ))
 header_line-fits Records h n w v f at =
     number-fits (Puts h n Ring) (codes "records") 1 MAX_RECORDS w v (λ k. fields.Records k)
     (λ k le.
-    let c = f.config in
-    (record { config = record { words = c.words; records = le; ring = c.ring; callers = c.callers; reads = c.reads; writes = c.writes; clock = c.clock }; words = f.words; layout = bare-fits h.version (record h { records = k }) at }, at))
+    let c = f.config in (
+      record {
+        config =
+            record { words = c.words; records = le; ring = c.ring; callers = c.callers; reads = c.reads; writes = c.writes; clock = c.clock };
+        words = f.words;
+        layout = bare-fits h.version (record h { records = k }) at;
+      },
+      at,
+    ))
 header_line-fits Ring h n w v f at =
     number-fits (Puts h n Reads) (codes "ring") MIN_RING MAX_RING w v (λ k. fields.Ring k)
     (λ k le.
-    let c = f.config in
-    (record { config = record { words = c.words; records = c.records; ring = le; callers = c.callers; reads = c.reads; writes = c.writes; clock = c.clock }; words = f.words; layout = bare-fits h.version (record h { ring = k }) at }, at))
+    let c = f.config in (
+      record {
+        config =
+            record { words = c.words; records = c.records; ring = le; callers = c.callers; reads = c.reads; writes = c.writes; clock = c.clock };
+        words = f.words;
+        layout = bare-fits h.version (record h { ring = k }) at;
+      },
+      at,
+    ))
 header_line-fits Reads h n w v f at =
     number-fits (Puts h n Writes) (codes "reads") 1 MAX_LOG w v (λ k. fields.Reads k)
     (λ k le.
-    let c = f.config in
-    (record { config = record { words = c.words; records = c.records; ring = c.ring; callers = c.callers; reads = le; writes = c.writes; clock = c.clock }; words = f.words; layout = bare-fits h.version (record h { reads = k }) at }, at))
+    let c = f.config in (
+      record {
+        config =
+            record { words = c.words; records = c.records; ring = c.ring; callers = c.callers; reads = le; writes = c.writes; clock = c.clock };
+        words = f.words;
+        layout = bare-fits h.version (record h { reads = k }) at;
+      },
+      at,
+    ))
 header_line-fits Writes h n w v f at =
     number-fits (Puts h n Clock) (codes "writes") 1 MAX_LOG w v (λ k. fields.Writes k)
     (λ k le.
-    let c = f.config in
-    (record { config = record { words = c.words; records = c.records; ring = c.ring; callers = c.callers; reads = c.reads; writes = le; clock = c.clock }; words = f.words; layout = bare-fits h.version (record h { writes = k }) at }, at))
+    let c = f.config in (
+      record {
+        config =
+            record { words = c.words; records = c.records; ring = c.ring; callers = c.callers; reads = c.reads; writes = le; clock = c.clock };
+        words = f.words;
+        layout = bare-fits h.version (record h { writes = k }) at;
+      },
+      at,
+    ))
 header_line-fits Clock h n w v f at =
     number-fits (Puts h n Algorithm) (codes "clock") 0 CLOCK_LIMIT w v (λ k. fields.Clock k)
     (λ k le.
-    let c = f.config in
-    (record { config = record { words = c.words; records = c.records; ring = c.ring; callers = c.callers; reads = c.reads; writes = c.writes; clock = le.1 }; words = f.words; layout = bare-fits h.version (record h { clock = k }) at }, at))
+    let c = f.config in (
+      record {
+        config =
+            record { words = c.words; records = c.records; ring = c.ring; callers = c.callers; reads = c.reads; writes = c.writes; clock = le.1 };
+        words = f.words;
+        layout = bare-fits h.version (record h { clock = k }) at;
+      },
+      at,
+    ))
 header_line-fits Algorithm h n w v f at =
     let P : Field → Type 0 = Puts h n (after_algorithm h.version) in
     let named : Result Alg ℕ = named (codes "alg") w (algorithm v) in

@@ -149,11 +149,13 @@ alg-read m h k alg rest =
 structs-read : (m : Mode) (h : Header) (k : ℕ) (on : Bool) (rest : List ℕ) → (on ≡ true → STRUCTS_END ≤ h.words)
     → parsed m (in_header Structures 0 h) k (lines_of (line (codes "structs" ∷ switch_of on ∷ []) ++ rest)) ≡ parsed m (in_header Items 0 (record h { regions = regions_where on })) (k + 1) (lines_of rest)
 structs-read m h k false rest room =
-    step-read m (in_header Structures 0 h) k (codes "structs") (codes "off" ∷ []) rest (Head Items (fields.Structures false)) (seen (codes "structs") refl, (seen (codes "off") refl, tt)) refl (not-done Items (fields.Structures false))
+    step-read m (in_header Structures 0 h) k (codes "structs") (codes "off" ∷ []) rest (Head Items (fields.Structures false))
+    (seen (codes "structs") refl, (seen (codes "off") refl, tt)) refl (not-done Items (fields.Structures false))
 structs-read m h k true rest room =
     let le = room refl in
     let p : leb STRUCTS_END h.words ≡ true = grind (arith, nat_tests) in
-    step-read m (in_header Structures 0 h) k (codes "structs") (codes "on" ∷ []) rest (Head Items (fields.Structures true)) (seen (codes "structs") refl, (seen (codes "on") refl, tt)) (rw p) (not-done Items (fields.Structures true))
+    step-read m (in_header Structures 0 h) k (codes "structs") (codes "on" ∷ []) rest (Head Items (fields.Structures true))
+    (seen (codes "structs") refl, (seen (codes "on") refl, tt)) (rw p) (not-done Items (fields.Structures true))
 
 -- a header without its layout, but for these regions
 abbrev laying : Header → List Region → Header
@@ -259,8 +261,11 @@ end_of-snoc (x ∷ []) r = refl
 end_of-snoc (x ∷ y ∷ xs) r = end_of-snoc (y ∷ xs) r
 
 -- the lines of regions
-regions-read : (m : Mode) (h : Header) (n : ℕ) (before : List Region) (k : ℕ) (rs : List Region) (more : List (List (List ℕ))) → h.words ≤ MAX_WORDS → n ≡ length before + length rs → All IsSized rs → Follow (end_of before) rs → All (EndsWithin h.words) rs
-    → (j : ℕ) × (parsed m (in_header (next_region n (length before)) n (laying h before)) k (lines_of (lines_text (map region_words rs ++ more))) ≡ parsed m (in_header PolicyLine n (laying h (before ++ rs))) j (lines_of (lines_text more)))
+regions-read : (m : Mode) (h : Header) (n : ℕ) (before : List Region) (k : ℕ) (rs : List Region) (more : List (List (List ℕ)))
+    → h.words ≤ MAX_WORDS → n ≡ length before + length rs → All IsSized rs → Follow (end_of before) rs → All (EndsWithin h.words) rs
+    → (j : ℕ)
+    × (parsed m (in_header (next_region n (length before)) n (laying h before)) k (lines_of (lines_text (map region_words rs ++ more)))
+    ≡ parsed m (in_header PolicyLine n (laying h (before ++ rs))) j (lines_of (lines_text more)))
 regions-read m h n before k [] more small count sized follow within =
     let all : leb n (length before) ≡ true = grind (arith, nat_tests) in (
       k,

@@ -129,7 +129,8 @@ HeadGrows p q h n w v field = head_so_far q (with_field field h) n ≡ head_so_f
 pub two-same : (xs : List (List (List ℕ))) (a b w v : List ℕ) → w ≡ a → v ≡ b → xs ++ (a ∷ b ∷ []) ∷ [] ≡ xs ++ (w ∷ v ∷ []) ∷ []
 two-same xs a b w v p q = ap (λ x. xs ++ (x ∷ b ∷ []) ∷ []) (sym p) ∙ ap (λ x. xs ++ (w ∷ x ∷ []) ∷ []) (sym q)
 
-number-grows : (p q : NextLine) (h : Header) (n : ℕ) (name : List ℕ) (low high : ℕ) (w v : List ℕ) (field : ℕ → Field) → ((k : ℕ) → head_so_far q (with_field (field k) h) n ≡ head_so_far p h n ++ (name ∷ decimal k ∷ []) ∷ [])
+number-grows : (p q : NextLine) (h : Header) (n : ℕ) (name : List ℕ) (low high : ℕ) (w v : List ℕ) (field : ℕ → Field)
+    → ((k : ℕ) → head_so_far q (with_field (field k) h) n ≡ head_so_far p h n ++ (name ∷ decimal k ∷ []) ∷ [])
     → Gives (HeadGrows p q h n w v) (sized name low high w v >>= λ k. Ok (field k))
 number-grows p q h n name low high w v field next =
     then-gives (Names name w v) (HeadGrows p q h n w v) (sized name low high w v) (λ k. Ok (field k)) (sized-says name low high w v)

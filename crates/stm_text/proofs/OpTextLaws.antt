@@ -193,7 +193,8 @@ add-words m h items c ops a v within free fits value room =
     ∙ (filled-decimal v (three_words Ops d (codes "add") (decimal a) (decimal v)) value
     ∙ (ap (λ r. r >>= λ p. added d (Sum p.0 p.1)) (operands-decimal d a v within free fits value) ∙ added-room d (Sum a v) room))
 
-move_of-decimal : (d : Writing) (a b v : ℕ) → a < d.header.words → b < d.header.words → IsFree d.header a → IsFree d.header b → a < 2 ^ 64 → b < 2 ^ 64 → v < 2 ^ 64 → move_of d (decimal a) (decimal b) (decimal v) ≡ Ok (Move a b v)
+move_of-decimal : (d : Writing) (a b v : ℕ) → a < d.header.words → b < d.header.words → IsFree d.header a → IsFree d.header b → a < 2 ^ 64
+    → b < 2 ^ 64 → v < 2 ^ 64 → move_of d (decimal a) (decimal b) (decimal v) ≡ Ok (Move a b v)
 move_of-decimal d a b v from onto free clear fa fb fv =
     let g = d.header in
     let w = d.header.words in
@@ -293,7 +294,8 @@ record IsKeyedBy (C : ℕ → ℕ → Op) (name : List ℕ) (s : Structure) : Ty
   pub pair : (m : Mode) (d : Writing) (v : List ℕ) → two_words Ops m d name v ≡ pair_op d.header.version d name v
   pub triple : (d : Writing) (a v : List ℕ) → three_words Ops d name a v ≡ triple_op d.header.version d name a v
 
-keyed-one : (m : Mode) (h : Header) (items : List Item) (c : ℕ) (ops : List Op) (C : ℕ → ℕ → Op) (name : List ℕ) (s : Structure) (r key : ℕ) → HeaderFits h → h.version ≡ One → length ops < MAX_OPS → IsKeyedBy C name s → KeyFits h s r key
+keyed-one : (m : Mode) (h : Header) (items : List Item) (c : ℕ) (ops : List Op) (C : ℕ → ℕ → Op) (name : List ℕ) (s : Structure) (r key : ℕ)
+    → HeaderFits h → h.version ≡ One → length ops < MAX_OPS → IsKeyedBy C name s → KeyFits h s r key
     → by_words m (in_tx h items c ops) (name ∷ decimal key ∷ []) ≡ Ok (Add (C r key))
 keyed-one m h items c ops C name s r key f one room is fits =
     let d : Writing = in_tx h items c ops in
@@ -305,7 +307,8 @@ keyed-one m h items c ops C name s r key f one room is fits =
     ∙ (ap (λ x. (x >>= λ j. Ok (with_key j (C r 0))) >>= structured d) (number-decimal 0 MAX_KEY key (omega arith) le (omega arith))
     ∙ (ap (structured d) (is.keys r key) ∙ structured-has d (C r key) s r (is.kind r key) fits.0 room)))))
 
-keyed-two : (m : Mode) (h : Header) (items : List Item) (c : ℕ) (ops : List Op) (C : ℕ → ℕ → Op) (name : List ℕ) (s : Structure) (r key : ℕ) → HeaderFits h → h.version ≡ Two → length ops < MAX_OPS → IsKeyedBy C name s → KeyFits h s r key
+keyed-two : (m : Mode) (h : Header) (items : List Item) (c : ℕ) (ops : List Op) (C : ℕ → ℕ → Op) (name : List ℕ) (s : Structure) (r key : ℕ)
+    → HeaderFits h → h.version ≡ Two → length ops < MAX_OPS → IsKeyedBy C name s → KeyFits h s r key
     → by_words m (in_tx h items c ops) (name ∷ decimal r ∷ decimal key ∷ []) ≡ Ok (Add (C r key))
 keyed-two m h items c ops C name s r key f two room is fits =
     let d : Writing = in_tx h items c ops in
@@ -334,7 +337,8 @@ record IsKeylessBy (C : ℕ → Op) (name : List ℕ) (s : Structure) : Type 0 w
   pub sole : (m : Mode) (d : Writing) → one_word Ops m d name ≡ keyless d.header.version d name
   pub pair : (m : Mode) (d : Writing) (v : List ℕ) → two_words Ops m d name v ≡ pair_op d.header.version d name v
 
-keyless-one : (m : Mode) (h : Header) (items : List Item) (c : ℕ) (ops : List Op) (C : ℕ → Op) (name : List ℕ) (s : Structure) (r : ℕ) → HeaderFits h → h.version ≡ One → length ops < MAX_OPS → IsKeylessBy C name s → HasStructure h s r
+keyless-one : (m : Mode) (h : Header) (items : List Item) (c : ℕ) (ops : List Op) (C : ℕ → Op) (name : List ℕ) (s : Structure) (r : ℕ)
+    → HeaderFits h → h.version ≡ One → length ops < MAX_OPS → IsKeylessBy C name s → HasStructure h s r
     → by_words m (in_tx h items c ops) (name ∷ []) ≡ Ok (Add (C r))
 keyless-one m h items c ops C name s r f one room is has =
     let d : Writing = in_tx h items c ops in
@@ -342,7 +346,8 @@ keyless-one m h items c ops C name s r f one room is has =
     ∙ (ap (λ v. keyless v d name) one
     ∙ (ap (λ x. x >>= structured d) (is.in_one r (number-one h s r f one has).1) ∙ structured-has d (C r) s r (is.kind r) has room))
 
-keyless-two : (m : Mode) (h : Header) (items : List Item) (c : ℕ) (ops : List Op) (C : ℕ → Op) (name : List ℕ) (s : Structure) (r : ℕ) → HeaderFits h → h.version ≡ Two → length ops < MAX_OPS → IsKeylessBy C name s → HasStructure h s r
+keyless-two : (m : Mode) (h : Header) (items : List Item) (c : ℕ) (ops : List Op) (C : ℕ → Op) (name : List ℕ) (s : Structure) (r : ℕ)
+    → HeaderFits h → h.version ≡ Two → length ops < MAX_OPS → IsKeylessBy C name s → HasStructure h s r
     → by_words m (in_tx h items c ops) (name ∷ decimal r ∷ []) ≡ Ok (Add (C r))
 keyless-two m h items c ops C name s r f two room is has =
     let d : Writing = in_tx h items c ops in
@@ -403,7 +408,8 @@ count_of-decimal a v within value =
     ap (λ r. r >>= λ i. formed (number_of (decimal v)) >>= λ n. below STRIPES i >>= λ s. Ok (Count COUNTER s n)) (formed-decimal a (omega arith))
     ∙ (ap (λ r. r >>= λ n. below STRIPES a >>= λ s. Ok (Count COUNTER s n)) (formed-decimal v value) ∙ ap (λ r. r >>= λ s. Ok (Count COUNTER s v)) (below-end STRIPES a within))
 
-count-one : (m : Mode) (h : Header) (items : List Item) (c : ℕ) (ops : List Op) (r a v : ℕ) → HeaderFits h → h.version ≡ One → length ops < MAX_OPS → HasStructure h structures.Counter r → a < (counter_in h.regions r).stripes → v < 2 ^ 64
+count-one : (m : Mode) (h : Header) (items : List Item) (c : ℕ) (ops : List Op) (r a v : ℕ) → HeaderFits h → h.version ≡ One
+    → length ops < MAX_OPS → HasStructure h structures.Counter r → a < (counter_in h.regions r).stripes → v < 2 ^ 64
     → by_words m (in_tx h items c ops) (codes "count" ∷ decimal a ∷ decimal v ∷ []) ≡ Ok (Add (Count r a v))
 count-one m h items c ops r a v f one room has stripe value =
     let d : Writing = in_tx h items c ops in
@@ -417,7 +423,8 @@ count-one m h items c ops r a v f one room has stripe value =
     ∙ (ap (λ x. x >>= structured d) (count_of-decimal a v within value)
     ∙ (ap (λ x. structured d (Count x a v)) zero-is ∙ structured-has d (Count r a v) structures.Counter r refl has room))))
 
-count-two : (m : Mode) (h : Header) (items : List Item) (c : ℕ) (ops : List Op) (r a v : ℕ) → HeaderFits h → h.version ≡ Two → length ops < MAX_OPS → HasStructure h structures.Counter r → a < (counter_in h.regions r).stripes → v < 2 ^ 64
+count-two : (m : Mode) (h : Header) (items : List Item) (c : ℕ) (ops : List Op) (r a v : ℕ) → HeaderFits h → h.version ≡ Two
+    → length ops < MAX_OPS → HasStructure h structures.Counter r → a < (counter_in h.regions r).stripes → v < 2 ^ 64
     → by_words m (in_tx h items c ops) (codes "count" ∷ decimal r ∷ decimal a ∷ decimal v ∷ []) ≡ Ok (Add (Count r a v))
 count-two m h items c ops r a v f two room has stripe value =
     let d : Writing = in_tx h items c ops in
@@ -462,7 +469,8 @@ adds-not : (op : Op) → Add op ≢ Done
 adds-not op e = cc
 
 -- the line of an operation on a structure, which has its region's number in version 2 alone
-keyed-read : (m : Mode) (h : Header) (items : List Item) (c : ℕ) (ops : List Op) (k : ℕ) (C : ℕ → ℕ → Op) (name : List ℕ) (s : Structure) (r key : ℕ) (rest : List ℕ) → HeaderFits h → length ops < MAX_OPS → KeyFits h s r key → IsKeyedBy C name s
+keyed-read : (m : Mode) (h : Header) (items : List Item) (c : ℕ) (ops : List Op) (k : ℕ) (C : ℕ → ℕ → Op) (name : List ℕ) (s : Structure)
+    (r key : ℕ) (rest : List ℕ) → HeaderFits h → length ops < MAX_OPS → KeyFits h s r key → IsKeyedBy C name s
     → (v : Version) → h.version ≡ v → parsed m (in_tx h items c ops) k (lines_of (line (name ∷ numbered v r (decimal key ∷ [])) ++ rest)) ≡ parsed m (in_tx h items c (ops ++ C r key ∷ [])) (k + 1) (lines_of rest)
 keyed-read m h items c ops k C name s r key rest f room fits is One one =
     let le = fits.1 in
@@ -475,7 +483,8 @@ keyed-read m h items c ops k C name s r key rest f room fits is Two two =
     step-read m (in_tx h items c ops) k name (decimal r ∷ decimal key ∷ []) rest (Add (C r key)) (is.visible, (visible-decimal r (omega arith), (visible-decimal key (omega arith), tt)))
     (keyed-two m h items c ops C name s r key f two room is fits) (adds-not (C r key))
 
-keyless-read : (m : Mode) (h : Header) (items : List Item) (c : ℕ) (ops : List Op) (k : ℕ) (C : ℕ → Op) (name : List ℕ) (s : Structure) (r : ℕ) (rest : List ℕ) → HeaderFits h → length ops < MAX_OPS → HasStructure h s r → IsKeylessBy C name s
+keyless-read : (m : Mode) (h : Header) (items : List Item) (c : ℕ) (ops : List Op) (k : ℕ) (C : ℕ → Op) (name : List ℕ) (s : Structure)
+    (r : ℕ) (rest : List ℕ) → HeaderFits h → length ops < MAX_OPS → HasStructure h s r → IsKeylessBy C name s
     → (v : Version) → h.version ≡ v → parsed m (in_tx h items c ops) k (lines_of (line (name ∷ numbered v r []) ++ rest)) ≡ parsed m (in_tx h items c (ops ++ C r ∷ [])) (k + 1) (lines_of rest)
 keyless-read m h items c ops k C name s r rest f room has is One one =
     step-read m (in_tx h items c ops) k name [] rest (Add (C r)) (is.visible, tt) (keyless-one m h items c ops C name s r f one room is has) (adds-not (C r))
@@ -485,8 +494,11 @@ keyless-read m h items c ops k C name s r rest f room has is Two two =
     step-read m (in_tx h items c ops) k name (decimal r ∷ []) rest (Add (C r)) (is.visible, (visible-decimal r (omega arith), tt))
     (keyless-two m h items c ops C name s r f two room is has) (adds-not (C r))
 
-count-read : (m : Mode) (h : Header) (items : List Item) (c : ℕ) (ops : List Op) (k r a v : ℕ) (rest : List ℕ) → HeaderFits h → length ops < MAX_OPS → HasStructure h structures.Counter r → a < (counter_in h.regions r).stripes → v < 2 ^ 64
-    → (x : Version) → h.version ≡ x → parsed m (in_tx h items c ops) k (lines_of (line (codes "count" ∷ numbered x r (decimal a ∷ decimal v ∷ [])) ++ rest)) ≡ parsed m (in_tx h items c (ops ++ Count r a v ∷ [])) (k + 1) (lines_of rest)
+count-read : (m : Mode) (h : Header) (items : List Item) (c : ℕ) (ops : List Op) (k r a v : ℕ) (rest : List ℕ) → HeaderFits h
+    → length ops < MAX_OPS → HasStructure h structures.Counter r → a < (counter_in h.regions r).stripes → v < 2 ^ 64
+    → (x : Version) → h.version ≡ x
+    → parsed m (in_tx h items c ops) k (lines_of (line (codes "count" ∷ numbered x r (decimal a ∷ decimal v ∷ [])) ++ rest))
+    ≡ parsed m (in_tx h items c (ops ++ Count r a v ∷ [])) (k + 1) (lines_of rest)
 count-read m h items c ops k r a v rest f room has stripe value One one =
     let most = few-stripes h r f has in
     step-read m (in_tx h items c ops) k (codes "count") (decimal a ∷ decimal v ∷ []) rest (Add (Count r a v)) (seen (codes "count") refl, (visible-decimal a (omega arith), (visible-decimal v value, tt)))
@@ -495,55 +507,154 @@ count-read m h items c ops k r a v rest f room has stripe value Two two =
     let few = few-regions h f in
     let lt = has.0 in
     let most = few-stripes h r f has in
-    step-read m (in_tx h items c ops) k (codes "count") (decimal r ∷ decimal a ∷ decimal v ∷ []) rest (Add (Count r a v)) (seen (codes "count") refl, (visible-decimal r (omega arith), (visible-decimal a (omega arith), (visible-decimal v value, tt))))
+    step-read m (in_tx h items c ops) k (codes "count") (decimal r ∷ decimal a ∷ decimal v ∷ []) rest (Add (Count r a v))
+    (seen (codes "count") refl, (visible-decimal r (omega arith), (visible-decimal a (omega arith), (visible-decimal v value, tt))))
     (count-two m h items c ops r a v f two room has stripe value) (adds-not (Count r a v))
 
 map_put-read : (m : Mode) (h : Header) (items : List Item) (c : ℕ) (ops : List Op) (k r key v : ℕ) (rest : List ℕ) → HeaderFits h → length ops < MAX_OPS → KeyFits h structures.SumMap r key → v < 2 ^ 64
-    → (x : Version) → h.version ≡ x → parsed m (in_tx h items c ops) k (lines_of (line (codes "mput" ∷ numbered x r (decimal key ∷ decimal v ∷ [])) ++ rest)) ≡ parsed m (in_tx h items c (ops ++ MapPut r key v ∷ [])) (k + 1) (lines_of rest)
+    → (x : Version) → h.version ≡ x
+    → parsed m (in_tx h items c ops) k (lines_of (line (codes "mput" ∷ numbered x r (decimal key ∷ decimal v ∷ [])) ++ rest))
+    ≡ parsed m (in_tx h items c (ops ++ MapPut r key v ∷ [])) (k + 1) (lines_of rest)
 map_put-read m h items c ops k r key v rest f room fits value One one = absurd (number-one h structures.SumMap r f one fits.0).1
 map_put-read m h items c ops k r key v rest f room fits value Two two =
     let few = few-regions h f in
     let lt = fits.0.0 in
     let le = fits.1 in
-    step-read m (in_tx h items c ops) k (codes "mput") (decimal r ∷ decimal key ∷ decimal v ∷ []) rest (Add (MapPut r key v)) (seen (codes "mput") refl, (visible-decimal r (omega arith), (visible-decimal key (omega arith), (visible-decimal v value, tt))))
+    step-read m (in_tx h items c ops) k (codes "mput") (decimal r ∷ decimal key ∷ decimal v ∷ []) rest (Add (MapPut r key v))
+    (seen (codes "mput") refl, (visible-decimal r (omega arith), (visible-decimal key (omega arith), (visible-decimal v value, tt))))
     (map_put-two m h items c ops r key v f two room fits value) (adds-not (MapPut r key v))
 
 map_sum-read : (m : Mode) (h : Header) (items : List Item) (c : ℕ) (ops : List Op) (k r low high : ℕ) (rest : List ℕ) → HeaderFits h → length ops < MAX_OPS → KeyFits h structures.SumMap r low → high ≤ MAX_KEY
-    → (x : Version) → h.version ≡ x → parsed m (in_tx h items c ops) k (lines_of (line (codes "msum" ∷ numbered x r (decimal low ∷ decimal high ∷ [])) ++ rest)) ≡ parsed m (in_tx h items c (ops ++ MapSum r low high ∷ [])) (k + 1) (lines_of rest)
+    → (x : Version) → h.version ≡ x
+    → parsed m (in_tx h items c ops) k (lines_of (line (codes "msum" ∷ numbered x r (decimal low ∷ decimal high ∷ [])) ++ rest))
+    ≡ parsed m (in_tx h items c (ops ++ MapSum r low high ∷ [])) (k + 1) (lines_of rest)
 map_sum-read m h items c ops k r low high rest f room fits top One one = absurd (number-one h structures.SumMap r f one fits.0).1
 map_sum-read m h items c ops k r low high rest f room fits top Two two =
     let few = few-regions h f in
     let lt = fits.0.0 in
     let le = fits.1 in
-    step-read m (in_tx h items c ops) k (codes "msum") (decimal r ∷ decimal low ∷ decimal high ∷ []) rest (Add (MapSum r low high)) (seen (codes "msum") refl, (visible-decimal r (omega arith), (visible-decimal low (omega arith), (visible-decimal high (omega arith), tt))))
+    step-read m (in_tx h items c ops) k (codes "msum") (decimal r ∷ decimal low ∷ decimal high ∷ []) rest (Add (MapSum r low high)) (
+      seen (codes "msum") refl,
+      (visible-decimal r (omega arith), (visible-decimal low (omega arith), (visible-decimal high (omega arith), tt))),
+    )
     (map_sum-two m h items c ops r low high f two room fits top) (adds-not (MapSum r low high))
 
 ladd-is : IsKeyedBy (λ r key. ListInsert r key) (codes "ladd") structures.List
-ladd-is = record { visible = seen (codes "ladd") refl; kind = λ r key. refl; in_one = λ r e. first-is (λ x. ListInsert x 0) 1 r (op_of KEYED (codes "ladd")) refl e; in_two = refl; keys = λ r key. refl; places = λ r key. refl; pair = λ m d v. refl; triple = λ d a v. refl }
+ladd-is =
+    record {
+      visible = seen (codes "ladd") refl;
+      kind = λ r key. refl;
+      in_one = λ r e. first-is (λ x. ListInsert x 0) 1 r (op_of KEYED (codes "ladd")) refl e;
+      in_two = refl;
+      keys = λ r key. refl;
+      places = λ r key. refl;
+      pair = λ m d v. refl;
+      triple = λ d a v. refl;
+    }
 
 ldel-is : IsKeyedBy (λ r key. ListRemove r key) (codes "ldel") structures.List
-ldel-is = record { visible = seen (codes "ldel") refl; kind = λ r key. refl; in_one = λ r e. first-is (λ x. ListRemove x 0) 1 r (op_of KEYED (codes "ldel")) refl e; in_two = refl; keys = λ r key. refl; places = λ r key. refl; pair = λ m d v. refl; triple = λ d a v. refl }
+ldel-is =
+    record {
+      visible = seen (codes "ldel") refl;
+      kind = λ r key. refl;
+      in_one = λ r e. first-is (λ x. ListRemove x 0) 1 r (op_of KEYED (codes "ldel")) refl e;
+      in_two = refl;
+      keys = λ r key. refl;
+      places = λ r key. refl;
+      pair = λ m d v. refl;
+      triple = λ d a v. refl;
+    }
 
 lhas-is : IsKeyedBy (λ r key. ListContains r key) (codes "lhas") structures.List
-lhas-is = record { visible = seen (codes "lhas") refl; kind = λ r key. refl; in_one = λ r e. first-is (λ x. ListContains x 0) 1 r (op_of KEYED (codes "lhas")) refl e; in_two = refl; keys = λ r key. refl; places = λ r key. refl; pair = λ m d v. refl; triple = λ d a v. refl }
+lhas-is =
+    record {
+      visible = seen (codes "lhas") refl;
+      kind = λ r key. refl;
+      in_one = λ r e. first-is (λ x. ListContains x 0) 1 r (op_of KEYED (codes "lhas")) refl e;
+      in_two = refl;
+      keys = λ r key. refl;
+      places = λ r key. refl;
+      pair = λ m d v. refl;
+      triple = λ d a v. refl;
+    }
 
 hadd-is : IsKeyedBy (λ r key. HashInsert r key) (codes "hadd") structures.Hash
-hadd-is = record { visible = seen (codes "hadd") refl; kind = λ r key. refl; in_one = λ r e. first-is (λ x. HashInsert x 0) 2 r (op_of KEYED (codes "hadd")) refl e; in_two = refl; keys = λ r key. refl; places = λ r key. refl; pair = λ m d v. refl; triple = λ d a v. refl }
+hadd-is =
+    record {
+      visible = seen (codes "hadd") refl;
+      kind = λ r key. refl;
+      in_one = λ r e. first-is (λ x. HashInsert x 0) 2 r (op_of KEYED (codes "hadd")) refl e;
+      in_two = refl;
+      keys = λ r key. refl;
+      places = λ r key. refl;
+      pair = λ m d v. refl;
+      triple = λ d a v. refl;
+    }
 
 hdel-is : IsKeyedBy (λ r key. HashRemove r key) (codes "hdel") structures.Hash
-hdel-is = record { visible = seen (codes "hdel") refl; kind = λ r key. refl; in_one = λ r e. first-is (λ x. HashRemove x 0) 2 r (op_of KEYED (codes "hdel")) refl e; in_two = refl; keys = λ r key. refl; places = λ r key. refl; pair = λ m d v. refl; triple = λ d a v. refl }
+hdel-is =
+    record {
+      visible = seen (codes "hdel") refl;
+      kind = λ r key. refl;
+      in_one = λ r e. first-is (λ x. HashRemove x 0) 2 r (op_of KEYED (codes "hdel")) refl e;
+      in_two = refl;
+      keys = λ r key. refl;
+      places = λ r key. refl;
+      pair = λ m d v. refl;
+      triple = λ d a v. refl;
+    }
 
 hhas-is : IsKeyedBy (λ r key. HashContains r key) (codes "hhas") structures.Hash
-hhas-is = record { visible = seen (codes "hhas") refl; kind = λ r key. refl; in_one = λ r e. first-is (λ x. HashContains x 0) 2 r (op_of KEYED (codes "hhas")) refl e; in_two = refl; keys = λ r key. refl; places = λ r key. refl; pair = λ m d v. refl; triple = λ d a v. refl }
+hhas-is =
+    record {
+      visible = seen (codes "hhas") refl;
+      kind = λ r key. refl;
+      in_one = λ r e. first-is (λ x. HashContains x 0) 2 r (op_of KEYED (codes "hhas")) refl e;
+      in_two = refl;
+      keys = λ r key. refl;
+      places = λ r key. refl;
+      pair = λ m d v. refl;
+      triple = λ d a v. refl;
+    }
 
 tadd-is : IsKeyedBy (λ r key. TreeInsert r key) (codes "tadd") structures.Tree
-tadd-is = record { visible = seen (codes "tadd") refl; kind = λ r key. refl; in_one = λ r e. first-is (λ x. TreeInsert x 0) 3 r (op_of KEYED (codes "tadd")) refl e; in_two = refl; keys = λ r key. refl; places = λ r key. refl; pair = λ m d v. refl; triple = λ d a v. refl }
+tadd-is =
+    record {
+      visible = seen (codes "tadd") refl;
+      kind = λ r key. refl;
+      in_one = λ r e. first-is (λ x. TreeInsert x 0) 3 r (op_of KEYED (codes "tadd")) refl e;
+      in_two = refl;
+      keys = λ r key. refl;
+      places = λ r key. refl;
+      pair = λ m d v. refl;
+      triple = λ d a v. refl;
+    }
 
 tdel-is : IsKeyedBy (λ r key. TreeRemove r key) (codes "tdel") structures.Tree
-tdel-is = record { visible = seen (codes "tdel") refl; kind = λ r key. refl; in_one = λ r e. first-is (λ x. TreeRemove x 0) 3 r (op_of KEYED (codes "tdel")) refl e; in_two = refl; keys = λ r key. refl; places = λ r key. refl; pair = λ m d v. refl; triple = λ d a v. refl }
+tdel-is =
+    record {
+      visible = seen (codes "tdel") refl;
+      kind = λ r key. refl;
+      in_one = λ r e. first-is (λ x. TreeRemove x 0) 3 r (op_of KEYED (codes "tdel")) refl e;
+      in_two = refl;
+      keys = λ r key. refl;
+      places = λ r key. refl;
+      pair = λ m d v. refl;
+      triple = λ d a v. refl;
+    }
 
 thas-is : IsKeyedBy (λ r key. TreeContains r key) (codes "thas") structures.Tree
-thas-is = record { visible = seen (codes "thas") refl; kind = λ r key. refl; in_one = λ r e. first-is (λ x. TreeContains x 0) 3 r (op_of KEYED (codes "thas")) refl e; in_two = refl; keys = λ r key. refl; places = λ r key. refl; pair = λ m d v. refl; triple = λ d a v. refl }
+thas-is =
+    record {
+      visible = seen (codes "thas") refl;
+      kind = λ r key. refl;
+      in_one = λ r e. first-is (λ x. TreeContains x 0) 3 r (op_of KEYED (codes "thas")) refl e;
+      in_two = refl;
+      keys = λ r key. refl;
+      places = λ r key. refl;
+      pair = λ m d v. refl;
+      triple = λ d a v. refl;
+    }
 
 qput-is : IsKeyedBy (λ r key. QueuePut r key) (codes "qput") structures.Queue
 qput-is = record { visible = seen (codes "qput") refl; kind = λ r key. refl; in_one = λ r e. absurd e; in_two = refl; keys = λ r key. refl; places = λ r key. refl; pair = λ m d v. refl; triple = λ d a v. refl }
@@ -555,13 +666,40 @@ mget-is : IsKeyedBy (λ r key. MapGet r key) (codes "mget") structures.SumMap
 mget-is = record { visible = seen (codes "mget") refl; kind = λ r key. refl; in_one = λ r e. absurd e; in_two = refl; keys = λ r key. refl; places = λ r key. refl; pair = λ m d v. refl; triple = λ d a v. refl }
 
 total-is : IsKeylessBy (λ r. Total r) (codes "total") structures.Counter
-total-is = record { visible = seen (codes "total") refl; kind = λ r. refl; in_one = λ r e. first-is (λ x. Total x) 0 r (op_of KEYLESS (codes "total")) refl e; in_two = refl; places = λ r. refl; sole = λ m d. refl; pair = λ m d v. refl }
+total-is =
+    record {
+      visible = seen (codes "total") refl;
+      kind = λ r. refl;
+      in_one = λ r e. first-is (λ x. Total x) 0 r (op_of KEYLESS (codes "total")) refl e;
+      in_two = refl;
+      places = λ r. refl;
+      sole = λ m d. refl;
+      pair = λ m d v. refl;
+    }
 
 llen-is : IsKeylessBy (λ r. ListLength r) (codes "llen") structures.List
-llen-is = record { visible = seen (codes "llen") refl; kind = λ r. refl; in_one = λ r e. first-is (λ x. ListLength x) 1 r (op_of KEYLESS (codes "llen")) refl e; in_two = refl; places = λ r. refl; sole = λ m d. refl; pair = λ m d v. refl }
+llen-is =
+    record {
+      visible = seen (codes "llen") refl;
+      kind = λ r. refl;
+      in_one = λ r e. first-is (λ x. ListLength x) 1 r (op_of KEYLESS (codes "llen")) refl e;
+      in_two = refl;
+      places = λ r. refl;
+      sole = λ m d. refl;
+      pair = λ m d v. refl;
+    }
 
 tmin-is : IsKeylessBy (λ r. TreeLeast r) (codes "tmin") structures.Tree
-tmin-is = record { visible = seen (codes "tmin") refl; kind = λ r. refl; in_one = λ r e. first-is (λ x. TreeLeast x) 3 r (op_of KEYLESS (codes "tmin")) refl e; in_two = refl; places = λ r. refl; sole = λ m d. refl; pair = λ m d v. refl }
+tmin-is =
+    record {
+      visible = seen (codes "tmin") refl;
+      kind = λ r. refl;
+      in_one = λ r e. first-is (λ x. TreeLeast x) 3 r (op_of KEYLESS (codes "tmin")) refl e;
+      in_two = refl;
+      places = λ r. refl;
+      sole = λ m d. refl;
+      pair = λ m d v. refl;
+    }
 
 qget-is : IsKeylessBy (λ r. QueueGet r) (codes "qget") structures.Queue
 qget-is = record { visible = seen (codes "qget") refl; kind = λ r. refl; in_one = λ r e. absurd e; in_two = refl; places = λ r. refl; sole = λ m d. refl; pair = λ m d v. refl }

@@ -205,7 +205,11 @@ move-fits d a b v =
     let w = d.header.words in
     let P : Op → Type 0 = λ op. OpFits g op × IsAllowed (has_irrev d.ops) op in
     let Q : ℕ → Type 0 = λ k. (k < w) × IsFree g k in
-    then-gives (λ n. n < 2 ^ 64) P (formed (number_of a)) (λ i. formed (number_of b) >>= λ j. formed (number_of v) >>= λ n. below w i >>= λ x. below w j >>= λ y. plain g x >>= λ s. plain g y >>= λ t. Ok (Move s t n)) (formed-fits a)
+    then-gives (λ n. n < 2 ^ 64) P (formed (number_of a))
+    (λ i.
+    formed (number_of b) >>= λ j.
+    formed (number_of v) >>= λ n. below w i >>= λ x. below w j >>= λ y. plain g x >>= λ s. plain g y >>= λ t. Ok (Move s t n))
+    (formed-fits a)
     (λ i h. then-gives (λ n. n < 2 ^ 64) P (formed (number_of b)) (λ j. formed (number_of v) >>= λ n. below w i >>= λ x. below w j >>= λ y. plain g x >>= λ s. plain g y >>= λ t. Ok (Move s t n)) (formed-fits b)
     (λ j k. then-gives (λ n. n < 2 ^ 64) P (formed (number_of v)) (λ n. below w i >>= λ x. below w j >>= λ y. plain g x >>= λ s. plain g y >>= λ t. Ok (Move s t n)) (formed-fits v)
     (λ n fits. then-gives (λ x. x < w) P (below w i) (λ x. below w j >>= λ y. plain g x >>= λ s. plain g y >>= λ t. Ok (Move s t n)) (below-fits w i)
@@ -246,11 +250,42 @@ FitsKeyed h op = (key : ℕ) → key ≤ MAX_KEY → IsStructured h (with_key ke
 keyed-fits : (h : Header) (w v : List ℕ) → Gives (IsStructured h) (keyed w v)
 keyed-fits h w v =
     then-gives (FitsKeyed h) (IsStructured h) (op_of KEYED w) (λ op. number 0 MAX_KEY v >>= λ key. Ok (with_key key op))
-    (op_of-gives (FitsKeyed h) KEYED w ((λ e key le. ((λ has. (has-structure h structures.List 1 has, le)), (λ asked. tt))), ((λ e key le. ((λ has. (has-structure h structures.List 1 has, le)), (λ asked. tt))), ((λ e key le. ((λ has. (has-structure h structures.List 1 has, le)), (λ asked. tt))), ((λ e key le. ((λ has. (has-structure h structures.Hash 2 has, le)), (λ asked. tt))), ((λ e key le. ((λ has. (has-structure h structures.Hash 2 has, le)), (λ asked. tt))), ((λ e key le. ((λ has. (has-structure h structures.Hash 2 has, le)), (λ asked. tt))), ((λ e key le. ((λ has. (has-structure h structures.Tree 3 has, le)), (λ asked. tt))), ((λ e key le. ((λ has. (has-structure h structures.Tree 3 has, le)), (λ asked. tt))), ((λ e key le. ((λ has. (has-structure h structures.Tree 3 has, le)), (λ asked. tt))), tt))))))))))
+    (op_of-gives (FitsKeyed h) KEYED w (
+      (λ e key le. ((λ has. (has-structure h structures.List 1 has, le)), (λ asked. tt))),
+      (
+        (λ e key le. ((λ has. (has-structure h structures.List 1 has, le)), (λ asked. tt))),
+        (
+          (λ e key le. ((λ has. (has-structure h structures.List 1 has, le)), (λ asked. tt))),
+          (
+            (λ e key le. ((λ has. (has-structure h structures.Hash 2 has, le)), (λ asked. tt))),
+            (
+              (λ e key le. ((λ has. (has-structure h structures.Hash 2 has, le)), (λ asked. tt))),
+              (
+                (λ e key le. ((λ has. (has-structure h structures.Hash 2 has, le)), (λ asked. tt))),
+                (
+                  (λ e key le. ((λ has. (has-structure h structures.Tree 3 has, le)), (λ asked. tt))),
+                  (
+                    (λ e key le. ((λ has. (has-structure h structures.Tree 3 has, le)), (λ asked. tt))),
+                    ((λ e key le. ((λ has. (has-structure h structures.Tree 3 has, le)), (λ asked. tt))), tt),
+                  ),
+                ),
+              ),
+            ),
+          ),
+        ),
+      ),
+    ))
     (λ op each. then-gives (λ k. (0 ≤ k) × (k ≤ MAX_KEY)) (IsStructured h) (number 0 MAX_KEY v) (λ key. Ok (with_key key op)) (number-within 0 MAX_KEY v) (λ key k. each key k.1))
 
 keyless-fits : (h : Header) (w : List ℕ) → Gives (IsStructured h) (op_of KEYLESS w)
-keyless-fits h w = op_of-gives (IsStructured h) KEYLESS w ((λ e. ((λ has. has-structure h structures.Counter 0 has), (λ asked. tt))), ((λ e. ((λ has. has-structure h structures.List 1 has), (λ asked. tt))), ((λ e. ((λ has. has-structure h structures.Tree 3 has), (λ asked. tt))), tt)))
+keyless-fits h w =
+    op_of-gives (IsStructured h) KEYLESS w (
+      (λ e. ((λ has. has-structure h structures.Counter 0 has), (λ asked. tt))),
+      (
+        (λ e. ((λ has. has-structure h structures.List 1 has), (λ asked. tt))),
+        ((λ e. ((λ has. has-structure h structures.Tree 3 has), (λ asked. tt))), tt),
+      ),
+    )
 
 -- an operation that fits on any region, with any key
 abbrev FitsPlaced : Header → Op → Type 0
@@ -260,9 +295,48 @@ placed_keyed-sound : (m : Mode) (d : Writing) (w a v : List ℕ) → Sound m d �
 placed_keyed-sound m d w a v s at e =
     let P : Step → Type 0 = Leaves m d in
     let h : Header = d.header in
-    then-gives (FitsPlaced h) P (op_of PLACED_KEYED w) (λ op. formed (number_of a) >>= λ i. formed (number_of v) >>= λ n. region_number d i >>= λ r. ranged 0 MAX_KEY n >>= λ key. structured d (with_key key (with_region r op)))
-    (op_of-gives (FitsPlaced h) PLACED_KEYED w ((λ e r key le. ((λ has. (has-structure h structures.List r has, le)), (λ asked. tt))), ((λ e r key le. ((λ has. (has-structure h structures.List r has, le)), (λ asked. tt))), ((λ e r key le. ((λ has. (has-structure h structures.List r has, le)), (λ asked. tt))), ((λ e r key le. ((λ has. (has-structure h structures.Hash r has, le)), (λ asked. tt))), ((λ e r key le. ((λ has. (has-structure h structures.Hash r has, le)), (λ asked. tt))), ((λ e r key le. ((λ has. (has-structure h structures.Hash r has, le)), (λ asked. tt))), ((λ e r key le. ((λ has. (has-structure h structures.Tree r has, le)), (λ asked. tt))), ((λ e r key le. ((λ has. (has-structure h structures.Tree r has, le)), (λ asked. tt))), ((λ e r key le. ((λ has. (has-structure h structures.Tree r has, le)), (λ asked. tt))), ((λ e r key le. ((λ has. (has-structure h structures.Queue r has, le)), (λ asked. tt))), ((λ e r key le. ((λ has. (has-structure h structures.SumMap r has, le)), (λ asked. tt))), ((λ e r key le. ((λ has. (has-structure h structures.SumMap r has, le)), (λ asked. tt))), tt)))))))))))))
-    (λ op each. then-gives (λ n. n < 2 ^ 64) P (formed (number_of a)) (λ i. formed (number_of v) >>= λ n. region_number d i >>= λ r. ranged 0 MAX_KEY n >>= λ key. structured d (with_key key (with_region r op))) (formed-fits a)
+    then-gives (FitsPlaced h) P (op_of PLACED_KEYED w) (λ op.
+    formed (number_of a) >>= λ i.
+    formed (number_of v) >>= λ n. region_number d i >>= λ r. ranged 0 MAX_KEY n >>= λ key. structured d (with_key key (with_region r op)))
+    (op_of-gives (FitsPlaced h) PLACED_KEYED w (
+      (λ e r key le. ((λ has. (has-structure h structures.List r has, le)), (λ asked. tt))),
+      (
+        (λ e r key le. ((λ has. (has-structure h structures.List r has, le)), (λ asked. tt))),
+        (
+          (λ e r key le. ((λ has. (has-structure h structures.List r has, le)), (λ asked. tt))),
+          (
+            (λ e r key le. ((λ has. (has-structure h structures.Hash r has, le)), (λ asked. tt))),
+            (
+              (λ e r key le. ((λ has. (has-structure h structures.Hash r has, le)), (λ asked. tt))),
+              (
+                (λ e r key le. ((λ has. (has-structure h structures.Hash r has, le)), (λ asked. tt))),
+                (
+                  (λ e r key le. ((λ has. (has-structure h structures.Tree r has, le)), (λ asked. tt))),
+                  (
+                    (λ e r key le. ((λ has. (has-structure h structures.Tree r has, le)), (λ asked. tt))),
+                    (
+                      (λ e r key le. ((λ has. (has-structure h structures.Tree r has, le)), (λ asked. tt))),
+                      (
+                        (λ e r key le. ((λ has. (has-structure h structures.Queue r has, le)), (λ asked. tt))),
+                        (
+                          (λ e r key le. ((λ has. (has-structure h structures.SumMap r has, le)), (λ asked. tt))),
+                          ((λ e r key le. ((λ has. (has-structure h structures.SumMap r has, le)), (λ asked. tt))), tt),
+                        ),
+                      ),
+                    ),
+                  ),
+                ),
+              ),
+            ),
+          ),
+        ),
+      ),
+    ))
+    (λ op each.
+    then-gives (λ n. n < 2 ^ 64) P (formed (number_of a))
+    (λ i.
+    formed (number_of v) >>= λ n. region_number d i >>= λ r. ranged 0 MAX_KEY n >>= λ key. structured d (with_key key (with_region r op)))
+    (formed-fits a)
     (λ i l. then-gives (λ n. n < 2 ^ 64) P (formed (number_of v)) (λ n. region_number d i >>= λ r. ranged 0 MAX_KEY n >>= λ key. structured d (with_key key (with_region r op))) (formed-fits v)
     (λ n k. then-gives (λ r. r < length h.regions) P (region_number d i) (λ r. ranged 0 MAX_KEY n >>= λ key. structured d (with_key key (with_region r op))) (below-fits (length h.regions) i)
     (λ r lt. then-gives (λ key. (0 ≤ key) × (key ≤ MAX_KEY)) P (ranged 0 MAX_KEY n) (λ key. structured d (with_key key (with_region r op))) (ranged-fits 0 MAX_KEY n)
@@ -274,7 +348,16 @@ placed_keyless-sound m d w v s at e =
     let h : Header = d.header in
     let Q : Op → Type 0 = λ op. (r : ℕ) → IsStructured h (with_region r op) in
     then-gives Q P (op_of PLACED_KEYLESS w) (λ op. formed (number_of v) >>= region_number d >>= λ r. structured d (with_region r op))
-    (op_of-gives Q PLACED_KEYLESS w ((λ e r. ((λ has. has-structure h structures.Counter r has), (λ asked. tt))), ((λ e r. ((λ has. has-structure h structures.List r has), (λ asked. tt))), ((λ e r. ((λ has. has-structure h structures.Tree r has), (λ asked. tt))), ((λ e r. ((λ has. has-structure h structures.Queue r has), (λ asked. tt))), tt)))))
+    (op_of-gives Q PLACED_KEYLESS w (
+      (λ e r. ((λ has. has-structure h structures.Counter r has), (λ asked. tt))),
+      (
+        (λ e r. ((λ has. has-structure h structures.List r has), (λ asked. tt))),
+        (
+          (λ e r. ((λ has. has-structure h structures.Tree r has), (λ asked. tt))),
+          ((λ e r. ((λ has. has-structure h structures.Queue r has), (λ asked. tt))), tt),
+        ),
+      ),
+    ))
     (λ op each. then-gives (λ r. r < length h.regions) P (formed (number_of v) >>= region_number d) (λ r. structured d (with_region r op))
     (then-gives (λ n. n < 2 ^ 64) (λ r. r < length h.regions) (formed (number_of v)) (region_number d) (formed-fits v) (λ n l. below-fits (length h.regions) n))
     (λ r lt. structured-sound m d (with_region r op) s at e (each r)))
@@ -482,7 +565,8 @@ ended-is_parsed : (m : Mode) (d : Writing) (k : ℕ) (ls : List Line) → Sound 
 ended-is_parsed m d k [] s = record { header = s.header; count = s.count; items = s.items; schedule = s.schedule }
 ended-is_parsed m d k (l ∷ ls) s = tt
 
-go_on-is_parsed : (m : Mode) (d : Writing) (k : ℕ) (ls : List Line) (r : Result Step ℕ) (rest : Writing → Result Workload (ℕ × ℕ)) → Gives (Leaves m d) r → Sound m d → ((e : Writing) → Sound m e → Gives (IsParsed m) (rest e))
+go_on-is_parsed : (m : Mode) (d : Writing) (k : ℕ) (ls : List Line) (r : Result Step ℕ) (rest : Writing → Result Workload (ℕ × ℕ))
+    → Gives (Leaves m d) r → Sound m d → ((e : Writing) → Sound m e → Gives (IsParsed m) (rest e))
     → Gives (IsParsed m) (go_on r d k ls rest)
 go_on-is_parsed m d k ls (Err c) rest h s g = tt
 go_on-is_parsed m d k ls (Ok Done) rest h s g = ended-is_parsed m d (k + 1) ls s

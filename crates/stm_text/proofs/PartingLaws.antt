@@ -181,7 +181,12 @@ gone-line text s at i r lacks cut lt other h =
       gone = h.gone ++ (take i s ++ 10 ∷ []);
       whole = h.whole ∙ (ap (λ t. h.gone ++ t) (cut-at i s 10 r cut ∙ sym (append_assoc (take i s) (10 ∷ []) r)) ∙ sym (append_assoc h.gone (take i s ++ 10 ∷ []) r));
       count = omega arith;
-      parted = h.parted ∙ (ap (behind h.gone) p ∙ ap (both (parted_by [] r).1) (ap (λ t. h.gone ++ t) (sym (append_assoc (take i s) (10 ∷ []) (parted_by [] r).0)) ∙ sym (append_assoc h.gone (take i s ++ 10 ∷ []) (parted_by [] r).0)));
+      parted =
+          h.parted
+          ∙ (ap (behind h.gone) p
+          ∙ ap (both (parted_by [] r).1)
+          (ap (λ t. h.gone ++ t) (sym (append_assoc (take i s) (10 ∷ []) (parted_by [] r).0))
+          ∙ sym (append_assoc h.gone (take i s ++ 10 ∷ []) (parted_by [] r).0)));
     }
 
 pub gone-done : (text s : List ℕ) (at i : ℕ) (r : List ℕ) → Lacks 10 (take i s) → drop i s ≡ 10 ∷ r → i < length s → bytes_eq (take i s) (codes "done") ≡ true → Gone text s at

@@ -111,7 +111,8 @@ row-cut r s x y fr fs is =
     let st : List ℕ = spaced s.replies ++ sy in
     let whole = sym (row-first r x) ∙ (is ∙ row-first s y) in
     let letter = letter-cut r.kind s.kind (spaced rn ++ (32 ∷ 58 ∷ rt)) (spaced sn ++ (32 ∷ 58 ∷ st)) whole in
-    let numbers = spaced-cut rn sn (32 ∷ 58 ∷ rt) (32 ∷ 58 ∷ st) (three-words r.place r.caller r.seq fr.place fr.caller fr.seq) (three-words s.place s.caller s.seq fs.place fs.caller fs.seq) (colon-end rt) (colon-end st) letter.1 in
+    let numbers = spaced-cut rn sn (32 ∷ 58 ∷ rt) (32 ∷ 58 ∷ st) (three-words r.place r.caller r.seq fr.place fr.caller fr.seq)
+    (three-words s.place s.caller s.seq fs.place fs.caller fs.seq) (colon-end rt) (colon-end st) letter.1 in
     let colon = (head-same 58 58 rt st (head-same 32 32 (58 ∷ rt) (58 ∷ st) numbers.1).1).1 in
     let replies = spaced-cut r.replies s.replies rx sy fr.replies fs.replies (emitted-end r.emits x) (emitted-end s.emits y) colon in
     let emits = emitted-cut r.emits s.emits x y fr.emits fs.emits replies.1 in
@@ -189,7 +190,8 @@ memory-cut (p ∷ ps) (q ∷ qs) ap' aq is =
     after-mem : (u v : List ℕ) → codes "mem" ++ u ≡ codes "mem" ++ v → u ≡ v
     after-mem u v is = cc
 
-report-same : (rows rows' : List Row) (memory memory' : List (ℕ × ℕ)) → rows ≡ rows' → memory ≡ memory' → (let report : Report = record { rows = rows; memory = memory } in report) ≡ record { rows = rows'; memory = memory' }
+report-same : (rows rows' : List Row) (memory memory' : List (ℕ × ℕ)) → rows ≡ rows' → memory ≡ memory'
+    → (let report : Report = record { rows = rows; memory = memory } in report) ≡ record { rows = rows'; memory = memory' }
 report-same rows rows' memory memory' h g = cc
 
 memory-low : (ps : List (ℕ × ℕ)) → NoRow (memory_lines ps ++ codes "end\n")

@@ -32,7 +32,8 @@ use Rattle.stm_text.proofs.OpTextLaws.{line-read, step-read, filled-decimal, for
 use Rattle.stm_text.proofs.HeaderTextLaws.{visible-name, filled-name, algorithm-name, head-read}
 
 -- the lines of operations
-ops-read : (m : Mode) (h : Header) (items : List Item) (c : ℕ) (before : List Op) (k : ℕ) (ops : List Op) (more : List (List (List ℕ))) → HeaderFits h → length before + length ops ≤ MAX_OPS → All (OpFits h) ops → AreInOrder (has_irrev before) ops
+ops-read : (m : Mode) (h : Header) (items : List Item) (c : ℕ) (before : List Op) (k : ℕ) (ops : List Op) (more : List (List (List ℕ)))
+    → HeaderFits h → length before + length ops ≤ MAX_OPS → All (OpFits h) ops → AreInOrder (has_irrev before) ops
     → (j : ℕ) × (parsed m (in_tx h items c before) k (lines_of (lines_text (map (op_words h.version) ops ++ more))) ≡ parsed m (in_tx h items c (before ++ ops)) j (lines_of (lines_text more)))
 ops-read m h items c before k [] more f room fits order =
     (k, ap (λ o. parsed m (in_tx h items c o) k (lines_of (lines_text more))) (sym (append-nil before)))
@@ -83,7 +84,8 @@ lengthen-not : (c reads writes : ℕ) → Lengthen c reads writes ≢ Done
 lengthen-not c reads writes e = cc
 
 reserve-read : (m : Mode) (h : Header) (items : List Item) (c k caller reads writes : ℕ) (rest : List ℕ) → HeaderFits h → ItemFits h (Reserve caller reads writes) → length items < MAX_ITEMS
-    → parsed m (between h items c) k (lines_of (line (codes "reserve" ∷ decimal caller ∷ decimal reads ∷ decimal writes ∷ []) ++ rest)) ≡ parsed m (between h (items ++ Reserve caller reads writes ∷ []) c) (k + 1) (lines_of rest)
+    → parsed m (between h items c) k (lines_of (line (codes "reserve" ∷ decimal caller ∷ decimal reads ∷ decimal writes ∷ []) ++ rest))
+    ≡ parsed m (between h (items ++ Reserve caller reads writes ∷ []) c) (k + 1) (lines_of rest)
 reserve-read m h items c k caller reads writes rest f here room =
     let d : Writing = between h items c in
     let all : ℕ = h.callers in
@@ -101,7 +103,9 @@ reserve-read m h items c k caller reads writes rest f here room =
     ∙ (ap (λ r. r >>= λ a. ranged 1 MAX_LOG reads >>= λ b. ranged 1 MAX_LOG writes >>= λ e. lengthened d a b e) (below-end all caller within)
     ∙ (ap (λ r. r >>= λ b. ranged 1 MAX_LOG writes >>= λ e. lengthened d caller b e) (ranged-within 1 MAX_LOG reads here.1.0 most)
     ∙ (ap (λ r. r >>= λ e. lengthened d caller reads e) (ranged-within 1 MAX_LOG writes here.2.0 top) ∙ lengthened-room d caller reads writes room))))) in
-    step-read m d k (codes "reserve") (decimal caller ∷ decimal reads ∷ decimal writes ∷ []) rest (Lengthen caller reads writes) (seen (codes "reserve") refl, (visible-decimal caller x, (visible-decimal reads y, (visible-decimal writes z, tt)))) words (lengthen-not caller reads writes)
+    step-read m d k (codes "reserve") (decimal caller ∷ decimal reads ∷ decimal writes ∷ []) rest (Lengthen caller reads writes)
+    (seen (codes "reserve") refl, (visible-decimal caller x, (visible-decimal reads y, (visible-decimal writes z, tt)))) words
+    (lengthen-not caller reads writes)
 
 -- the lines of items
 items-read : (m : Mode) (h : Header) (before : List Item) (c k : ℕ) (items : List Item) (more : List (List (List ℕ))) → HeaderFits h → length before + length items ≤ MAX_ITEMS → All (ItemFits h) items
@@ -135,7 +139,9 @@ items-read m h before c k (Switch caller alg ∷ items) more f room fits =
     )
 items-read m h before c k (Reserve caller reads writes ∷ items) more f room fits =
     let here = All-head (ItemFits h) (Reserve caller reads writes) items fits in
-    let next = items-read m h (before ++ Reserve caller reads writes ∷ []) c (k + 1) items more f (omega (arith, length-append before (Reserve caller reads writes ∷ []))) (All-tail (ItemFits h) (Reserve caller reads writes) items fits) in (
+    let next = items-read m h (before ++ Reserve caller reads writes ∷ []) c (k + 1) items more f
+    (omega (arith, length-append before (Reserve caller reads writes ∷ [])))
+    (All-tail (ItemFits h) (Reserve caller reads writes) items fits) in (
       next.0,
       next.1,
       reserve-read m h before c k caller reads writes (lines_text (items_lines h.version items ++ more)) f here (omega arith)
@@ -179,7 +185,8 @@ go-read m h items c gos all k go rest few fits room =
     filled-decimal go.caller (filled (decimal go.turns) three) small
     ∙ (filled-decimal go.turns three turns
     ∙ (ap (λ r. r >>= planned d) (go_of-decimal d go fits small) ∙ planned-room d go room)) in
-    step-read m d k (codes "go") (decimal go.caller ∷ decimal go.turns ∷ []) rest (Turn go (all + go.turns)) (seen (codes "go") refl, (visible-decimal go.caller small, (visible-decimal go.turns turns, tt))) words (turn-not go (all + go.turns))
+    step-read m d k (codes "go") (decimal go.caller ∷ decimal go.turns ∷ []) rest (Turn go (all + go.turns))
+    (seen (codes "go") refl, (visible-decimal go.caller small, (visible-decimal go.turns turns, tt))) words (turn-not go (all + go.turns))
 
 -- the lines of turns, and `done`
 gos-read : (m : Mode) (h : Header) (items : List Item) (c : ℕ) (before : List Go) (all k : ℕ) (gos : List Go) → h.callers ≤ MAX_CALLERS → All (GoFits h) gos → all + all_turns gos ≤ MAX_TURNS

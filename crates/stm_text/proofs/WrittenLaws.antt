@@ -232,7 +232,22 @@ keyed-says : (w v : List ℕ) → Gives (λ op. op_words One op ≡ w ∷ v ∷ 
 keyed-says w v =
     let P : Op → Type 0 = λ op. op_words One op ≡ w ∷ v ∷ [] in
     then-gives (IsKeyed w) P (op_of KEYED w) (λ op. number 0 MAX_KEY v >>= λ key. Ok (with_key key op))
-    (op_of-gives (IsKeyed w) KEYED w (name-key (codes "ladd") w, (name-key (codes "ldel") w, (name-key (codes "lhas") w, (name-key (codes "hadd") w, (name-key (codes "hdel") w, (name-key (codes "hhas") w, (name-key (codes "tadd") w, (name-key (codes "tdel") w, (name-key (codes "thas") w, tt))))))))))
+    (op_of-gives (IsKeyed w) KEYED w (
+      name-key (codes "ladd") w,
+      (
+        name-key (codes "ldel") w,
+        (
+          name-key (codes "lhas") w,
+          (
+            name-key (codes "hadd") w,
+            (
+              name-key (codes "hdel") w,
+              (name-key (codes "hhas") w, (name-key (codes "tadd") w, (name-key (codes "tdel") w, (name-key (codes "thas") w, tt)))),
+            ),
+          ),
+        ),
+      ),
+    ))
     (λ op each. then-gives (λ k. v ≡ decimal k) P (number 0 MAX_KEY v) (λ key. Ok (with_key key op)) (number-says 0 MAX_KEY v) (λ key is. each key ∙ ap (λ x. w ∷ x ∷ []) (sym is)))
 
 -- an operation whose line in version 2 is this word, a region and a key
@@ -246,9 +261,39 @@ placed_keyed-grows : (d : Writing) (w a v : List ℕ) → d.place ≡ Ops → d.
 placed_keyed-grows d w a v e two =
     let ws : List (List ℕ) = w ∷ a ∷ v ∷ [] in
     let P : Step → Type 0 = Grows Ops d ws in
-    then-gives (IsPlaced w) P (op_of PLACED_KEYED w) (λ op. formed (number_of a) >>= λ i. formed (number_of v) >>= λ n. region_number d i >>= λ r. ranged 0 MAX_KEY n >>= λ key. structured d (with_key key (with_region r op)))
-    (op_of-gives (IsPlaced w) PLACED_KEYED w (name-place (codes "ladd") w, (name-place (codes "ldel") w, (name-place (codes "lhas") w, (name-place (codes "hadd") w, (name-place (codes "hdel") w, (name-place (codes "hhas") w, (name-place (codes "tadd") w, (name-place (codes "tdel") w, (name-place (codes "thas") w, (name-place (codes "qput") w, (name-place (codes "mdel") w, (name-place (codes "mget") w, tt)))))))))))))
-    (λ op each. then-gives (λ n. a ≡ decimal n) P (formed (number_of a)) (λ i. formed (number_of v) >>= λ n. region_number d i >>= λ r. ranged 0 MAX_KEY n >>= λ key. structured d (with_key key (with_region r op))) (formed-says a)
+    then-gives (IsPlaced w) P (op_of PLACED_KEYED w) (λ op.
+    formed (number_of a) >>= λ i.
+    formed (number_of v) >>= λ n. region_number d i >>= λ r. ranged 0 MAX_KEY n >>= λ key. structured d (with_key key (with_region r op)))
+    (op_of-gives (IsPlaced w) PLACED_KEYED w (
+      name-place (codes "ladd") w,
+      (
+        name-place (codes "ldel") w,
+        (
+          name-place (codes "lhas") w,
+          (
+            name-place (codes "hadd") w,
+            (
+              name-place (codes "hdel") w,
+              (
+                name-place (codes "hhas") w,
+                (
+                  name-place (codes "tadd") w,
+                  (
+                    name-place (codes "tdel") w,
+                    (name-place (codes "thas") w, (name-place (codes "qput") w, (name-place (codes "mdel") w, (name-place (codes "mget") w, tt)))),
+                  ),
+                ),
+              ),
+            ),
+          ),
+        ),
+      ),
+    ))
+    (λ op each.
+    then-gives (λ n. a ≡ decimal n) P (formed (number_of a))
+    (λ i.
+    formed (number_of v) >>= λ n. region_number d i >>= λ r. ranged 0 MAX_KEY n >>= λ key. structured d (with_key key (with_region r op)))
+    (formed-says a)
     (λ i x. then-gives (λ n. v ≡ decimal n) P (formed (number_of v)) (λ n. region_number d i >>= λ r. ranged 0 MAX_KEY n >>= λ key. structured d (with_key key (with_region r op))) (formed-says v)
     (λ n y. then-gives (λ r. a ≡ decimal r) P (region_number d i) (λ r. ranged 0 MAX_KEY n >>= λ key. structured d (with_key key (with_region r op))) (below-says (length d.header.regions) i a x)
     (λ r z. then-gives (λ key. v ≡ decimal key) P (ranged 0 MAX_KEY n) (λ key. structured d (with_key key (with_region r op))) (ranged-says 0 MAX_KEY n v y)
@@ -264,7 +309,16 @@ placed_keyless-grows d w v e two =
     let P : Step → Type 0 = Grows Ops d ws in
     let Q : ℕ → Type 0 = λ n. v ≡ decimal n in
     then-gives (IsAlone w) P (op_of PLACED_KEYLESS w) (λ op. formed (number_of v) >>= region_number d >>= λ r. structured d (with_region r op))
-    (op_of-gives (IsAlone w) PLACED_KEYLESS w ((λ p r. two-are (codes "total") (decimal r) w (decimal r) p refl), ((λ p r. two-are (codes "llen") (decimal r) w (decimal r) p refl), ((λ p r. two-are (codes "tmin") (decimal r) w (decimal r) p refl), ((λ p r. two-are (codes "qget") (decimal r) w (decimal r) p refl), tt)))))
+    (op_of-gives (IsAlone w) PLACED_KEYLESS w (
+      (λ p r. two-are (codes "total") (decimal r) w (decimal r) p refl),
+      (
+        (λ p r. two-are (codes "llen") (decimal r) w (decimal r) p refl),
+        (
+          (λ p r. two-are (codes "tmin") (decimal r) w (decimal r) p refl),
+          ((λ p r. two-are (codes "qget") (decimal r) w (decimal r) p refl), tt),
+        ),
+      ),
+    ))
     (λ op each. then-gives Q P (formed (number_of v) >>= region_number d) (λ r. structured d (with_region r op))
     (then-gives Q Q (formed (number_of v)) (region_number d) (formed-says v) (λ n is. below-says (length d.header.regions) n v is))
     (λ r is. structured-grows d ws (with_region r op) Two e two (each r ∙ two-are w (decimal r) w v refl is)))
@@ -407,7 +461,10 @@ region-grows : (m : Mode) (d : Writing) (w k a v : List ℕ) → At m RegionLine
 region-grows m d w k a v at name =
     let ws : List (List ℕ) = w ∷ k ∷ a ∷ v ∷ [] in
     let P : Step → Type 0 = Grows RegionLine d ws in
-    then-gives (λ s. k ≡ kind_name s) P (kind_of KINDS k) (λ kind. formed (number_of a) >>= λ start. formed (number_of v) >>= λ n. ranged 1 (most_size kind) n >>= λ size. placed d (region_for kind start size)) (kind_of-says KINDS k)
+    then-gives (λ s. k ≡ kind_name s) P (kind_of KINDS k)
+    (λ kind.
+    formed (number_of a) >>= λ start.
+    formed (number_of v) >>= λ n. ranged 1 (most_size kind) n >>= λ size. placed d (region_for kind start size)) (kind_of-says KINDS k)
     (λ kind x. then-gives (λ n. a ≡ decimal n) P (formed (number_of a)) (λ start. formed (number_of v) >>= λ n. ranged 1 (most_size kind) n >>= λ size. placed d (region_for kind start size)) (formed-says a)
     (λ start y. then-gives (λ n. v ≡ decimal n) P (formed (number_of v)) (λ n. ranged 1 (most_size kind) n >>= λ size. placed d (region_for kind start size)) (formed-says v)
     (λ n z. then-gives (λ size. v ≡ decimal size) P (ranged 1 (most_size kind) n) (λ size. placed d (region_for kind start size)) (ranged-says 1 (most_size kind) n v z)
@@ -459,7 +516,8 @@ changed-grows d c alg w a v e p q r =
     if-gives (Grows Items d (w ∷ a ∷ v ∷ [])) (ltb (length d.items) MAX_ITEMS) (Ok (Change c alg)) 10
     (λ _. (e, change-grows d c alg ∙ ap (λ x. written_at Items d ++ x ∷ []) (three-are (codes "switch") (decimal c) (alg_name alg) w a v p q r)))
 
-lengthened-grows : (d : Writing) (c reads writes : ℕ) (w a b v : List ℕ) → d.place ≡ Items → w ≡ codes "reserve" → a ≡ decimal c → b ≡ decimal reads → v ≡ decimal writes → Gives (Grows Items d (w ∷ a ∷ b ∷ v ∷ [])) (lengthened d c reads writes)
+lengthened-grows : (d : Writing) (c reads writes : ℕ) (w a b v : List ℕ) → d.place ≡ Items → w ≡ codes "reserve" → a ≡ decimal c
+    → b ≡ decimal reads → v ≡ decimal writes → Gives (Grows Items d (w ∷ a ∷ b ∷ v ∷ [])) (lengthened d c reads writes)
 lengthened-grows d c reads writes w a b v e p q r t =
     if-gives (Grows Items d (w ∷ a ∷ b ∷ v ∷ [])) (ltb (length d.items) MAX_ITEMS) (Ok (Lengthen c reads writes)) 10
     (λ _. (e, lengthen-grows d c reads writes ∙ ap (λ x. written_at Items d ++ x ∷ []) (four-are (codes "reserve") (decimal c) (decimal reads) (decimal writes) w a b v p q r t)))
@@ -577,7 +635,8 @@ Meets before ls lines = map made before ++ ls ≡ map made lines
 abbrev IsWhole : Mode → List (List (List ℕ)) → List Line → Workload → Type 0
 IsWhole m before ls w = (lines : List (List (List ℕ))) × AreLinesOf m w lines × Meets before ls lines
 
-meets-step : (before after' : List (List (List ℕ))) (l : Line) (ls : List Line) (lines : List (List (List ℕ))) → l.ended ≡ true → after' ≡ before ++ words_of l.bytes ∷ [] → Meets after' ls lines → Meets before (l ∷ ls) lines
+meets-step : (before after' : List (List (List ℕ))) (l : Line) (ls : List Line) (lines : List (List (List ℕ))) → l.ended ≡ true
+    → after' ≡ before ++ words_of l.bytes ∷ [] → Meets after' ls lines → Meets before (l ∷ ls) lines
 meets-step before after' l ls lines e grows whole =
     ap (λ x. map made before ++ x ∷ ls) (line-made l e)
     ∙ (sym (append_assoc (map made before) (made (words_of l.bytes) ∷ []) ls)

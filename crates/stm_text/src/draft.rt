@@ -364,7 +364,8 @@ impl Draft {
 
     /// The workload that is read.
     pub fn into_workload(self) -> Workload
-        ensures { result ≡ record { header = self.header; items = self.items; schedule = self.schedule } }
+        ensures { result
+            ≡ record { header = self.header; items = self.items; schedule = self.schedule } }
     {
         let Draft {
             place: _,

@@ -48,10 +48,15 @@ pub fn first_word(s: &[u8]) -> (usize, End)
     ensures visible { Visible (take result.0 s.now) }
     ensures end { EndsBy result.1 result.0 s.now }
 {
-    match near_end(s) {
-        Some(i) => (i, end_of(s[i])),
-        None => long_word(s),
+    // a branch for each of the two usual ends goes on at once to what follows it; the others go the long way
+    if let Some(i) = near_end(s) {
+        match s[i] {
+            b' ' => return (i, End::Space),
+            b'\n' => return (i, End::Line),
+            _ => {}
+        }
     }
+    long_word(s)
 }
 
 /// How many bytes are looked at together.
@@ -60,7 +65,8 @@ const LANES: usize = 16;
 /// The length of the first word, where it ends within so many bytes and as many are there.
 #[inline(always)]
 fn near_end(s: &[u8]) -> Option<usize>
-    ensures { IfSome result (λ i. (i < length s.now) × Visible (take i s.now) × (is_visible (slice_index s.now i) ≡ false)) }
+    ensures { IfSome result (λ i.
+        (i < length s.now) × Visible (take i s.now) × (is_visible (slice_index s.now i) ≡ false)) }
 {
     if s.len() < LANES {
         return None;
@@ -76,7 +82,8 @@ fn near_end(s: &[u8]) -> Option<usize>
 #[inline(always)]
 fn ends(s: &[u8]) -> u64
     requires { 16 ≤ length s.now }
-    ensures { (k : ℕ) → (bit_at result k ≡ 1) ↔ ((k < 16) × (is_visible (slice_index s.now k) ≡ false)) }
+    ensures { (k : ℕ) → (bit_at result k ≡ 1)
+        ↔ ((k < 16) × (is_visible (slice_index s.now k) ≡ false)) }
 {
     // less 127, which wraps below it, those of a word are the numbers from 162 on
     let turned = u8x16::from_slice(s) - u8x16::splat(127);
@@ -130,7 +137,17 @@ fn end_of(b: u8) -> End
 pub fn is(word: &[u8], name: &[u8]) -> bool
     ensures { result ≡ bytes_eq word.now name.now }
 {
-    word.len() == name.len() && name.starts_with(word)
+    if word.len() != name.len() {
+        return false;
+    }
+    for i in 0..name.len() {
+        let found = word[i];
+        let wanted = name[i];
+        if found != wanted {
+            return false;
+        }
+    }
+    true
 }
 
 /// The number that a word is: decimal, without sign and leading zeros, below 2^64.

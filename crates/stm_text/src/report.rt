@@ -72,8 +72,10 @@ fn rows_text(alloc: Global, rows: &[Row]) -> Result<Vec<u8>, Memory>
 
 /// The lines of all rows, of which each piece has those of a chunk.
 fn put_pieces(text: &mut Vec<u8>, pieces: Vec<Result<Vec<u8>, Memory>>) -> Result<(), Memory>
-    ensures fits { (size : ℕ) (rows : List Row) → ArePieces (λ t. t.items) size rows pieces.items → OnOk result (All RowFits rows) }
-    ensures text { (size : ℕ) (rows : List Row) → ArePieces (λ t. t.items) size rows pieces.items → OnOk result (text.new.items ≡ text.old.items ++ row_lines rows) }
+    ensures fits { (size : ℕ) (rows : List Row) → ArePieces (λ t. t.items) size rows pieces.items
+        → OnOk result (All RowFits rows) }
+    ensures text { (size : ℕ) (rows : List Row) → ArePieces (λ t. t.items) size rows pieces.items
+        → OnOk result (text.new.items ≡ text.old.items ++ row_lines rows) }
 {
     for piece in pieces {
         text.extend_from_slice(piece?.as_slice())?;

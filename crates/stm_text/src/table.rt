@@ -349,6 +349,7 @@ fn caller_of(draft: &Draft, word: &[u8]) -> Result<usize, u32>
 }
 
 /// Whether the address is in no region.
+#[inline(always)]
 fn is_plain(regions: &[Region], a: usize) -> bool
     ensures { result ≡ is_plain regions.now a }
 {
@@ -638,7 +639,8 @@ fn two_words(mode: Mode, draft: &Draft, w: &[u8], v: &[u8]) -> Result<Step, u32>
 
 #[inline(always)]
 fn three_words(draft: &Draft, w: &[u8], a: &[u8], v: &[u8]) -> Result<Step, u32>
-    ensures { result ≡ filled a.now (filled v.now (three_words draft.now.place draft.now w.now a.now v.now)) }
+    ensures { result
+        ≡ filled a.now (filled v.now (three_words draft.now.place draft.now w.now a.now v.now)) }
 {
     if a.is_empty() || v.is_empty() {
         return Err(code::WORD);
@@ -683,7 +685,10 @@ fn three_words(draft: &Draft, w: &[u8], a: &[u8], v: &[u8]) -> Result<Step, u32>
 
 #[inline(always)]
 fn four_words(draft: &Draft, w: &[u8], a: &[u8], b: &[u8], v: &[u8]) -> Result<Step, u32>
-    ensures { result ≡ filled a.now (filled b.now (filled v.now (four_words draft.now.place draft.now w.now a.now b.now v.now))) }
+    ensures { result
+        ≡ filled a.now
+        (filled b.now
+        (filled v.now (four_words draft.now.place draft.now w.now a.now b.now v.now))) }
 {
     if a.is_empty() || b.is_empty() || v.is_empty() {
         return Err(code::WORD);
@@ -759,7 +764,8 @@ fn after_one<'t>(
     w: &[u8],
     text: &'t [u8],
 ) -> (Result<Step, u32>, &'t [u8])
-    ensures step { result.0 ≡ judged (λ ws. by_words mode draft.now (w.now ∷ ws)) (lines_of text.now) }
+    ensures step { result.0
+        ≡ judged (λ ws. by_words mode draft.now (w.now ∷ ws)) (lines_of text.now) }
     ensures rest { OnOk result.0 (Leaves text.now result.1.now) }
 {
     let (i, end) = lines::first_word(text);
@@ -781,7 +787,8 @@ fn after_two<'t>(
     a: &[u8],
     text: &'t [u8],
 ) -> (Result<Step, u32>, &'t [u8])
-    ensures step { result.0 ≡ judged (λ ws. by_words _mode draft.now (w.now ∷ a.now ∷ ws)) (lines_of text.now) }
+    ensures step { result.0
+        ≡ judged (λ ws. by_words _mode draft.now (w.now ∷ a.now ∷ ws)) (lines_of text.now) }
     ensures rest { OnOk result.0 (Leaves text.now result.1.now) }
 {
     let (i, end) = lines::first_word(text);
@@ -804,7 +811,8 @@ fn after_three<'t>(
     b: &[u8],
     text: &'t [u8],
 ) -> (Result<Step, u32>, &'t [u8])
-    ensures step { result.0 ≡ judged (λ ws. by_words _mode draft.now (w.now ∷ a.now ∷ b.now ∷ ws)) (lines_of text.now) }
+    ensures step { result.0
+        ≡ judged (λ ws. by_words _mode draft.now (w.now ∷ a.now ∷ b.now ∷ ws)) (lines_of text.now) }
     ensures rest { OnOk result.0 (Leaves text.now result.1.now) }
 {
     let (i, end) = lines::first_word(text);

@@ -21,7 +21,26 @@ use Rattle.stm_trace.specs.Turns.{IsOver}
 use Rattle.std.proofs.lemmas.List.Elements.{All-nil, All-cons}
 
 abbrev done : Header → Alg → ℕ → ℕ → ℕ → CallerProgress
-done h alg a v time = record { caller = 0; left = []; failed = 0; must = false; phase = Between; alg = alg; rest = []; replies = []; emits = []; wrote = true; granted = false; rows = one_writer_rows v time; policy = Fixed; profile = with_outcome no_profile outcomes.Committed; chosen = None; reads_limit = h.reads; writes_limit = h.writes }
+done h alg a v time =
+    record {
+      caller = 0;
+      left = [];
+      failed = 0;
+      must = false;
+      phase = Between;
+      alg = alg;
+      rest = [];
+      replies = [];
+      emits = [];
+      wrote = true;
+      granted = false;
+      rows = one_writer_rows v time;
+      policy = Fixed;
+      profile = with_outcome no_profile outcomes.Committed;
+      chosen = None;
+      reads_limit = h.reads;
+      writes_limit = h.writes;
+    }
 
 pub writer-fits : OneWriterFits
 writer-fits h alg a v time memory =

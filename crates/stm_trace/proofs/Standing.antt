@@ -168,7 +168,11 @@ module _ (items : List Item) (n : ℕ) (at : CallerProgress) (s : Stands items n
         caller = s.caller;
         todo = next.0 ∙ ap (λ (k : ℕ). drop k (scripts_of n items)) (sym m);
         within = subst (λ (k : ℕ). k ≤ length (scripts_of n items)) (sym m) next.1;
-        numbered = map-append (λ (row : Row). row.seq) at.rows (row_at kind time at ∷ []) ∙ (ap (λ w. w ++ length at.rows ∷ []) s.numbered ∙ (ap (λ (j : ℕ). counted 0 (length at.rows) ++ j ∷ []) (sym (zero-add (length at.rows))) ∙ (counted-next 0 (length at.rows) ∙ ap (λ (k : ℕ). counted 0 k) (sym m))));
+        numbered =
+            map-append (λ (row : Row). row.seq) at.rows (row_at kind time at ∷ [])
+            ∙ (ap (λ w. w ++ length at.rows ∷ []) s.numbered
+            ∙ (ap (λ (j : ℕ). counted 0 (length at.rows) ++ j ∷ []) (sym (zero-add (length at.rows)))
+            ∙ (counted-next 0 (length at.rows) ∙ ap (λ (k : ℕ). counted 0 k) (sym m))));
         mine = areof-append n at.rows (row_at kind time at) s.mine s.caller;
         owned = own-rest n at.left s.owned;
         faces = tt;

@@ -87,14 +87,18 @@ choice-is : (policy : Policy) (p : Noted) (alg next : Alg) → Chooses policy p 
 choice-is Fixed p alg next h = h
 choice-is (Round n) p alg next h = by-least n p.since next (next_in_cycle alg) alg h.moves h.stays
 choice-is Expert p alg next h =
-    full-is p alg next (expert_choice (conflicts p.window) (full_logs p.window) (commits p.window)) (ByExpert (conflicts p.window) (full_logs p.window) (commits p.window) next) (expert-is (conflicts p.window) (full_logs p.window) (commits p.window) next) h
+    full-is p alg next (expert_choice (conflicts p.window) (full_logs p.window) (commits p.window))
+    (ByExpert (conflicts p.window) (full_logs p.window) (commits p.window) next)
+    (expert-is (conflicts p.window) (full_logs p.window) (commits p.window) next) h
 choice-is (State n) p alg next h = full-is p alg next (state_choice n (conflicts p.window) alg) (ByState n (conflicts p.window) alg next) (state-is n (conflicts p.window) alg next) h
 
 choice-chooses : (policy : Policy) (p : Noted) (alg : Alg) → Chooses policy p alg (choice policy p alg)
 choice-chooses Fixed p alg = refl
 choice-chooses (Round n) p alg = record { moves = λ le. least n p.since (next_in_cycle alg) alg le; stays = λ lt. less n p.since (next_in_cycle alg) alg lt }
 choice-chooses Expert p alg =
-    full-chooses p alg (expert_choice (conflicts p.window) (full_logs p.window) (commits p.window)) (ByExpert (conflicts p.window) (full_logs p.window) (commits p.window)) (expert-chooses (conflicts p.window) (full_logs p.window) (commits p.window))
+    full-chooses p alg (expert_choice (conflicts p.window) (full_logs p.window) (commits p.window))
+    (ByExpert (conflicts p.window) (full_logs p.window) (commits p.window))
+    (expert-chooses (conflicts p.window) (full_logs p.window) (commits p.window))
 choice-chooses (State n) p alg = full-chooses p alg (state_choice n (conflicts p.window) alg) (ByState n (conflicts p.window) alg) (state-chooses n (conflicts p.window) alg)
 
 other-some : (alg next : Alg) → next ≢ alg → other_than alg next ≡ Some next

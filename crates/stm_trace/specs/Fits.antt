@@ -18,13 +18,51 @@ use Rattle.stm_trace.specs.Turns.{MaySay, MayWind, MayFinish, IsFair, IsOver}
 
 -- where a caller stands at first: it switches where the text says so, and caller 0 by the text's policy
 abbrev pub first_place : Workload → ℕ → CallerProgress
-first_place w n = record { caller = n; left = items_of n w.items; failed = 0; must = false; phase = Between; alg = w.header.alg; rest = []; replies = []; emits = []; wrote = false; granted = false; rows = []; policy = policy_for w.header.policy n; profile = no_profile; chosen = None; reads_limit = w.header.reads; writes_limit = w.header.writes }
+first_place w n =
+    record {
+      caller = n;
+      left = items_of n w.items;
+      failed = 0;
+      must = false;
+      phase = Between;
+      alg = w.header.alg;
+      rest = [];
+      replies = [];
+      emits = [];
+      wrote = false;
+      granted = false;
+      rows = [];
+      policy = policy_for w.header.policy n;
+      profile = no_profile;
+      chosen = None;
+      reads_limit = w.header.reads;
+      writes_limit = w.header.writes;
+    }
 
 abbrev pub first_places : Workload → List CallerProgress
 first_places w = map (first_place w) (counted 0 w.header.callers)
 
 abbrev pub no_place : CallerProgress
-no_place = record { caller = 0; left = []; failed = 0; must = false; phase = Between; alg = Cgl; rest = []; replies = []; emits = []; wrote = false; granted = false; rows = []; policy = Fixed; profile = no_profile; chosen = None; reads_limit = 1; writes_limit = 1 }
+no_place =
+    record {
+      caller = 0;
+      left = [];
+      failed = 0;
+      must = false;
+      phase = Between;
+      alg = Cgl;
+      rest = [];
+      replies = [];
+      emits = [];
+      wrote = false;
+      granted = false;
+      rows = [];
+      policy = Fixed;
+      profile = no_profile;
+      chosen = None;
+      reads_limit = 1;
+      writes_limit = 1;
+    }
 
 abbrev pub place_of : List CallerProgress → ℕ → CallerProgress
 place_of places n = slice_index_or places n no_place

@@ -28,7 +28,10 @@ use Rattle.stm_trace.specs.declared.said.Phase.TheVariants.{Between, Inside, Clo
 use Rattle.stm_trace.specs.declared.said.Said.{Said}
 use Rattle.stm_trace.specs.declared.said.Said.TheVariants.{TryBegin, Reply, Stopped, TryCancel, TryIrrevocable, TryCommit, TryClose, Looked, Installed, Reserved, Idle, Dropped, Reopened}
 
--- what the caller has still to do; of its next transaction how many attempts were in somebody's way, and whether it must become irrevocable; of its last attempt the algorithm, and of an open one the operations still to come, the replies and emits so far, whether it wrote, and whether it was granted to be irrevocable; its rows; and its policy, what its attempts came to since it last switched by it, and the switch that it asks for, which comes before the next item
+-- what the caller has still to do; of its next transaction how many attempts were in somebody's way, and whether it must become
+-- irrevocable; of its last attempt the algorithm, and of an open one the operations still to come, the replies and emits so far, whether it
+-- wrote, and whether it was granted to be irrevocable; its rows; and its policy, what its attempts came to since it last switched by it,
+-- and the switch that it asks for, which comes before the next item
 pub record CallerProgress : Type 0 where
   pub caller : ℕ
   pub left : List Item
@@ -62,60 +65,36 @@ rest_of (x ∷ xs) = xs
 
 -- an operation that replied this wrote
 abbrev pub writes : Op → ℕ → Bool
-writes (Read a) reply = false
 writes (Write a v) reply = true
 writes (Add a k) reply = true
 writes (Move a b k) reply = reply == 1
-writes Cancel reply = false
-writes Irrev reply = false
-writes (Emit a) reply = false
 writes (Count r stripe k) reply = true
-writes (Total r) reply = false
 writes (ListInsert r key) reply = reply == 1
 writes (ListRemove r key) reply = reply == 1
-writes (ListContains r key) reply = false
-writes (ListLength r) reply = false
 writes (HashInsert r key) reply = reply == 1
 writes (HashRemove r key) reply = reply == 1
-writes (HashContains r key) reply = false
 writes (TreeInsert r key) reply = reply == 1
 writes (TreeRemove r key) reply = reply == 1
-writes (TreeContains r key) reply = false
-writes (TreeLeast r) reply = false
 writes (QueuePut r v) reply = reply == 1
 writes (QueueGet r) reply = not (reply == 0)
 writes (MapPut r key v) reply = not (reply == 2)
 writes (MapRemove r key) reply = reply == 1
-writes (MapGet r key) reply = false
-writes (MapSum r lo hi) reply = false
+writes op reply = false
 
 abbrev pub may_write : Op → Bool
 may_write (Read a) = false
-may_write (Write a v) = true
-may_write (Add a k) = true
-may_write (Move a b k) = true
 may_write Cancel = false
 may_write Irrev = false
 may_write (Emit a) = false
-may_write (Count r stripe k) = true
 may_write (Total r) = false
-may_write (ListInsert r key) = true
-may_write (ListRemove r key) = true
 may_write (ListContains r key) = false
 may_write (ListLength r) = false
-may_write (HashInsert r key) = true
-may_write (HashRemove r key) = true
 may_write (HashContains r key) = false
-may_write (TreeInsert r key) = true
-may_write (TreeRemove r key) = true
 may_write (TreeContains r key) = false
 may_write (TreeLeast r) = false
-may_write (QueuePut r v) = true
-may_write (QueueGet r) = true
-may_write (MapPut r key v) = true
-may_write (MapRemove r key) = true
 may_write (MapGet r key) = false
 may_write (MapSum r lo hi) = false
+may_write op = true
 
 -- so many attempts of a transaction are in somebody's way: then it must become irrevocable
 abbrev pub most_failed : ℕ
@@ -188,32 +167,25 @@ lengthened reads writes at = record at { left = rest_of at.left; reads_limit = m
 -- where the caller stands after this was said
 abbrev pub after : CallerProgress → Said → CallerProgress
 after at (TryBegin (Begun alg)) = begun alg at
-after at (TryBegin (Closed gate)) = at
-after at (TryBegin (Held word)) = at
-after at (TryBegin (ClockFull clock)) = at
 after at (Reply op reply) = replied op reply at
 after at (Stopped op stop) = stopped stop at
 after at (TryCancel (Cancelled time)) = ended C time (record at { replies = at.replies ++ 1 ∷ [] })
 after at (TryCancel Irrevocable) = replied Cancel 0 at
 after at (TryIrrevocable irrevs.Granted) = granted_at (is_forced at) at
-after at (TryIrrevocable (irrevs.Busy caller status)) = at
 after at (TryIrrevocable (irrevs.Taken gate)) = in_the_way outcomes.Cancelled at
 after at (TryIrrevocable (irrevs.Conflict cause)) = in_the_way outcomes.Conflict at
 after at (TryIrrevocable (irrevs.ClockFull clock)) = given_up at
 after at (TryCommit (Committed time)) = ended W time at
 after at (TryCommit (ReadOnly time)) = ended R time at
 after at (TryCommit (Conflict cause)) = in_the_way outcomes.Conflict at
-after at (TryCommit (Again word had now)) = at
 after at (TryCommit (ClockFull clock)) = given_up at
 after at (TryClose Closed) = record at { phase = Closing }
-after at (TryClose (Taken gate)) = at
 after at (Looked Quiet) = record at { phase = Quiet }
-after at (Looked (Busy caller status)) = at
 after at (Installed alg) = switched at.chosen at
 after at (Reserved reads writes) = lengthened reads writes at
-after at Idle = at
 after at Dropped = record (given_up at) { profile = with_outcome at.profile outcomes.Cancelled }
 after at Reopened = record at { phase = Between }
+after at said = at
 
 -- the clock that was found at its limit
 abbrev pub stop_clock : Stop → Option ℕ
@@ -222,30 +194,11 @@ stop_clock (Full limit) = None
 stop_clock (ClockFull clock) = Some clock
 
 abbrev pub clock_of : Said → Option ℕ
-clock_of (TryBegin (Begun alg)) = None
-clock_of (TryBegin (Closed gate)) = None
-clock_of (TryBegin (Held word)) = None
 clock_of (TryBegin (ClockFull clock)) = Some clock
-clock_of (Reply op reply) = None
 clock_of (Stopped op stop) = stop_clock stop
-clock_of (TryCancel c) = None
-clock_of (TryIrrevocable irrevs.Granted) = None
-clock_of (TryIrrevocable (irrevs.Busy caller status)) = None
-clock_of (TryIrrevocable (irrevs.Taken gate)) = None
-clock_of (TryIrrevocable (irrevs.Conflict cause)) = None
 clock_of (TryIrrevocable (irrevs.ClockFull clock)) = Some clock
-clock_of (TryCommit (Committed time)) = None
-clock_of (TryCommit (ReadOnly time)) = None
-clock_of (TryCommit (Conflict cause)) = None
-clock_of (TryCommit (Again word had now)) = None
 clock_of (TryCommit (ClockFull clock)) = Some clock
-clock_of (TryClose c) = None
-clock_of (Looked l) = None
-clock_of (Installed alg) = None
-clock_of (Reserved reads writes) = None
-clock_of Idle = None
-clock_of Dropped = None
-clock_of Reopened = None
+clock_of said = None
 
 abbrev pub caller_in : Item → ℕ
 caller_in (Tx caller script) = caller

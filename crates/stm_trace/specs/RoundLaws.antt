@@ -69,7 +69,9 @@ module _ (h : Header) (may : CallerProgress → Said → Type 0) (holds : Caller
     halted-at clock p =
         let f = p.full in
         each-turn (callers f.before) f.caller p.later j n
-        (sym (append_assoc (callers f.before) (f.caller ∷ []) p.later) ∙ (ap (λ (w : List ℕ). w ++ p.later) (sym (callers-append f.before (Of f.caller f.said ∷ []))) ∙ (ap (λ (ls : List Line). callers ls ++ p.later) (sym f.parts) ∙ p.turned)))
+        (sym (append_assoc (callers f.before) (f.caller ∷ []) p.later)
+        ∙ (ap (λ (w : List ℕ). w ++ p.later) (sym (callers-append f.before (Of f.caller f.said ∷ [])))
+        ∙ (ap (λ (ls : List Line). callers ls ++ p.later) (sym f.parts) ∙ p.turned)))
 
     -- a full clock came in them
     pub round-halted : (clock : ℕ) → Halted h may qs rs b c (replicate j n) clock → HaltedRound ps rs a c clock

@@ -151,15 +151,12 @@ module _ (h : Header) where
 
   -- THE NUMBERS of each answer are such as its cause allows; who can't be cancelled is not refused
   abbrev pub IsFair : CallerProgress → Said → Type 0
-  IsFair at (TryBegin (Begun alg)) = Unit {0}
   IsFair at (TryBegin (Closed gate)) = HasOthers × NamesOther at (holder_of gate)
   IsFair at (TryBegin (Held word)) = HasOthers × (word ≢ 0)
   IsFair at (TryBegin (ClockFull clock)) = CLOCK_LIMIT ≤ clock
-  IsFair at (Reply op reply) = Unit {0}
   IsFair at (Stopped op stop) = (irrevocable at ≡ false) × IsFairStop at op stop
   IsFair at (TryCancel (Cancelled time)) = irrevocable at ≡ false
   IsFair at (TryCancel Irrevocable) = irrevocable at ≡ true
-  IsFair at (TryIrrevocable irrevs.Granted) = Unit {0}
   IsFair at (TryIrrevocable (irrevs.Busy caller status)) = IsFairWait at × (caller < h.callers) × (caller ≢ at.caller) × (status ≢ 0)
   IsFair at (TryIrrevocable (irrevs.Taken gate)) = IsFairWait at × NamesOther at (holder_of gate)
   IsFair at (TryIrrevocable (irrevs.Conflict cause)) = (irrevocable at ≡ false) × HasOthers × IsFairCause at cause
@@ -169,12 +166,6 @@ module _ (h : Header) where
   IsFair at (TryCommit (Conflict cause)) = (irrevocable at ≡ false) × HasOthers × IsFairCause at cause × (at.wrote ≡ true)
   IsFair at (TryCommit (Again word had now)) = (irrevocable at ≡ false) × HasOthers × IsFairAgain at word had now × (at.wrote ≡ true)
   IsFair at (TryCommit (ClockFull clock)) = (irrevocable at ≡ false) × (CLOCK_LIMIT ≤ clock) × (asks_at_commit at.alg ≡ true) × (at.wrote ≡ true)
-  IsFair at (TryClose Closed) = Unit {0}
   IsFair at (TryClose (Taken gate)) = HasOthers × NamesOther at (holder_of gate)
-  IsFair at (Looked Quiet) = Unit {0}
   IsFair at (Looked (Busy caller status)) = HasOthers × (caller < h.callers) × (caller ≢ at.caller) × (status ≢ 0)
-  IsFair at (Installed alg) = Unit {0}
-  IsFair at (Reserved reads writes) = Unit {0}
-  IsFair at Idle = Unit {0}
-  IsFair at Dropped = Unit {0}
-  IsFair at Reopened = Unit {0}
+  IsFair at said = Unit {0}

@@ -67,7 +67,8 @@ pub fn put_said(text: &mut String, said: Said) -> Result<(), AllocError>
 }
 
 fn put_begin(text: &mut String, begin: Begin) -> Result<(), AllocError>
-    ensures { OnOk result (string_bytes text.new ≡ string_bytes text.old ++ said_bytes (Said.TryBegin begin)) }
+    ensures { OnOk result
+        (string_bytes text.new ≡ string_bytes text.old ++ said_bytes (Said.TryBegin begin)) }
 {
     match begin {
         Begin::Begun(alg) => put_alg(text, " begin ", alg),
@@ -79,7 +80,8 @@ fn put_begin(text: &mut String, begin: Begin) -> Result<(), AllocError>
 
 /// `NAME REPLY`.
 fn put_reply(text: &mut String, op: Op, reply: u64) -> Result<(), AllocError>
-    ensures { OnOk result (string_bytes text.new ≡ string_bytes text.old ++ said_bytes (Said.Reply op reply)) }
+    ensures { OnOk result
+        (string_bytes text.new ≡ string_bytes text.old ++ said_bytes (Said.Reply op reply)) }
 {
     text.push_str(" ")?;
     put_one(text, op.name(), reply)
@@ -87,7 +89,8 @@ fn put_reply(text: &mut String, op: Op, reply: u64) -> Result<(), AllocError>
 
 /// `NAME`, and why the operation ended the attempt.
 fn put_stopped(text: &mut String, op: Op, stop: Stop) -> Result<(), AllocError>
-    ensures { OnOk result (string_bytes text.new ≡ string_bytes text.old ++ said_bytes (Said.Stopped op stop)) }
+    ensures { OnOk result
+        (string_bytes text.new ≡ string_bytes text.old ++ said_bytes (Said.Stopped op stop)) }
 {
     text.push_str(" ")?;
     text.push_str(op.name())?;
@@ -124,7 +127,8 @@ fn put_cause(text: &mut String, cause: Cause) -> Result<(), AllocError>
 }
 
 fn put_cancel(text: &mut String, cancel: Cancel) -> Result<(), AllocError>
-    ensures { OnOk result (string_bytes text.new ≡ string_bytes text.old ++ said_bytes (Said.TryCancel cancel)) }
+    ensures { OnOk result
+        (string_bytes text.new ≡ string_bytes text.old ++ said_bytes (Said.TryCancel cancel)) }
 {
     match cancel {
         Cancel::Cancelled { time } => put_one(text, " cancel cancelled", time),
@@ -133,7 +137,8 @@ fn put_cancel(text: &mut String, cancel: Cancel) -> Result<(), AllocError>
 }
 
 fn put_irrevocable(text: &mut String, irrev: Irrev) -> Result<(), AllocError>
-    ensures { OnOk result (string_bytes text.new ≡ string_bytes text.old ++ said_bytes (Said.TryIrrevocable irrev)) }
+    ensures { OnOk result
+        (string_bytes text.new ≡ string_bytes text.old ++ said_bytes (Said.TryIrrevocable irrev)) }
 {
     match irrev {
         Irrev::Granted => text.push_str(" irrev granted"),
@@ -148,7 +153,8 @@ fn put_irrevocable(text: &mut String, irrev: Irrev) -> Result<(), AllocError>
 }
 
 fn put_commit(text: &mut String, commit: Commit) -> Result<(), AllocError>
-    ensures { OnOk result (string_bytes text.new ≡ string_bytes text.old ++ said_bytes (Said.TryCommit commit)) }
+    ensures { OnOk result
+        (string_bytes text.new ≡ string_bytes text.old ++ said_bytes (Said.TryCommit commit)) }
 {
     match commit {
         Commit::Committed { time } => put_one(text, " commit committed", time),
@@ -163,7 +169,8 @@ fn put_commit(text: &mut String, commit: Commit) -> Result<(), AllocError>
 }
 
 fn put_close(text: &mut String, close: CloseGate) -> Result<(), AllocError>
-    ensures { OnOk result (string_bytes text.new ≡ string_bytes text.old ++ said_bytes (Said.TryClose close)) }
+    ensures { OnOk result
+        (string_bytes text.new ≡ string_bytes text.old ++ said_bytes (Said.TryClose close)) }
 {
     match close {
         CloseGate::Closed => text.push_str(" close closed"),
@@ -172,7 +179,8 @@ fn put_close(text: &mut String, close: CloseGate) -> Result<(), AllocError>
 }
 
 fn put_look(text: &mut String, look: Look) -> Result<(), AllocError>
-    ensures { OnOk result (string_bytes text.new ≡ string_bytes text.old ++ said_bytes (Said.Looked look)) }
+    ensures { OnOk result
+        (string_bytes text.new ≡ string_bytes text.old ++ said_bytes (Said.Looked look)) }
 {
     match look {
         Look::Quiet => text.push_str(" look quiet"),
@@ -181,7 +189,8 @@ fn put_look(text: &mut String, look: Look) -> Result<(), AllocError>
 }
 
 fn put_alg(text: &mut String, words: &str, alg: Alg) -> Result<(), AllocError>
-    ensures { OnOk result (string_bytes text.new ≡ string_bytes text.old ++ (words.now ++ alg_name alg)) }
+    ensures { OnOk result
+        (string_bytes text.new ≡ string_bytes text.old ++ (words.now ++ alg_name alg)) }
 {
     text.push_str(words)?;
     text.push_str(alg.name())
@@ -189,21 +198,24 @@ fn put_alg(text: &mut String, words: &str, alg: Alg) -> Result<(), AllocError>
 
 /// Words, and a number after them; two; three. Memory may be refused.
 pub fn put_one(text: &mut String, words: &str, a: u64) -> Result<(), AllocError>
-    ensures { OnOk result (string_bytes text.new ≡ string_bytes text.old ++ (words.now ++ spaced (a ∷ []))) }
+    ensures { OnOk result
+        (string_bytes text.new ≡ string_bytes text.old ++ (words.now ++ spaced (a ∷ []))) }
 {
     text.push_str(words)?;
     put_number(text, a)
 }
 
 pub fn put_two(text: &mut String, words: &str, a: u64, b: u64) -> Result<(), AllocError>
-    ensures { OnOk result (string_bytes text.new ≡ string_bytes text.old ++ (words.now ++ spaced (a ∷ b ∷ []))) }
+    ensures { OnOk result
+        (string_bytes text.new ≡ string_bytes text.old ++ (words.now ++ spaced (a ∷ b ∷ []))) }
 {
     put_one(text, words, a)?;
     put_number(text, b)
 }
 
 pub fn put_three(text: &mut String, words: &str, a: u64, b: u64, c: u64) -> Result<(), AllocError>
-    ensures { OnOk result (string_bytes text.new ≡ string_bytes text.old ++ (words.now ++ spaced (a ∷ b ∷ c ∷ []))) }
+    ensures { OnOk result
+        (string_bytes text.new ≡ string_bytes text.old ++ (words.now ++ spaced (a ∷ b ∷ c ∷ []))) }
 {
     put_two(text, words, a, b)?;
     put_number(text, c)

@@ -68,13 +68,26 @@ module _ (good : List ℕ → Type 0) (c : Config) (n : ℕ) where
       open_gate = grind (arith, nat_tests)
 
   -- what the descriptor kept of an earlier attempt is nothing to a begin
-  pub begins-fresh : (alg : Alg) (v w : View) (o p : Own) → o.reads_limit ≡ p.reads_limit → o.writes_limit ≡ p.writes_limit → BeginsAt good c n alg (known_of v p) (known_of w p) → BeginsAt good c n alg (known_of v o) (known_of w p)
+  pub begins-fresh : (alg : Alg) (v w : View) (o p : Own) → o.reads_limit ≡ p.reads_limit → o.writes_limit ≡ p.writes_limit
+      → BeginsAt good c n alg (known_of v p) (known_of w p) → BeginsAt good c n alg (known_of v o) (known_of w p)
   begins-fresh alg v w o p reads writes b = let g = b.grows in record {
     running = b.running;
     committing = b.committing;
     closing = b.closing;
     made = b.made;
-    grows = record { later = g.later; is = g.is; ascending = g.ascending; up_to = g.up_to; front_rose = g.front_rose; more = g.more; step_trace = g.step_trace; reads_limit = g.reads_limit ∙ sym reads; writes_limit = g.writes_limit ∙ sym writes; fenced = g.fenced };
+    grows =
+        record {
+          later = g.later;
+          is = g.is;
+          ascending = g.ascending;
+          up_to = g.up_to;
+          front_rose = g.front_rose;
+          more = g.more;
+          step_trace = g.step_trace;
+          reads_limit = g.reads_limit ∙ sym reads;
+          writes_limit = g.writes_limit ∙ sym writes;
+          fenced = g.fenced;
+        };
     gate = b.gate;
     fence = b.fence;
     unfenced = b.unfenced;
@@ -99,7 +112,13 @@ module _ (good : List ℕ → Type 0) (c : Config) (n : ℕ) where
       → Begins good c n (Closed gate) (known_of v o) (known_of w o)
   tells-closed gate v s t w o low out other a l d = subst (λ (y : View). Begins good c n (Closed gate) (known_of v o) (known_of y o)) (sym path) (
     record {
-      idle = (ap (λ b. departed (if b then In else Turned)) apart, ap (λ b. is_in (departed (if b then In else Turned))) apart, ap (λ b. is_closing (departed (if b then In else Turned))) apart, out.reopened, unlocked-of last.gate.algorithm v.lock.taken v.tml.writer out.clear.unlocked out.clear.unwritten);
+      idle = (
+        ap (λ b. departed (if b then In else Turned)) apart,
+        ap (λ b. is_in (departed (if b then In else Turned))) apart,
+        ap (λ b. is_closing (departed (if b then In else Turned))) apart,
+        out.reopened,
+        unlocked-of last.gate.algorithm v.lock.taken v.tml.writer out.clear.unlocked out.clear.unwritten,
+      );
       made = refl;
       grows = grows-same (known_of v o) (known_of last o) refl refl (record { place = Status n; act = Store 0; found = None } ∷ first_steps gate) refl refl refl refl;
       rises = refl;
@@ -132,7 +151,9 @@ module _ (good : List ℕ → Type 0) (c : Config) (n : ℕ) where
     same f = ap f (looked-at gate v s t a l)
 
     pub grows-looked : Grows (known_of v o) (known_of t o)
-    grows-looked = subst (λ (y : View). Grows (known_of v o) (known_of y o)) (sym (looked-at gate v s t a l)) (grows-same (known_of v o) (known_of (looked a.0 l.0 v gate) o) refl refl (first_steps gate) refl refl refl refl)
+    grows-looked =
+        subst (λ (y : View). Grows (known_of v o) (known_of y o)) (sym (looked-at gate v s t a l))
+        (grows-same (known_of v o) (known_of (looked a.0 l.0 v gate) o) refl refl (first_steps gate) refl refl refl refl)
 
     pub found-gate : Found Gate gate (known_of v o) (known_of t o)
     found-gate = subst (λ (y : View). Found Gate gate (known_of v o) (known_of y o)) (sym (looked-at gate v s t a l)) (first_steps gate, refl, Load, (0, omega arith, refl))
@@ -144,7 +165,8 @@ module _ (good : List ℕ → Type 0) (c : Config) (n : ℕ) where
     knew : c.callers ≡ 1 → alg_of gate ≡ v.gate.algorithm
     knew one = l.1.sole one ∙ ap (λ (y : View). y.gate.algorithm) a.2
 
-    pub tells-begun : (start : ℕ) (w : View) (k : Local) → holder_of gate ≡ 0 → fence_of gate < 2 ^ 48 → k.holds ≡ false → IsFresh o → StartsAt good c n (alg_of gate) start t w → BeginsAt good c n (alg_of gate) (known_of v o) (known_of w o)
+    pub tells-begun : (start : ℕ) (w : View) (k : Local) → holder_of gate ≡ 0 → fence_of gate < 2 ^ 48 → k.holds ≡ false → IsFresh o
+        → StartsAt good c n (alg_of gate) start t w → BeginsAt good c n (alg_of gate) (known_of v o) (known_of w o)
     tells-begun start w k zero fits free fresh b =
         let i = b.inside (record k { fence = fence_of gate }) (record { is = b.fence ∙ same (λ y. y.gate.fence); fits = fits }) free in
         let q = b.starts o fresh in
@@ -160,7 +182,10 @@ module _ (good : List ℕ → Type 0) (c : Config) (n : ℕ) where
           unfenced = λ off. seen ∙ l.1.unfenced off;
           named = i.named;
           sole = knew;
-          start = subst (λ x. Found (start_word (alg_of gate)) x (known_of v o) (known_of w o)) (sym q.is) (found-earlier (start_word (alg_of gate)) start (known_of v o) (known_of t o) (known_of w o) q.found (first_steps gate) step_trace-looked);
+          start =
+              subst (λ x. Found (start_word (alg_of gate)) x (known_of v o) (known_of w o)) (sym q.is)
+              (found-earlier (start_word (alg_of gate)) start (known_of v o) (known_of t o) (known_of w o) q.found (first_steps gate)
+              step_trace-looked);
           fresh = (let f = q.fresh in let s = q.is in let e : t.history.front ≡ v.history.front = same (λ y. y.history.front) in omega arith);
           log = q.log;
           unmarked = (fresh.2, fresh.3);
@@ -178,11 +203,20 @@ module _ (good : List ℕ → Type 0) (c : Config) (n : ℕ) where
     -- a refusal, after the caller has departed
     module _ (u w : View) (d : Tells (depart n) Nothing u 0 w) where
       wider : (place : At) (x : ℕ) → Found place x (known_of t o) (known_of u o) → Found place x (known_of v o) (known_of w o)
-      wider place x f = found-later place x (known_of v o) (known_of u o) (known_of w o) (found-earlier place x (known_of v o) (known_of t o) (known_of u o) f (first_steps gate) step_trace-looked) (record { place = Status n; act = Store 0; found = None } ∷ []) (ap (λ (y : View). y.steps.step_trace) d.2)
+      wider place x f =
+          found-later place x (known_of v o) (known_of u o) (known_of w o)
+          (found-earlier place x (known_of v o) (known_of t o) (known_of u o) f (first_steps gate) step_trace-looked)
+          (record { place = Status n; act = Store 0; found = None } ∷ []) (ap (λ (y : View). y.steps.step_trace) d.2)
 
       pub stays : Waits (alg_of gate) t u → Stays c (known_of v o) (known_of w o)
       stays b = let q = b.keeps o in subst (λ (y : View). Stays c (known_of v o) (known_of y o)) (sym d.2) (record {
-        idle = (ap departed b.can.phase, ap (λ p. is_in (departed p)) b.can.phase, ap (λ p. is_closing (departed p)) b.can.phase, b.can.reopened, unlocked-of u.gate.algorithm u.lock.taken u.tml.writer b.can.clear.unlocked b.can.clear.unwritten);
+        idle = (
+          ap departed b.can.phase,
+          ap (λ p. is_in (departed p)) b.can.phase,
+          ap (λ p. is_closing (departed p)) b.can.phase,
+          b.can.reopened,
+          unlocked-of u.gate.algorithm u.lock.taken u.tml.writer b.can.clear.unlocked b.can.clear.unwritten,
+        );
         made = q.made ∙ same (λ y. (known_of y o).made);
         grows = grows-trans (known_of v o) (known_of u o) (known_of (view_after (depart n) d.0 u 0) o) (grows-trans (known_of v o) (known_of t o) (known_of u o) grows-looked q.grows)
             (grows-same (known_of u o) (known_of (view_after (depart n) d.0 u 0) o) refl refl (record { place = Status n; act = Store 0; found = None } ∷ []) refl refl refl refl);
@@ -192,8 +226,14 @@ module _ (good : List ℕ → Type 0) (c : Config) (n : ℕ) where
       })
 
       finds-open : holder_of gate ≡ 0 → Waits (alg_of gate) t u → FindsOpen good c n (alg_of gate) (known_of v o) (known_of w o)
-      finds-open zero b = let g = (b.keeps o).grows in
-          (gate, found-later Gate gate (known_of v o) (known_of u o) (known_of w o) (found-later Gate gate (known_of v o) (known_of t o) (known_of u o) found-gate g.more g.step_trace) (record { place = Status n; act = Store 0; found = None } ∷ []) (ap (λ (y : View). y.steps.step_trace) d.2), zero, refl)
+      finds-open zero b = let g = (b.keeps o).grows in (
+        gate,
+        found-later Gate gate (known_of v o) (known_of u o) (known_of w o)
+            (found-later Gate gate (known_of v o) (known_of t o) (known_of u o) found-gate g.more g.step_trace)
+            (record { place = Status n; act = Store 0; found = None } ∷ []) (ap (λ (y : View). y.steps.step_trace) d.2),
+        zero,
+        refl,
+      )
 
       held : (alg : Alg) (word : ℕ) → IsHeld good c n alg word (known_of t o) (known_of u o) → IsHeld good c n alg word (known_of v o) (known_of w o)
       held Cgl word h = (wider Lock word h.0, h.1)
@@ -207,8 +247,13 @@ module _ (good : List ℕ → Type 0) (c : Config) (n : ℕ) where
       tells-refused (Begun alg) zero r = absurd r
       tells-refused (Closed word) zero r = absurd r
       tells-refused (Held word) zero r =
-          let alg : alg_of gate ≡ w.gate.algorithm = sym (ap (λ (y : View). y.gate.algorithm) d.2 ∙ r.0.can.named) in
-          (stays r.0, subst (λ k. FindsOpen good c n k (known_of v o) (known_of w o)) alg (finds-open zero r.0), r.1, subst (λ k. IsHeld good c n k word (known_of v o) (known_of w o)) alg (held (alg_of gate) word (r.2 o)), r.3)
+          let alg : alg_of gate ≡ w.gate.algorithm = sym (ap (λ (y : View). y.gate.algorithm) d.2 ∙ r.0.can.named) in (
+            stays r.0,
+            subst (λ k. FindsOpen good c n k (known_of v o) (known_of w o)) alg (finds-open zero r.0),
+            r.1,
+            subst (λ k. IsHeld good c n k word (known_of v o) (known_of w o)) alg (held (alg_of gate) word (r.2 o)),
+            r.3,
+          )
       tells-refused (ClockFull clock) zero r =
           let alg : alg_of gate ≡ w.gate.algorithm = sym (ap (λ (y : View). y.gate.algorithm) d.2 ∙ r.0.can.named) in
           (stays r.0, subst (λ k. FindsOpen good c n k (known_of v o) (known_of w o)) alg (finds-open zero r.0), ap asks_at_begin (sym alg) ∙ r.1, finds-full clock v w o o (r.2 o).limit (wider Clock clock (r.2 o).found))

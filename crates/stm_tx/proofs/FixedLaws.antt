@@ -21,7 +21,8 @@ use Rattle.stm_tx.specs.Resting.{IsFixed}
 abbrev Holds : Alg → View → Type 0
 Holds a v = ((closes_gate a ≡ true) × (v.gate.granted ≡ true)) ⊎ (((takes_lock a ≡ true) × (v.lock.taken ≡ true)) ⊎ ((a ≡ Tml) × (v.tml.writer ≡ true)))
 
-holds-by : (a : Alg) (v : View) (some : Bool) → irrevocable_under a (granted_under a v.gate v.lock) some ≡ true → ((b : Bool) → granted_under a v.gate v.lock ≡ b → closes_gate a ≡ true → b ≡ false → locked_under a v.lock.taken v.tml.writer ≡ true)
+holds-by : (a : Alg) (v : View) (some : Bool) → irrevocable_under a (granted_under a v.gate v.lock) some ≡ true
+    → ((b : Bool) → granted_under a v.gate v.lock ≡ b → closes_gate a ≡ true → b ≡ false → locked_under a v.lock.taken v.tml.writer ≡ true)
     → (closes_gate a ≡ false → locked_under a v.lock.taken v.tml.writer ≡ true) → Holds a v
 holds-by Cgl v some i plain closed = inr (inl (refl, closed refl))
 holds-by Serial v some i plain closed = inr (inl (refl, closed refl))
@@ -62,7 +63,8 @@ module _ (rule : (ℕ → ℕ) → Type 0) (c : Config) (w : World) (g : Invaria
       one_alg = sym (g.core.gate.named m first) ∙ g.core.gate.named n second
 
       -- promoted, or TML's writer
-      by-rule : ((w.views m).gate.granted ≡ true) ⊎ (((w.views m).gate.algorithm ≡ Tml) × ((w.views m).tml.writer ≡ true)) → ((w.views n).gate.granted ≡ true) ⊎ (((w.views n).gate.algorithm ≡ Tml) × ((w.views n).tml.writer ≡ true)) → m ≡ n
+      by-rule : ((w.views m).gate.granted ≡ true) ⊎ (((w.views m).gate.algorithm ≡ Tml) × ((w.views m).tml.writer ≡ true))
+          → ((w.views n).gate.granted ≡ true) ⊎ (((w.views n).gate.algorithm ≡ Tml) × ((w.views n).tml.writer ≡ true)) → m ≡ n
       by-rule a b = one-irrevocable rule c w g m n (record { phase = first; fixed = wider a }) (record { phase = second; fixed = wider b })
         where
           wider : {P Q R : Type 0} → P ⊎ R → P ⊎ (Q ⊎ R)

@@ -1,5 +1,5 @@
 -- What a mark and its release come to in an attempt, under whichever algorithm: the write log has other marks, and as many are counted.
-use Rattle.std.proofs.Common.{ℕ, zero, suc, ◌≡◌, ◌≤◌, ◌<◌, ◌+◌, ◌-◌, List, [], ◌∷◌, ◌++◌, length, take, Bool, true, false, refl, sym, ap, ◌∙◌, arith, length-append}
+use Rattle.std.proofs.Common.{ℕ, zero, suc, ◌≡◌, ◌≤◌, ◌+◌, ◌-◌, List, [], ◌∷◌, ◌++◌, length, take, Bool, true, false, refl, sym, ap, ◌∙◌, arith, length-append}
 use Rattle.std.specs.Prelude.{replicate, ◌&&◌}
 use Rattle.std.proofs.lemmas.List.{length-replicate, take-replicate, length-take-le}
 use Rattle.stm_model.specs.Algorithms.{irrevocable_under, closes_gate}
@@ -253,7 +253,8 @@ module _ (c : Config) (l : Local) (v : View) where
   counted RingSw false i e f k = k.marked.count
   counted Serial g i e f k = k.marked (k.irrevocable ∙ ((λ j. irrevocable_under (e j) (f j) l.wrote) ∙ i))
 
-  logged : (a : Alg) (g : Bool) → irrevocable_under a g l.wrote ≡ false → v.gate.granted ≡ (closes_gate a && g) → Keeps c a g l v → l.algorithm ≡ a → l.granted ≡ g → written_under a v.gate.granted v (own_of l) ≡ l.writes.items
+  logged : (a : Alg) (g : Bool) → irrevocable_under a g l.wrote ≡ false → v.gate.granted ≡ (closes_gate a && g) → Keeps c a g l v
+      → l.algorithm ≡ a → l.granted ≡ g → written_under a v.gate.granted v (own_of l) ≡ l.writes.items
   logged Cgl g i gate k e f = absurd cc
   logged Tml true i gate k e f = absurd cc
   logged Tml false i gate k e f = ap items (k.clean i) ∙ sym k.unbuffered

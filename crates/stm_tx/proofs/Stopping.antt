@@ -25,23 +25,16 @@ module _ (good : List ℕ → Type 0) (c : Config) (n a : ℕ) (v w : CallerStat
   write-stopped x (writes.Full limit) stop e h = let is : stops.Full limit ≡ stop = cc in subst (λ (s : Stop). Stops good c n a s v w) is (h.0, inr (h.1, h.2))
   write-stopped x (writes.ClockFull clock) stop e h = let is : stops.ClockFull clock ≡ stop = cc in subst (λ (s : Stop). Stops good c n a s v w) is (h.0, h.1, h.2)
 
+  pub read-went : (x : ℕ) (r : Read) → as_read r ≡ Ok x → HasRead good c n a r v w → HasRead good c n a (reads.Value x) v w
+  read-went x (reads.Value y) e h = let is : y ≡ x = cc in subst (λ (z : ℕ). HasRead good c n a (reads.Value z) v w) is h
+  read-went x (reads.Conflict cause) e h = absurd cc
+  read-went x (reads.Full limit) e h = absurd cc
+
   pub write-went : (x : ℕ) (r : Write) → as_write r ≡ Ok tt → HasWritten good c n a x r v w → HasWritten good c n a x writes.Done v w
   write-went x writes.Done e h = h
   write-went x (writes.Conflict cause) e h = absurd cc
   write-went x (writes.Full limit) e h = absurd cc
   write-went x (writes.ClockFull clock) e h = absurd cc
-
-  -- and none changes the algorithm
-  pub read-alg : (r : Read) → HasRead good c n a r v w → w.alg ≡ v.alg
-  read-alg (reads.Value x) h = h.0.continues.alg
-  read-alg (reads.Conflict cause) h = h.0.ends.alg
-  read-alg (reads.Full limit) h = h.0.ends.alg
-
-  pub write-alg : (x : ℕ) (r : Write) → HasWritten good c n a x r v w → w.alg ≡ v.alg
-  write-alg x writes.Done h = h.0.continues.alg
-  write-alg x (writes.Conflict cause) h = h.0.ends.alg
-  write-alg x (writes.Full limit) h = h.0.ends.alg
-  write-alg x (writes.ClockFull clock) h = h.0.ends.alg
 
   -- who is stopped has quit
   pub stops-quits : (stop : Stop) → Stops good c n a stop v w → Quits v w

@@ -41,6 +41,14 @@ module _ {K : Type 0} where
   abbrev pub number : Handle K → ℕ
   number d = caller_of d.who.role
 
+-- who takes attempts for such ones serves this one
+abbrev pub Serves : (Alg → Bool → Alg × Bool) → CallerState → Type 0
+Serves acts_as v = acts_as v.alg v.granted ≡ (v.alg, v.granted)
+
+-- and as long as neither changes
+pub serves-on : (acts_as : Alg → Bool → Alg × Bool) (v w : CallerState) → w.alg ≡ v.alg → w.granted ≡ v.granted → Serves acts_as v → Serves acts_as w
+serves-on acts_as v w alg granted h = (λ j. acts_as (alg j) (granted j)) ∙ (h ∙ λ j. (sym alg j, sym granted j))
+
 -- each log is as long as it was, or as was asked, if that is more
 abbrev pub Reserves : ℕ → ℕ → CallerState → CallerState → Type 0
 Reserves reads writes v w = (w.reads_limit ≡ max v.reads_limit reads) × (w.writes_limit ≡ max v.writes_limit writes)
@@ -66,7 +74,16 @@ module _ (good : List ℕ → Type 0) (c : Config) (n : ℕ) where
 
   pub since-trans : (p q r : Option Stop) (u v w : CallerState) → Since p u q v → Since q v r w → Since p u r w
   since-trans None None None u v w a b = carries-trans u v w a b
-  since-trans None None (Some stop) u v w a b = (carries-trans u v w a b.0, record { before = b.1.before; carries = carries-trans u v b.1.before a b.1.carries; running = b.1.running; address = b.1.address; stops = b.1.stops })
+  since-trans None None (Some stop) u v w a b = (
+    carries-trans u v w a b.0,
+    record {
+      before = b.1.before;
+      carries = carries-trans u v b.1.before a b.1.carries;
+      running = b.1.running;
+      address = b.1.address;
+      stops = b.1.stops;
+    },
+  )
   since-trans None (Some stop) r u v w a b = subst (λ (o : Option Stop). Since None u o w) (sym b.0) (subst (λ (k : CallerState). Since None u (Some stop) k) (sym b.1) a)
   since-trans (Some stop) q r u v w a b = let c = subst (λ (o : Option Stop). Since o v r w) a.0 b in (c.0, c.1 ∙ a.1)
 
@@ -79,7 +96,8 @@ module _ {K : Type 0} where
   frames-refl good c p d = (record { table = refl; who = refl }, since-refl good c (number d) p (known d))
 
   -- for two accesses to one memory
-  pub frames-trans : (good : K → List ℕ → Type 0) (s t : Stm K) (p q r : Option Stop) (d e f : Handle K) → t ≡ s → Frames (good s.rule) s.config p d q e → Frames (good t.rule) t.config q e r f → Frames (good s.rule) s.config p d r f
+  pub frames-trans : (good : K → List ℕ → Type 0) (s t : Stm K) (p q r : Option Stop) (d e f : Handle K) → t ≡ s
+      → Frames (good s.rule) s.config p d q e → Frames (good t.rule) t.config q e r f → Frames (good s.rule) s.config p d r f
   frames-trans good s t p q r d e f same a b =
       let c = subst (λ (m : Stm K). Since (good m.rule) m.config (number e) q (known e) r (known f)) same b.1 in
       let name : number e ≡ number d = ap (λ (w : Who K). caller_of w.role) a.0.who in (

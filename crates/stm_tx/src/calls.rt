@@ -10,6 +10,7 @@ ghost use Rattle.stm_rule.specs.Kept.{MovesView, view_of};
 ghost use Rattle.tx_answers.specs.Answers.{Begins, HasRead, HasWritten, KeepsRule, Commits, Cancels, Irrevs};
 ghost use Rattle.tx_answers.specs.CallerState.{IsIdle, IsRunning, is_irrevocable, state_of};
 ghost use Rattle.stm_gate.specs.Starts.{CanBegin, Starts};
+ghost use Rattle.stm_model.specs.Algorithms.{closes_gate};
 ghost use Rattle.rule_base.specs.Encodings.{fenced};
 ghost use Rattle.stm_tx.specs.Descs.{Reserves, known, number};
 
@@ -22,6 +23,7 @@ use alg_seq::serial::Serial;
 use alg_seq::tml::Tml;
 use rule_base::words::{alg_of, fence_of, holder_of};
 use std::alloc::Global;
+use stm_gate::direct::{direct_load, direct_store};
 use stm_model::alg::Alg;
 use stm_model::memory::Memory;
 use stm_model::rule::MemRule;
@@ -42,7 +44,8 @@ pub fn try_begin<K: MemRule>(desc: &mut Desc<K>, stm: &Stm<K>) -> Begin
     requires stm { IsOf desc.old stm.now }
     requires idle { IsIdle (known desc.old) }
     ensures same { IsSameCaller desc.old desc.new }
-    ensures begins { Begins (K.good stm.now.rule) stm.now.config (number desc.old) result (known desc.old) (known desc.new) }
+    ensures begins { Begins (K.good stm.now.rule) stm.now.config (number desc.old) result
+        (known desc.old) (known desc.new) }
     ensures steps { AddsAtMost 6 (known desc.old) (known desc.new) }
 {
     let caller = desc.number;
@@ -77,7 +80,8 @@ fn begin_under<K: MemRule>(
     requires caller { caller < stm.now.config.callers }
     requires view { CanBegin algorithm (view_of seat.old) }
     ensures same { MovesView seat.old seat.new }
-    ensures begins { Starts (K.good stm.now.rule) stm.now.config caller algorithm result (view_of seat.old) (view_of seat.new) }
+    ensures begins { Starts (K.good stm.now.rule) stm.now.config caller algorithm result
+        (view_of seat.old) (view_of seat.new) }
     ensures steps { TakesAtMost 3 (view_of seat.old) (view_of seat.new) }
 {
     match algorithm {
@@ -106,9 +110,14 @@ pub fn read<K: MemRule>(desc: &mut Desc<K>, stm: &Stm<K>, a: usize) -> Read
     requires inside { a < stm.now.config.words }
     requires spared { fenced (known desc.old).fence a ≡ false }
     ensures same { IsSameCaller desc.old desc.new }
-    ensures read { HasRead (K.good stm.now.rule) stm.now.config (number desc.old) a result (known desc.old) (known desc.new) }
-    ensures steps { AddsAtMost (costs stm.now.config (known desc.old)).read (known desc.old) (known desc.new) }
+    ensures read { HasRead (K.good stm.now.rule) stm.now.config (number desc.old) a result
+        (known desc.old) (known desc.new) }
+    ensures steps { AddsAtMost (costs stm.now.config (known desc.old)).read (known desc.old)
+        (known desc.new) }
 {
+    if is_promoted(desc) {
+        return direct_load(desc, stm, a);
+    }
     match desc.local.algorithm {
         Alg::Cgl => Cgl::read(desc, stm, a),
         Alg::Tml => Tml::read(desc, stm, a),
@@ -132,9 +141,14 @@ pub fn write<K: MemRule>(desc: &mut Desc<K>, stm: &Stm<K>, a: usize, x: u64) -> 
     requires inside { a < stm.now.config.words }
     requires spared { fenced (known desc.old).fence a ≡ false }
     ensures same { IsSameCaller desc.old desc.new }
-    ensures write { HasWritten (K.good stm.now.rule) stm.now.config (number desc.old) a x result (known desc.old) (known desc.new) }
-    ensures steps { AddsAtMost (costs stm.now.config (known desc.old)).write (known desc.old) (known desc.new) }
+    ensures write { HasWritten (K.good stm.now.rule) stm.now.config (number desc.old) a x result
+        (known desc.old) (known desc.new) }
+    ensures steps { AddsAtMost (costs stm.now.config (known desc.old)).write (known desc.old)
+        (known desc.new) }
 {
+    if is_promoted(desc) {
+        return direct_store(desc, stm, a, x);
+    }
     match desc.local.algorithm {
         Alg::Cgl => Cgl::write(desc, stm, a, x),
         Alg::Tml => Tml::write(desc, stm, a, x),
@@ -160,10 +174,13 @@ pub fn write<K: MemRule>(desc: &mut Desc<K>, stm: &Stm<K>, a: usize, x: u64) -> 
 pub fn commit<K: MemRule>(desc: &mut Desc<K>, stm: &Stm<K>) -> Commit
     requires stm { IsOf desc.old stm.now }
     requires running { (known desc.old).running ≡ true }
-    requires keeps { KeepsRule (K.good stm.now.rule) stm.now.config (number desc.old) (known desc.old) }
+    requires keeps { KeepsRule (K.good stm.now.rule) stm.now.config (number desc.old)
+        (known desc.old) }
     ensures same { IsSameCaller desc.old desc.new }
-    ensures commits { Commits (K.good stm.now.rule) stm.now.config (number desc.old) result (known desc.old) (known desc.new) }
-    ensures steps { AddsAtMost (costs stm.now.config (known desc.old)).commit (known desc.old) (known desc.new) }
+    ensures commits { Commits (K.good stm.now.rule) stm.now.config (number desc.old) result
+        (known desc.old) (known desc.new) }
+    ensures steps { AddsAtMost (costs stm.now.config (known desc.old)).commit (known desc.old)
+        (known desc.new) }
 {
     match desc.local.algorithm {
         Alg::Cgl => Cgl::commit(desc, stm),
@@ -182,8 +199,10 @@ pub fn cancel<K: MemRule>(desc: &mut Desc<K>, stm: &Stm<K>) -> Cancel
     requires stm { IsOf desc.old stm.now }
     requires running { (known desc.old).running ≡ true }
     ensures same { IsSameCaller desc.old desc.new }
-    ensures cancels { Cancels (K.good stm.now.rule) stm.now.config (number desc.old) result (known desc.old) (known desc.new) }
-    ensures steps { AddsAtMost (costs stm.now.config (known desc.old)).cancel (known desc.old) (known desc.new) }
+    ensures cancels { Cancels (K.good stm.now.rule) stm.now.config (number desc.old) result
+        (known desc.old) (known desc.new) }
+    ensures steps { AddsAtMost (costs stm.now.config (known desc.old)).cancel (known desc.old)
+        (known desc.new) }
 {
     match desc.local.algorithm {
         Alg::Cgl => Cgl::cancel(desc, stm),
@@ -204,8 +223,10 @@ pub fn try_irrevocable<K: MemRule>(desc: &mut Desc<K>, stm: &Stm<K>) -> Irrev
     requires stm { IsOf desc.old stm.now }
     requires running { IsRunning (known desc.old) }
     ensures same { IsSameCaller desc.old desc.new }
-    ensures irrevs { Irrevs (K.good stm.now.rule) stm.now.config (number desc.old) result (known desc.old) (known desc.new) }
-    ensures steps { AddsAtMost (costs stm.now.config (known desc.old)).irrevocable (known desc.old) (known desc.new) }
+    ensures irrevs { Irrevs (K.good stm.now.rule) stm.now.config (number desc.old) result
+        (known desc.old) (known desc.new) }
+    ensures steps { AddsAtMost (costs stm.now.config (known desc.old)).irrevocable (known desc.old)
+        (known desc.new) }
 {
     match desc.local.algorithm {
         Alg::Cgl => Cgl::try_irrevocable(desc, stm),
@@ -231,7 +252,8 @@ pub fn reserve<K: MemRule>(
     requires idle { IsIdle (known desc.old) }
     ensures same { IsSameCaller desc.old desc.new }
     ensures view { desc.new.view ≡ desc.old.view }
-    ensures reserves { MatchResult result (λ _. Reserves reads writes (known desc.old) (known desc.new)) (λ _. desc.new ≡ desc.old) }
+    ensures reserves { MatchResult result
+        (λ _. Reserves reads writes (known desc.old) (known desc.new)) (λ _. desc.new ≡ desc.old) }
 {
     if reads <= desc.local.reads.len() && writes <= desc.local.undo.len() {
         return Ok(());
@@ -278,6 +300,18 @@ pub fn is_irrevocable<K: MemRule>(desc: &Desc<K>) -> bool
             .local
             .algorithm
             .irrevocable_under(desc.local.granted, desc.local.wrote)
+}
+
+/// Whether the attempt has closed the gate to be alone: it loads and stores the heap since, whatever its algorithm.
+#[inline(always)]
+fn is_promoted<K: MemRule>(desc: &Desc<K>) -> bool
+    requires { (known desc.now).running ≡ true }
+    ensures { result ≡ (closes_gate (known desc.now).alg && (known desc.now).granted) }
+{
+    match desc.local.algorithm {
+        Alg::Tml | Alg::OrecLazy | Alg::OrecEager | Alg::RingSw => desc.local.granted,
+        Alg::Cgl | Alg::Serial => false,
+    }
 }
 
 /// Whether this caller has closed the gate. No step.

@@ -18,8 +18,10 @@ pub fn costs_are_bounded()
 /// BASE and DONE at the clock.
 pub fn rest_is_answered<K: MemRule>()
     ensures quiet { (rule : K) (c : Config) → QuietIsRest (K.good rule) (good_of K.good c rule) c }
-    ensures granted { (rule : K) (c : Config) → GrantedIsRest (K.good rule) (good_of K.good c rule) c }
-    ensures installed { (rule : K) (c : Config) → InstalledIsLevel (K.good rule) (good_of K.good c rule) c }
+    ensures granted { (rule : K) (c : Config)
+        → GrantedIsRest (K.good rule) (good_of K.good c rule) c }
+    ensures installed { (rule : K) (c : Config)
+        → InstalledIsLevel (K.good rule) (good_of K.good c rule) c }
 {}
 
 /// At most one attempt is irrevocable at a time: two callers whose attempts run and are irrevocable, by what the answers

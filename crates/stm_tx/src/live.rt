@@ -2,7 +2,7 @@
 ghost use Rattle.std.specs.Prelude.{◌≡◌, is_none, true, false};
 ghost use Rattle.std.proofs.Common.{refl, ◌∙◌};
 ghost use Rattle.stm_rule.specs.Callers.{IsOf};
-ghost use Rattle.stm_tx.specs.Descs.{known, as_read, as_write, Frames, frames-refl, frames-trans};
+ghost use Rattle.stm_tx.specs.Descs.{known, as_read, as_write, Frames, frames-refl, frames-trans, Serves};
 
 use crate::serving::Calls;
 use stm_model::access::Access;
@@ -17,14 +17,14 @@ use tx_answers::answers::{Read, Write};
 /// memory's rule. Its frame says where and why the attempt was stopped.
 #[derive(Drop)]
 pub struct Live<'a, K: MemRule, C: Calls> {
-    /// By what it reads and writes: it must serve the attempt's algorithm.
+    /// By what it reads and writes: it must serve the attempt.
     pub calls: &'a C,
     pub desc: &'a mut Desc<K>,
     pub stm: &'a Stm<K>,
     pub stopped: Option<Stop>,
     pub ghost own: { IsOf desc.now stm.now },
     pub ghost runs: { (known desc.now).running ≡ is_none stopped },
-    pub ghost served: { C.acts_as (known desc.now).alg ≡ (known desc.now).alg },
+    pub ghost served: { is_none stopped ≡ true → Serves C.acts_as (known desc.now) },
     pub ghost open: { is_none stopped ≡ true → (known desc.now).committing ≡ false },
     pub ghost unfenced: { is_none stopped ≡ true → (known desc.now).fence ≡ 0 },
 }

@@ -59,8 +59,10 @@ pub fn roll_to<K: MemRule>(desc: &mut Desc<K>, stm: &Stm<K>, depth: usize) -> Ro
     requires low { 1 ≤ depth }
     requires high { depth ≤ (known desc.old).depth }
     ensures same { IsSameCaller desc.old desc.new }
-    ensures rolls { Rolls (K.good stm.now.rule) stm.now.config (number desc.old) depth result (known desc.old) (known desc.new) }
-    ensures steps { AddsAtMost (roll_steps (known desc.old).alg (known desc.old).writes_limit) (known desc.old) (known desc.new) }
+    ensures rolls { Rolls (K.good stm.now.rule) stm.now.config (number desc.old) depth result
+        (known desc.old) (known desc.new) }
+    ensures steps { AddsAtMost (roll_steps (known desc.old).alg (known desc.old).writes_limit)
+        (known desc.old) (known desc.new) }
 {
     match desc.local.algorithm {
         Alg::Cgl => Cgl::roll_to(desc, stm, depth),

@@ -7,7 +7,7 @@ ghost use Rattle.tx_answers.specs.Answers.{HasRead, HasWritten, KeepsRule, Commi
 ghost use Rattle.tx_answers.specs.Counting.{AddsAtMost};
 ghost use Rattle.tx_answers.specs.CallerState.{IsRunning};
 ghost use Rattle.stm_tx.specs.Costs.{costs};
-ghost use Rattle.stm_tx.specs.Descs.{known, number};
+ghost use Rattle.stm_tx.specs.Descs.{known, number, Serves};
 
 use crate::calls;
 use alg_calls::algorithm::Algorithm;
@@ -19,42 +19,50 @@ use stm_rule::desc::Desc;
 use stm_rule::stm::Stm;
 use tx_answers::answers::{Commit, Read, Write};
 
-/// Reads, writes and commits of attempts under the algorithms that it serves. What they do, and what they cost, is said at
+/// Reads, writes and commits of the attempts that it serves. What they do, and what they cost, is said at
 /// `calls::read`, `calls::write` and `calls::commit`.
 pub trait Calls {
+    ghost use Rattle.std.specs.Prelude.{Bool};
     ghost use Rattle.stm_model.specs.declared.alg.Alg.{Alg};
 
-    // whose calls it makes in an attempt under this algorithm: it serves those that are their own
-    ghost acts_as: { Alg → Alg };
+    // as what it takes an attempt under this algorithm, granted or not: it serves those that are so
+    ghost acts_as: { Alg → Bool → Alg × Bool };
 
     fn read<K: MemRule>(&self, desc: &mut Desc<K>, stm: &Stm<K>, a: usize) -> Read
         requires stm { IsOf desc.old stm.now }
         requires running { IsRunning (known desc.old) }
-        requires served { acts_as (known desc.old).alg ≡ (known desc.old).alg }
+        requires served { Serves acts_as (known desc.old) }
         requires inside { a < stm.now.config.words }
         requires spared { fenced (known desc.old).fence a ≡ false }
         ensures same { IsSameCaller desc.old desc.new }
-        ensures read { HasRead (K.good stm.now.rule) stm.now.config (number desc.old) a result (known desc.old) (known desc.new) }
-        ensures steps { AddsAtMost (costs stm.now.config (known desc.old)).read (known desc.old) (known desc.new) };
+        ensures read { HasRead (K.good stm.now.rule) stm.now.config (number desc.old) a result
+            (known desc.old) (known desc.new) }
+        ensures steps { AddsAtMost (costs stm.now.config (known desc.old)).read (known desc.old)
+            (known desc.new) };
 
     fn write<K: MemRule>(&self, desc: &mut Desc<K>, stm: &Stm<K>, a: usize, x: u64) -> Write
         requires stm { IsOf desc.old stm.now }
         requires running { IsRunning (known desc.old) }
-        requires served { acts_as (known desc.old).alg ≡ (known desc.old).alg }
+        requires served { Serves acts_as (known desc.old) }
         requires inside { a < stm.now.config.words }
         requires spared { fenced (known desc.old).fence a ≡ false }
         ensures same { IsSameCaller desc.old desc.new }
-        ensures write { HasWritten (K.good stm.now.rule) stm.now.config (number desc.old) a x result (known desc.old) (known desc.new) }
-        ensures steps { AddsAtMost (costs stm.now.config (known desc.old)).write (known desc.old) (known desc.new) };
+        ensures write { HasWritten (K.good stm.now.rule) stm.now.config (number desc.old) a x result
+            (known desc.old) (known desc.new) }
+        ensures steps { AddsAtMost (costs stm.now.config (known desc.old)).write (known desc.old)
+            (known desc.new) };
 
     fn commit<K: MemRule>(&self, desc: &mut Desc<K>, stm: &Stm<K>) -> Commit
         requires stm { IsOf desc.old stm.now }
         requires running { (known desc.old).running ≡ true }
-        requires served { acts_as (known desc.old).alg ≡ (known desc.old).alg }
-        requires keeps { KeepsRule (K.good stm.now.rule) stm.now.config (number desc.old) (known desc.old) }
+        requires served { Serves acts_as (known desc.old) }
+        requires keeps { KeepsRule (K.good stm.now.rule) stm.now.config (number desc.old)
+            (known desc.old) }
         ensures same { IsSameCaller desc.old desc.new }
-        ensures commits { Commits (K.good stm.now.rule) stm.now.config (number desc.old) result (known desc.old) (known desc.new) }
-        ensures steps { AddsAtMost (costs stm.now.config (known desc.old)).commit (known desc.old) (known desc.new) };
+        ensures commits { Commits (K.good stm.now.rule) stm.now.config (number desc.old) result
+            (known desc.old) (known desc.new) }
+        ensures steps { AddsAtMost (costs stm.now.config (known desc.old)).commit (known desc.old)
+            (known desc.new) };
 
     /// Is told that the read or write of the word at `a` was refused: so who keeps the address does nothing at an access that
     /// was served.
@@ -70,7 +78,7 @@ pub trait Calls {
 pub struct AnyAlgorithm;
 
 impl Calls for AnyAlgorithm {
-    ghost acts_as = { λ alg. alg };
+    ghost acts_as = { λ alg granted. (alg, granted) };
 
     #[inline(always)]
     fn read<K: MemRule>(&self, desc: &mut Desc<K>, stm: &Stm<K>, a: usize) -> Read {
@@ -94,7 +102,45 @@ impl Calls for AnyAlgorithm {
     }
 }
 
-/// Serves attempts under one algorithm.
+/// Serves attempts under one algorithm. It looks at each access whether the attempt was made irrevocable in flight.
+#[derive(Drop)]
+pub struct Under<A: Algorithm> {
+    of: PhantomData<A>,
+}
+
+impl<A: Algorithm> Under<A> {
+    /// The one that there is.
+    pub fn new() -> Under<A> {
+        Under { of: PhantomData }
+    }
+}
+
+impl<A: Algorithm> Calls for Under<A> {
+    ghost acts_as = { λ alg granted. (A.alg, granted) };
+
+    #[inline(always)]
+    fn read<K: MemRule>(&self, desc: &mut Desc<K>, stm: &Stm<K>, a: usize) -> Read {
+        if desc.local.granted {
+            return calls::read(desc, stm, a);
+        }
+        A::read(desc, stm, a)
+    }
+
+    #[inline(always)]
+    fn write<K: MemRule>(&self, desc: &mut Desc<K>, stm: &Stm<K>, a: usize, x: u64) -> Write {
+        if desc.local.granted {
+            return calls::write(desc, stm, a, x);
+        }
+        A::write(desc, stm, a, x)
+    }
+
+    #[inline(always)]
+    fn commit<K: MemRule>(&self, desc: &mut Desc<K>, stm: &Stm<K>) -> Commit {
+        A::commit(desc, stm)
+    }
+}
+
+/// Serves attempts under one algorithm that were not made irrevocable in flight, and looks at neither.
 #[derive(Drop)]
 pub struct Only<A: Algorithm> {
     of: PhantomData<A>,
@@ -108,7 +154,7 @@ impl<A: Algorithm> Only<A> {
 }
 
 impl<A: Algorithm> Calls for Only<A> {
-    ghost acts_as = { λ alg. A.alg };
+    ghost acts_as = { λ alg granted. (A.alg, false) };
 
     #[inline(always)]
     fn read<K: MemRule>(&self, desc: &mut Desc<K>, stm: &Stm<K>, a: usize) -> Read {

@@ -32,7 +32,18 @@ pub record CommitsAt (time : ℕ) (v w : CallerState) : Type 0 where
   pub wrote : is_empty v.log.writes ≡ false
 
 pub commits : (good : List ℕ → Type 0) (c : Config) (n time : ℕ) (v w : CallerState) → answers.CommitsAt good c n time v w → CommitsAt time v w
-commits good c n time v w h = record { grows = grew v w h.ends.grows; entry = answers.entry time n (length v.made) v.log; made = h.made; timed = refl; reads = refl; writes = refl; later = h.later; front = (let e = h.front in omega arith); wrote = is-some (is_empty v.log.writes) h.wrote }
+commits good c n time v w h =
+    record {
+      grows = grew v w h.ends.grows;
+      entry = answers.entry time n (length v.made) v.log;
+      made = h.made;
+      timed = refl;
+      reads = refl;
+      writes = refl;
+      later = h.later;
+      front = (let e = h.front in omega arith);
+      wrote = is-some (is_empty v.log.writes) h.wrote;
+    }
 
 -- the attempt ended at its start, without an entry
 pub record QuitsAt (good : List ℕ → Type 0) (c : Config) (time : ℕ) (v w : CallerState) : Type 0 where

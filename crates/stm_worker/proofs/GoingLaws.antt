@@ -87,7 +87,9 @@ one-wrote regions (Write a v) m = refl
 one-wrote regions (Add a k) m = refl
 one-wrote regions (Move a b k) m = by (ltb (slice_index m a) k)
   where
-    by : (less : Bool) → (if less then replies 0 m else record { reply = 1; emits = []; memory = moved a b k m; wrote = true }).wrote || false ≡ ((if less then replies 0 m else record { reply = 1; emits = []; memory = moved a b k m; wrote = true }).reply == 1)
+    by : (less : Bool)
+        → (if less then replies 0 m else record { reply = 1; emits = []; memory = moved a b k m; wrote = true }).wrote || false
+        ≡ ((if less then replies 0 m else record { reply = 1; emits = []; memory = moved a b k m; wrote = true }).reply == 1)
     by true = refl
     by false = refl
 one-wrote regions (Emit a) m = refl
@@ -137,7 +139,9 @@ cut-irrev op rest unasked plain = ap has_irrev (cut-plain op rest plain) ∙ ap 
 
 -- whether the attempt has written then
 pub wrote-one : (good : List ℕ → Type 0) (words : ℕ) (regions : List Region) (op : Op) (v w : CallerState) (out next : Output) (wrote : Bool) (reply : ℕ)
-    → next ≡ record out { replies = out.replies ++ reply ∷ []; emits = out.emits ++ emits_of op reply } → wrote ≡ knows.wrote v → GaveOver good words (ran_one regions op) v.log out w.log next → IsExplained good words w.log → wrote || writes op reply ≡ knows.wrote w
+    → next ≡ record out { replies = out.replies ++ reply ∷ []; emits = out.emits ++ emits_of op reply } → wrote ≡ knows.wrote v
+    → GaveOver good words (ran_one regions op) v.log out w.log next → IsExplained good words w.log
+    → wrote || writes op reply ≡ knows.wrote w
 wrote-one good words regions op v w out next wrote reply told was gave ex =
     let m = ex.0 in
     let here = gave m ex.1 ex.2 ex.3 in
@@ -146,8 +150,11 @@ wrote-one good words regions op v w out next wrote reply told was gave ex =
     ap (λ b. b || writes op reply) was ∙ sym (here.wrote ∙ ap (λ b. not (is_empty v.log.writes) || b) (one-wrote regions op (overlay m v.log.writes) ∙ ap (writes op) same_reply))
 
 -- an operation that the memory did: it asked for nothing, or what it asked for was granted
-pub going-step : (good : List ℕ → Type 0) (words : ℕ) (regions : List Region) (script : List Op) (op : Op) (rest : List Op) (v w : CallerState) (alg : Alg) (was granted : Bool) (out next : Output) (wrote : Bool) (reply : ℕ)
-    → is_cancel op ≡ false → (is_irrevocable w ≡ false → is_irrev op ≡ false) → next ≡ record out { replies = out.replies ++ reply ∷ []; emits = out.emits ++ emits_of op reply } → Going good words regions script (op ∷ rest) v alg was out wrote
+pub going-step : (good : List ℕ → Type 0) (words : ℕ) (regions : List Region) (script : List Op) (op : Op) (rest : List Op)
+    (v w : CallerState) (alg : Alg) (was granted : Bool) (out next : Output) (wrote : Bool) (reply : ℕ)
+    → is_cancel op ≡ false → (is_irrevocable w ≡ false → is_irrev op ≡ false)
+    → next ≡ record out { replies = out.replies ++ reply ∷ []; emits = out.emits ++ emits_of op reply }
+    → Going good words regions script (op ∷ rest) v alg was out wrote
     → GaveOver good words (ran_one regions op) v.log out w.log next → IsExplained good words w.log
     → w.alg ≡ v.alg → irrevocable_under alg granted (wrote || writes op reply) ≡ is_irrevocable w → (is_irrevocable v ≡ true → is_irrevocable w ≡ true) → HasRoom next (length rest)
     → Going good words regions script rest w alg granted next (wrote || writes op reply)
@@ -163,7 +170,10 @@ going-step good words regions script op rest v w alg was granted out next wrote 
       rule = All-tail (OpKeeps good words regions) op rest g.rule;
       room = room;
       explained = ex;
-      keeps = keeps-gave good words (ran_one regions op) v.log out w.log next gave (keeps-run good words regions (op ∷ []) (one-of (OpKeeps good words regions) op (All-head (OpKeeps good words regions) op rest g.rule))) g.keeps;
+      keeps =
+          keeps-gave good words (ran_one regions op) v.log out w.log next gave
+          (keeps-run good words regions (op ∷ [])
+          (one-of (OpKeeps good words regions) op (All-head (OpKeeps good words regions) op rest g.rule))) g.keeps;
       named = same ∙ g.named;
       writer = ap (λ b. b || writes op reply) g.writer ∙ sym more;
       irrevocable = irrevocable;
@@ -173,7 +183,8 @@ going-step good words regions script op rest v w alg was granted out next wrote 
       ends = λ h. g.ends (or-right (is_cancel op) (has_cancel rest) h);
       cut = λ off x fine len e.
           gives-step regions (before_cancel script) op (before_cancel rest) x no_log no_replies v.log out w.log next
-          (subst (λ ops. GivesOn regions (before_cancel script) ops x no_log no_replies v.log out) (cut-plain op rest plain) (g.cut (not-irrevocable (is_irrevocable v) (is_irrevocable w) up off) x fine len (gave x fine len e).explained))
+          (subst (λ ops. GivesOn regions (before_cancel script) ops x no_log no_replies v.log out) (cut-plain op rest plain)
+          (g.cut (not-irrevocable (is_irrevocable v) (is_irrevocable w) up off) x fine len (gave x fine len e).explained))
           (gave x fine len e);
       unasked = λ off. g.unasked (not-irrevocable (is_irrevocable v) (is_irrevocable w) up off) ∙ cut-irrev op rest (unasked off) plain;
     }
@@ -238,7 +249,8 @@ going-asked good words regions script rest v w alg was granted out next wrote g 
 
 -- the attempt knows more, and its script is where it was
 pub going-later : (good : List ℕ → Type 0) (words : ℕ) (regions : List Region) (script rest : List Op) (v w : CallerState) (alg : Alg) (was granted : Bool) (out : Output) (wrote : Bool)
-    → Going good words regions script rest v alg was out wrote → w.log ≡ v.log → w.alg ≡ v.alg → IsExplained good words w.log → irrevocable_under alg granted wrote ≡ is_irrevocable w → (is_irrevocable w ≡ false → is_irrevocable v ≡ false)
+    → Going good words regions script rest v alg was out wrote → w.log ≡ v.log → w.alg ≡ v.alg → IsExplained good words w.log
+    → irrevocable_under alg granted wrote ≡ is_irrevocable w → (is_irrevocable w ≡ false → is_irrevocable v ≡ false)
     → Going good words regions script rest w alg granted out wrote
 going-later good words regions script rest v w alg was granted out wrote g log same ex irrevocable down = record {
   fits = g.fits;
@@ -253,12 +265,16 @@ going-later good words regions script rest v w alg was granted out wrote g log s
   is = g.is;
   on = λ more m fine len x. subst (λ (l : Log). GivesOn regions (g.first ++ more) more m no_log no_replies l out) (sym log) (g.on more m fine len (subst (λ (l : Log). Explains m l.reads) log x));
   ends = g.ends;
-  cut = λ off m fine len x. subst (λ (l : Log). GivesOn regions (before_cancel script) (before_cancel rest) m no_log no_replies l out) (sym log) (g.cut (down off) m fine len (subst (λ (l : Log). Explains m l.reads) log x));
+  cut =
+      λ off m fine len x.
+      subst (λ (l : Log). GivesOn regions (before_cancel script) (before_cancel rest) m no_log no_replies l out) (sym log)
+      (g.cut (down off) m fine len (subst (λ (l : Log). Explains m l.reads) log x));
   unasked = λ off. g.unasked (down off);
 }
 
 -- what is done of the script
-pub gave-first : (good : List ℕ → Type 0) (words : ℕ) (regions : List Region) (script rest : List Op) (v : CallerState) (alg : Alg) (granted : Bool) (out : Output) (wrote : Bool) (g : Going good words regions script rest v alg granted out wrote)
+pub gave-first : (good : List ℕ → Type 0) (words : ℕ) (regions : List Region) (script rest : List Op) (v : CallerState) (alg : Alg)
+    (granted : Bool) (out : Output) (wrote : Bool) (g : Going good words regions script rest v alg granted out wrote)
     → GaveOver good words (run regions g.first) no_log no_replies v.log out
 gave-first good words regions script rest v alg granted out wrote g = λ m fine len x.
     subst (λ ops. Gave (run regions ops) m no_log no_replies v.log out) (append-nil g.first) (g.on [] m fine len x v.log out (gives-none regions m v.log out x))

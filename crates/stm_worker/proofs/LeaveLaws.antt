@@ -35,7 +35,9 @@ scripts-append : (n : ℕ) (xs ys : List Item) → scripts_of n (xs ++ ys) ≡ s
 scripts-append n [] ys = refl
 scripts-append n (Tx caller script ∷ xs) ys = by (caller == n) (scripts-append n xs ys)
   where
-    by : (b : Bool) → scripts_of n (xs ++ ys) ≡ scripts_of n xs ++ scripts_of n ys → (if b then script ∷ scripts_of n (xs ++ ys) else scripts_of n (xs ++ ys)) ≡ (if b then script ∷ scripts_of n xs else scripts_of n xs) ++ scripts_of n ys
+    by : (b : Bool) → scripts_of n (xs ++ ys) ≡ scripts_of n xs ++ scripts_of n ys
+        → (if b then script ∷ scripts_of n (xs ++ ys) else scripts_of n (xs ++ ys))
+        ≡ (if b then script ∷ scripts_of n xs else scripts_of n xs) ++ scripts_of n ys
     by true r = ap (λ l. script ∷ l) r
     by false r = r
 scripts-append n (Switch caller alg ∷ xs) ys = scripts-append n xs ys
@@ -60,7 +62,9 @@ numbered-at k (r ∷ rows) h (suc i) d lt =
 
 -- the rows of a caller, whose scripts other items have too
 reworked : (good : List ℕ → Type 0) (opening : List ℕ) (regions : List Region) (all items : List Item) (n : ℕ) (made seen : List Entry) (front : ℕ) (rows : List Row)
-    → ((i : ℕ) → i < length rows → slice_index_or (scripts_of n all) i [] ≡ slice_index_or (scripts_of n items) i []) → Worked good opening regions (script_of all) n made seen front rows → Worked good opening regions (script_of items) n made seen front rows
+    → ((i : ℕ) → i < length rows → slice_index_or (scripts_of n all) i [] ≡ slice_index_or (scripts_of n items) i [])
+    → Worked good opening regions (script_of all) n made seen front rows
+    → Worked good opening regions (script_of items) n made seen front rows
 reworked good opening regions all items n made seen front rows same h = record {
   writers = h.writers;
   each = λ i d lt. row (get_or rows i d) (h.mine i d lt) (let e = numbered-at 0 rows h.numbered i d lt in omega (arith, e, lt)) (h.each i d lt);
@@ -74,10 +78,15 @@ reworked good opening regions all items n made seen front rows same h = record {
     script r own lt = ap (λ k. slice_index_or (scripts_of k all) r.seq []) own ∙ (same r.seq lt ∙ ap (λ k. slice_index_or (scripts_of k items) r.seq []) (sym own))
 
     row : (r : Row) → r.caller ≡ n → r.seq < length rows → RowIn good opening regions (script_of all) made seen front r → RowIn good opening regions (script_of items) made seen front r
-    row r own lt at = subst (λ s. by_kind r.kind ((e : Entry) × Contains made e × RowOf good (length opening) regions s r e) ((r.place ≤ front) × RowFits regions s r (memory_at r.place seen opening))) (script r own lt) at
+    row r own lt at =
+        subst (λ s.
+        by_kind r.kind ((e : Entry) × Contains made e × RowOf good (length opening) regions s r e)
+        ((r.place ≤ front) × RowFits regions s r (memory_at r.place seen opening))) (script r own lt) at
 
 -- what stands of the rows when nothing is made
-stands-over : (good : List ℕ → Type 0) (words : ℕ) (regions : List Region) (all : List Item) (n : ℕ) (v w : CallerState) (rows : List Row) (p : Phase) → w.made ≡ v.made → Grew v.seen v.front w.seen w.front → Stands good words regions all n v rows p → Works good words regions all n w rows
+stands-over : (good : List ℕ → Type 0) (words : ℕ) (regions : List Region) (all : List Item) (n : ℕ) (v w : CallerState) (rows : List Row)
+    (p : Phase) → w.made ≡ v.made → Grew v.seen v.front w.seen w.front → Stands good words regions all n v rows p
+    → Works good words regions all n w rows
 stands-over good words regions all n v w rows Between made grows h = works-later good words regions all n v w rows made grows h
 stands-over good words regions all n v w rows Inside made grows h = works-over good words regions all n v w rows made grows h
 stands-over good words regions all n v w rows Closing made grows h = works-later good words regions all n v w rows made grows h
@@ -89,7 +98,8 @@ record DoneNext (n : ℕ) (first left : List Item) (ops : List Op) : Type 0 wher
   begins : BeginsNext first left did
   scripts : scripts_of n did ≡ scripts_of n first ++ ops ∷ []
 
-done-next : (good : List ℕ → Type 0) (words : ℕ) (regions : List Region) (n : ℕ) (first left : List Item) (ops rest : List Op) → BeforeTx left → ItemsFit good words regions n left → script_at left ≡ ops ++ rest → DoneNext n first left ops
+done-next : (good : List ℕ → Type 0) (words : ℕ) (regions : List Region) (n : ℕ) (first left : List Item) (ops rest : List Op)
+    → BeforeTx left → ItemsFit good words regions n left → script_at left ≡ ops ++ rest → DoneNext n first left ops
 done-next good words regions n first [] ops rest b f is = absurd b
 done-next good words regions n first (Tx caller script ∷ left) ops rest b f is =
     let own = f.0 in
@@ -162,19 +172,25 @@ module _ {K : Type 0} (good : List ℕ → Type 0) (stm : Stm K) (v : Worker K) 
         rows = v.rows.items ++ row ∷ [];
         behind = inr (inside, (s.done.0, s.done.1, next.begins), (row, refl));
         works = row-wrote good v.regions.now next.did stm.config n (known v.desc) (known d) v.rows.items going.first v.out here mine time
-            (gave-first good stm.config.words v.regions.now (script_at v.items_left.now) v.operations_left.now (known v.desc) v.alg v.granted v.out v.wrote going) (commits good stm.config n time (known v.desc) (known d) h);
+            (gave-first good stm.config.words v.regions.now (script_at v.items_left.now) v.operations_left.now (known v.desc) v.alg
+            v.granted v.out v.wrote going) (commits good stm.config n time (known v.desc) (known d) h);
         whole = omega (arith, whole, long, more);
       }
 
   did-part : (d : Handle K) → KeepsMade good stm.config (caller_of v.desc.who.role) (known v.desc) (known d) → DidPart good stm v (record v { desc = d })
   did-part d k = by k.made
     where
-      by : ((known d).made ≡ (known v.desc).made) ⊎ (((known v.desc).running ≡ true) × (is_irrevocable (known v.desc) ≡ true) × ((time : ℕ) × answers.CommitsAt good stm.config (caller_of v.desc.who.role) time (known v.desc) (known d))) → DidPart good stm v (record v { desc = d })
+      by : ((known d).made ≡ (known v.desc).made)
+          ⊎ (((known v.desc).running ≡ true) × (is_irrevocable (known v.desc) ≡ true)
+          × ((time : ℕ) × answers.CommitsAt good stm.config (caller_of v.desc.who.role) time (known v.desc) (known d)))
+          → DidPart good stm v (record v { desc = d })
       by (inl made) = rested-part d made (grew (known v.desc) (known d) k.grows)
       by (inr c) = committed-part d c.2.0 c.0 c.2.1
 
   -- the worker with its descriptor left so
-  pub made-idle : (d : Handle K) → IsSameCaller v.desc d → IsIdle (known d) → (known d).rises ≤ owed (known v.desc) → KeepsMade good stm.config (caller_of v.desc.who.role) (known v.desc) (known d) → (v.phase ≡ Between → d ≡ v.desc) → MadeIdle good stm v (record v { desc = d })
+  pub made-idle : (d : Handle K) → IsSameCaller v.desc d → IsIdle (known d) → (known d).rises ≤ owed (known v.desc)
+      → KeepsMade good stm.config (caller_of v.desc.who.role) (known v.desc) (known d) → (v.phase ≡ Between → d ≡ v.desc)
+      → MadeIdle good stm v (record v { desc = d })
   made-idle d same idle owes keeps still = record {
     own = record { table = same.table ∙ s.own.table; config = ap (λ x. x.config) same.who ∙ s.own.config; rule = ap (λ x. x.rule) same.who ∙ s.own.rule };
     idle = idle;

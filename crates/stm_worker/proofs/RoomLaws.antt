@@ -58,7 +58,9 @@ spare-empty (Switch caller alg ∷ items) spare out e = spare-empty items spare 
 spare-empty (Reserve caller reads writes ∷ items) spare out e = spare-empty items spare out e
 
 -- what was the last spare is now in use
-pub room-ended : (left : List Item) (spare less : List Output) (out fresh : Output) → BeforeTx left → spare ++ cleared out ∷ [] ≡ spares left → spare ≡ less ++ fresh ∷ [] → (fresh ≡ cleared fresh) × (less ++ cleared fresh ∷ [] ≡ spares (rest_of left))
+pub room-ended : (left : List Item) (spare less : List Output) (out fresh : Output) → BeforeTx left
+    → spare ++ cleared out ∷ [] ≡ spares left → spare ≡ less ++ fresh ∷ []
+    → (fresh ≡ cleared fresh) × (less ++ cleared fresh ∷ [] ≡ spares (rest_of left))
 room-ended left spare less out fresh b h was =
     let next = sym was ∙ (spare-next left spare out b h).0 in
     let empty = spare-empty (rest_of left) less fresh next in
@@ -68,10 +70,47 @@ pub one-less : {A : Type 0} (xs ys : List A) (x : A) → xs ≡ ys ++ x ∷ [] �
 one-less xs ys x e = ap length e ∙ length-append ys (x ∷ [])
 
 abbrev first_at : ℕ → List Item → Alg → Policy → ℕ → ℕ → CallerProgress
-first_at n items alg policy reads writes = record { caller = n; left = items; failed = 0; must = false; phase = Between; alg = alg; rest = []; replies = []; emits = []; wrote = false; granted = false; rows = []; policy = policy; profile = no_profile; chosen = None; reads_limit = reads; writes_limit = writes }
+first_at n items alg policy reads writes =
+    record {
+      caller = n;
+      left = items;
+      failed = 0;
+      must = false;
+      phase = Between;
+      alg = alg;
+      rest = [];
+      replies = [];
+      emits = [];
+      wrote = false;
+      granted = false;
+      rows = [];
+      policy = policy;
+      profile = no_profile;
+      chosen = None;
+      reads_limit = reads;
+      writes_limit = writes;
+    }
 
 -- a worker's place at first, where what is in use is empty
 pub start-at : (n : ℕ) (items : List Item) (alg : Alg) (policy : Policy) (reads writes : ℕ) (p : Noted) (o : Output) (rows : List Row) → o ≡ cleared o → rows ≡ [] → p ≡ no_profile
-    → record { caller = n; left = items; failed = 0; must = false; phase = Between; alg = alg; rest = []; replies = o.replies; emits = o.emits; wrote = false; granted = false; rows = rows; policy = policy; profile = p; chosen = None; reads_limit = reads; writes_limit = writes } ≡ first_at n items alg policy reads writes
+    → record {
+      caller = n;
+      left = items;
+      failed = 0;
+      must = false;
+      phase = Between;
+      alg = alg;
+      rest = [];
+      replies = o.replies;
+      emits = o.emits;
+      wrote = false;
+      granted = false;
+      rows = rows;
+      policy = policy;
+      profile = p;
+      chosen = None;
+      reads_limit = reads;
+      writes_limit = writes;
+    } ≡ first_at n items alg policy reads writes
 start-at n items alg policy reads writes p o rows empty none new =
     let r = ap (λ (x : Output). x.replies) empty in let e = ap (λ (x : Output). x.emits) empty in cc

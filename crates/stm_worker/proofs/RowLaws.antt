@@ -73,7 +73,8 @@ module _ (good : List ℕ → Type 0) (regions : List Region) (all : List Item) 
       subst (λ made. Worked good (zeros words) regions (script_of all) n made w.seen w.front (rows ++ row ∷ [])) (sym done.made)
       (worked-read good (zeros words) regions (script_of all) n v.made h.seen h.front w.seen w.front rows row grew h.works refl refl refl (omega arith) done.front fit)
 
-  pub row-cancelled : (t : ℕ) (last : Output) → GaveOver good config.words (run regions (before_cancel script)) no_log no_replies v.log out → has_cancel script ≡ true → has_irrev (before_cancel script) ≡ false → QuitsAt good config t v w
+  pub row-cancelled : (t : ℕ) (last : Output) → GaveOver good config.words (run regions (before_cancel script)) no_log no_replies v.log out
+      → has_cancel script ≡ true → has_irrev (before_cancel script) ≡ false → QuitsAt good config t v w
       → last ≡ record out { replies = out.replies ++ 1 ∷ [] } → Works good config.words regions all n w (rows ++ row_of C t n (length rows) last ∷ [])
   row-cancelled t last gave cancels unasked done told =
       let words = config.words in

@@ -1,6 +1,6 @@
 -- What stands of a worker whatever its turn is.
 use Rattle.std.proofs.Common.{ℕ, zero, suc, ◌≡◌, ◌≤◌, ◌+◌, true, false, List, [], ◌∷◌, ◌++◌, length, get_or, drop, refl, sym, ap, ◌∙◌, arith, subst, length-append, append_assoc, inl, inr}
-use Rattle.std.specs.Prelude.{◌⊎◌, ◌==◌, Option, Some, None}
+use Rattle.std.specs.Prelude.{◌⊎◌, ◌==◌}
 use Rattle.std.proofs.lemmas.Bool.Decides.{nat_tests}
 use Rattle.stm_model.specs.declared.alg.Alg.{Alg}
 use Rattle.stm_model.specs.declared.config.Config.{Config}
@@ -22,7 +22,7 @@ use Rattle.tx_answers.specs.CallerState.{CallerState, caller_of}
 use Rattle.stm_trace.specs.declared.said.Phase.{Phase}
 use Rattle.stm_trace.specs.declared.said.Phase.TheVariants.{Between, Inside, Closing, Quiet}
 use Rattle.stm_trace.specs.Places.{script_at, rest_of}
-use Rattle.stm_trace.specs.Turns.{BeforeTx, Lengthens, MustSwitchTo, SwitchesTo, Next}
+use Rattle.stm_trace.specs.Turns.{BeforeTx, Lengthens, SwitchesTo, Next}
 use Rattle.stm_worker.specs.Workers.{IsAt, WhenInside, ItemsFit, DidFirst, Works, WorksSince, Stands, cleared, spares}
 
 pub callers-same : {K : Type 0} (d e : Handle K) → IsSameCaller d e → caller_of e.who.role ≡ caller_of d.who.role
@@ -44,7 +44,8 @@ rest-fits good words regions n (Tx caller script ∷ items) h = h.3
 rest-fits good words regions n (Switch caller alg ∷ items) h = h.1
 rest-fits good words regions n (Reserve caller reads writes ∷ items) h = h.3
 
-pub tx-scripts : (good : List ℕ → Type 0) (words : ℕ) (regions : List Region) (n : ℕ) (left : List Item) → BeforeTx left → ItemsFit good words regions n left → scripts_of n left ≡ script_at left ∷ scripts_of n (rest_of left)
+pub tx-scripts : (good : List ℕ → Type 0) (words : ℕ) (regions : List Region) (n : ℕ) (left : List Item) → BeforeTx left
+    → ItemsFit good words regions n left → scripts_of n left ≡ script_at left ∷ scripts_of n (rest_of left)
 tx-scripts good words regions n [] b h = absurd b
 tx-scripts good words regions n (Tx caller script ∷ items) b h =
     let e = h.0 in
@@ -142,11 +143,15 @@ cleared-told o p rs e = ap cleared e
 pub cleared-more : (o p : Output) (rs es : List ℕ) → p ≡ record o { replies = rs; emits = es } → cleared p ≡ cleared o
 cleared-more o p rs es e = ap cleared e
 
-pub works-later : (good : List ℕ → Type 0) (words : ℕ) (regions : List Region) (all : List Item) (n : ℕ) (v w : CallerState) (rows : List Row) → w.made ≡ v.made → Grew v.seen v.front w.seen w.front → Works good words regions all n v rows → Works good words regions all n w rows
+pub works-later : (good : List ℕ → Type 0) (words : ℕ) (regions : List Region) (all : List Item) (n : ℕ) (v w : CallerState)
+    (rows : List Row) → w.made ≡ v.made → Grew v.seen v.front w.seen w.front → Works good words regions all n v rows
+    → Works good words regions all n w rows
 works-later good words regions all n v w rows made grows h =
     subst (λ m. Worked good (zeros words) regions (script_of all) n m w.seen w.front rows) (sym made) (worked-grows good (zeros words) regions (script_of all) n v.made v.seen v.front w.seen w.front rows grows h)
 
-pub since-later : (good : List ℕ → Type 0) (words : ℕ) (regions : List Region) (all : List Item) (n : ℕ) (v w : CallerState) (rows : List Row) → w.made ≡ v.made → Grew v.seen v.front w.seen w.front → v.start ≤ w.start → WorksSince good words regions all n v rows → WorksSince good words regions all n w rows
+pub since-later : (good : List ℕ → Type 0) (words : ℕ) (regions : List Region) (all : List Item) (n : ℕ) (v w : CallerState)
+    (rows : List Row) → w.made ≡ v.made → Grew v.seen v.front w.seen w.front → v.start ≤ w.start
+    → WorksSince good words regions all n v rows → WorksSince good words regions all n w rows
 since-later good words regions all n v w rows made grows start h = record {
   seen = h.seen;
   front = h.front;
@@ -155,7 +160,9 @@ since-later good words regions all n v w rows made grows start h = record {
   fresh = (let f = h.fresh in omega arith);
 }
 
-pub since-begin : (good : List ℕ → Type 0) (words : ℕ) (regions : List Region) (all : List Item) (n : ℕ) (v w : CallerState) (rows : List Row) → w.made ≡ v.made → Grew v.seen v.front w.seen w.front → v.front ≤ w.start → Works good words regions all n v rows → WorksSince good words regions all n w rows
+pub since-begin : (good : List ℕ → Type 0) (words : ℕ) (regions : List Region) (all : List Item) (n : ℕ) (v w : CallerState)
+    (rows : List Row) → w.made ≡ v.made → Grew v.seen v.front w.seen w.front → v.front ≤ w.start → Works good words regions all n v rows
+    → WorksSince good words regions all n w rows
 since-begin good words regions all n v w rows made grows fresh h = record {
   seen = v.seen;
   front = v.front;
@@ -214,7 +221,9 @@ module _ (good : List ℕ → Type 0) (words : ℕ) (regions : List Region) (all
   stands-rest Quiet r h = h
 
 -- an attempt that is over has left what was seen before and during it
-pub works-over : (good : List ℕ → Type 0) (words : ℕ) (regions : List Region) (all : List Item) (n : ℕ) (v w : CallerState) (rows : List Row) → w.made ≡ v.made → Grew v.seen v.front w.seen w.front → WorksSince good words regions all n v rows → Works good words regions all n w rows
+pub works-over : (good : List ℕ → Type 0) (words : ℕ) (regions : List Region) (all : List Item) (n : ℕ) (v w : CallerState)
+    (rows : List Row) → w.made ≡ v.made → Grew v.seen v.front w.seen w.front → WorksSince good words regions all n v rows
+    → Works good words regions all n w rows
 works-over good words regions all n v w rows made grows h =
     subst (λ m. Worked good (zeros words) regions (script_of all) n m w.seen w.front rows) (sym made)
     (worked-grows good (zeros words) regions (script_of all) n v.made h.seen h.front w.seen w.front rows (grew-trans h.seen h.front v.seen v.front w.seen w.front h.grew grows) h.works)

@@ -212,7 +212,8 @@ module _ (good : List ℕ → Type 0) (c : Config) (n : ℕ) where
         by true e = absurd (let t : true ≡ false = sym (k.irrevocable inside e).1 ∙ off in cc)
         by false e = refl
 
-    pub tells-fair : (said : Said) (v w : CallerState) → Asks said v → (v.running ≡ true → IsPlaceOf v at) → (v.reads_limit ≡ at.reads_limit) × (v.writes_limit ≡ at.writes_limit) → Tells good c n said v w → IsFair h at said
+    pub tells-fair : (said : Said) (v w : CallerState) → Asks said v → (v.running ≡ true → IsPlaceOf v at)
+        → (v.reads_limit ≡ at.reads_limit) × (v.writes_limit ≡ at.writes_limit) → Tells good c n said v w → IsFair h at said
     tells-fair (TryBegin b) v w out is lengths t = fair-begin good c n h at ranges sizes caller b v w t
     tells-fair (Reply op reply) v w inside is lengths t = tt
     tells-fair (Stopped op stop) v w inside is lengths t =

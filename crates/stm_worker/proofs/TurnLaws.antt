@@ -67,7 +67,8 @@ began-at : (at : CallerProgress) (ops : List Op) (o : Output) (alg : Alg) → op
     → record at { phase = Inside; alg = alg; rest = ops; replies = o.replies; emits = o.emits; wrote = false; granted = false } ≡ after at (TryBegin (Begun alg))
 began-at at ops o alg r a b = cc
 
-operated-at : (at : CallerProgress) (ops : List Op) (o : Output) (wrote : Bool) (op : Op) (reply : ℕ) → ops ≡ rest_of at.rest → wrote ≡ at.wrote || writes op reply → o.replies ≡ at.replies ++ reply ∷ [] → o.emits ≡ at.emits ++ emits_of op reply
+operated-at : (at : CallerProgress) (ops : List Op) (o : Output) (wrote : Bool) (op : Op) (reply : ℕ) → ops ≡ rest_of at.rest
+    → wrote ≡ at.wrote || writes op reply → o.replies ≡ at.replies ++ reply ∷ [] → o.emits ≡ at.emits ++ emits_of op reply
     → record at { rest = ops; replies = o.replies; emits = o.emits; wrote = wrote } ≡ after at (Reply op reply)
 operated-at at ops o wrote op reply r w a b = cc
 
@@ -196,10 +197,14 @@ module _ {K : Type 0} (good : List ℕ → Type 0) (stm : Stm K) (u : Worker K) 
 
   module _ (may : CallerProgress → Said → Type 0) (said : Said) (w : Worker K) (config : IsConfig stm.config) (goes : may (place_of u) said → MayTurn (place_of u) said) where
     fair-turn : Asks said (known u.desc) → Tells good stm.config (caller_of u.desc.who.role) said (known u.desc) (known w.desc) → (h : Header) → HasSizes stm.config h → IsFair h (place_of u) said
-    fair-turn asks told h sizes = tells-fair good stm.config (caller_of u.desc.who.role) h (place_of u) config sizes refl said (known u.desc) (known w.desc) asks (λ e. place-is (inside-of-running u.phase s.at e)) (refl, refl) told
+    fair-turn asks told h sizes =
+        tells-fair good stm.config (caller_of u.desc.who.role) h (place_of u) config sizes refl said (known u.desc) (known w.desc) asks
+        (λ e. place-is (inside-of-running u.phase s.at e)) (refl, refl) told
 
     -- a turn by what its call told, and by what it left
-    pub turned-by : may (place_of u) said → Asks said (known u.desc) → Tells good stm.config (caller_of u.desc.who.role) said (known u.desc) (known w.desc) → place_of w ≡ after (place_of u) said → IsKept u w → Sound good stm w → Turned good stm may u said w
+    pub turned-by : may (place_of u) said → Asks said (known u.desc)
+        → Tells good stm.config (caller_of u.desc.who.role) said (known u.desc) (known w.desc) → place_of w ≡ after (place_of u) said
+        → IsKept u w → Sound good stm w → Turned good stm may u said w
     turned-by here asks told now kept sound = let fair = fair-turn asks told in record {
       sound = sound;
       here = here;
@@ -236,7 +241,19 @@ module _ {K : Type 0} (good : List ℕ → Type 0) (stm : Stm K) (u : Worker K) 
     -- whatever changed of the attempt, the rows are as they were
     sound-noted : (q : Noted) (p : Phase) (alg : Alg) (r : Bor (List Op)) (o : Output) (wrote granted must b : Bool) (failed : ℕ) → IsAt good stm.config (caller_of u.desc.who.role) p (known d) → cleared o ≡ cleared u.out
         → Stands good stm.config.words u.regions.now u.all.now (caller_of u.desc.who.role) (known d) u.rows.items p → IsCounted failed must → ToSwitch p u.chosen u.items_left.now
-        → WhenInside p (IsUnderWay good stm.config.words (record u { desc = d; phase = p; alg = alg; operations_left = r; out = o; wrote = wrote; granted = granted; must = must; failed = failed; passed = b; profile = q }))
+        → WhenInside p (IsUnderWay good stm.config.words (record u {
+          desc = d;
+          phase = p;
+          alg = alg;
+          operations_left = r;
+          out = o;
+          wrote = wrote;
+          granted = granted;
+          must = must;
+          failed = failed;
+          passed = b;
+          profile = q;
+        }))
         → Sound good stm (record u { desc = d; phase = p; alg = alg; operations_left = r; out = o; wrote = wrote; granted = granted; must = must; failed = failed; passed = b; profile = q })
     sound-noted q p alg r o wrote granted must b failed at room stands few turning under = record {
       own = own-same;
@@ -280,7 +297,9 @@ module _ {K : Type 0} (good : List ℕ → Type 0) (stm : Stm K) (u : Worker K) 
         (works-over good stm.config.words u.regions.now u.all.now (caller_of u.desc.who.role) (known u.desc) (known d) u.rows.items made (grew (known u.desc) (known d) grows) (inside-now inside))
         few tt tt
 
-    pub began : (alg : Alg) (r : Bor (List Op)) (o : Output) → u.phase ≡ Between → BeforeTx u.items_left.now → r.now ≡ script_at u.items_left.now → o ≡ cleared u.out → BeginsAt good stm.config (caller_of u.desc.who.role) alg (known u.desc) (known d)
+    pub began : (alg : Alg) (r : Bor (List Op)) (o : Output) → u.phase ≡ Between → BeforeTx u.items_left.now
+        → r.now ≡ script_at u.items_left.now → o ≡ cleared u.out
+        → BeginsAt good stm.config (caller_of u.desc.who.role) alg (known u.desc) (known d)
         → Sound good stm (record u { desc = d; phase = Inside; alg = alg; operations_left = r; out = o; wrote = false; granted = false; passed = false })
     began alg r o between here is clear h =
         let f = head-fits good stm.config.words u.regions.now (caller_of u.desc.who.role) u.items_left.now here s.fits in
@@ -290,7 +309,8 @@ module _ {K : Type 0} (good : List ℕ → Type 0) (stm : Stm K) (u : Worker K) 
         let most : length (script_at u.items_left.now) ≤ o.room = (let e = room-of u.items_left.now u.spare.items u.out here s.roomy.spare in omega (arith, e, room)) in
         let going = going-begun good stm.config.words u.regions.now (script_at u.items_left.now) (known d) alg o f.0 f.1 most replies emits h.log h.opaque.explained h.named h.granted in
         sound-of Inside alg r o false false u.must false u.failed h.running (ap cleared clear)
-        (since-begin good stm.config.words u.regions.now u.all.now (caller_of u.desc.who.role) (known u.desc) (known d) u.rows.items h.made (grew (known u.desc) (known d) grows) h.fresh (resting-now (rest-between u.phase between)))
+        (since-begin good stm.config.words u.regions.now u.all.now (caller_of u.desc.who.role) (known u.desc) (known d) u.rows.items h.made
+        (grew (known u.desc) (known d) grows) h.fresh (resting-now (rest-between u.phase between)))
         s.counted tt (record {
           going = subst (λ ops. Going good stm.config.words u.regions.now (script_at u.items_left.now) ops (known d) alg false o false) (sym is) going;
           here = here;
@@ -300,20 +320,52 @@ module _ {K : Type 0} (good : List ℕ → Type 0) (stm : Stm K) (u : Worker K) 
           waits = λ e f. refl;
         })
 
-    pub began-now : (alg : Alg) (r : Bor (List Op)) (o : Output) → r.now ≡ script_at u.items_left.now → o ≡ cleared u.out → place_of (record u { desc = d; phase = Inside; alg = alg; operations_left = r; out = o; wrote = false; granted = false; passed = false }) ≡ after (place_of u) (TryBegin (Begun alg))
-    began-now alg r o is clear = began-at (place_of (record u { desc = d })) r.now o alg is (ap (λ (x : Output). x.replies) clear) (ap (λ (x : Output). x.emits) clear) ∙ ap (λ (p : CallerProgress). after p (TryBegin (Begun alg))) place-now
+    pub began-now : (alg : Alg) (r : Bor (List Op)) (o : Output) → r.now ≡ script_at u.items_left.now → o ≡ cleared u.out
+        → place_of
+        (record u { desc = d; phase = Inside; alg = alg; operations_left = r; out = o; wrote = false; granted = false; passed = false })
+        ≡ after (place_of u) (TryBegin (Begun alg))
+    began-now alg r o is clear =
+        began-at (place_of (record u { desc = d })) r.now o alg is (ap (λ (x : Output). x.replies) clear)
+        (ap (λ (x : Output). x.emits) clear) ∙ ap (λ (p : CallerProgress). after p (TryBegin (Begun alg))) place-now
 
     -- the attempt goes on, from where the script was
-    stays-in : (alg : Alg) (r : Bor (List Op)) (o : Output) (wrote granted must b : Bool) (failed : ℕ) → u.phase ≡ Inside → (known d).running ≡ true → (known d).made ≡ (known u.desc).made → (known u.desc).start ≤ (known d).start → cleared o ≡ cleared u.out
-        → IsCounted failed must → IsUnderWay good stm.config.words (record u { desc = d; phase = u.phase; alg = alg; operations_left = r; out = o; wrote = wrote; granted = granted; must = must; failed = failed; passed = b })
+    stays-in : (alg : Alg) (r : Bor (List Op)) (o : Output) (wrote granted must b : Bool) (failed : ℕ) → u.phase ≡ Inside
+        → (known d).running ≡ true → (known d).made ≡ (known u.desc).made → (known u.desc).start ≤ (known d).start
+        → cleared o ≡ cleared u.out
+        → IsCounted failed must
+        → IsUnderWay good stm.config.words (record u {
+          desc = d;
+          phase = u.phase;
+          alg = alg;
+          operations_left = r;
+          out = o;
+          wrote = wrote;
+          granted = granted;
+          must = must;
+          failed = failed;
+          passed = b;
+        })
         → Sound good stm (record u { desc = d; phase = u.phase; alg = alg; operations_left = r; out = o; wrote = wrote; granted = granted; must = must; failed = failed; passed = b })
     stays-in alg r o wrote granted must b failed inside runs made start room few under =
         sound-of u.phase alg r o wrote granted must b failed (subst (λ p. IsAt good stm.config (caller_of u.desc.who.role) p (known d)) (sym inside) runs) room
         (subst (Stands good stm.config.words u.regions.now u.all.now (caller_of u.desc.who.role) (known d) u.rows.items) (sym inside)
         (since-later good stm.config.words u.regions.now u.all.now (caller_of u.desc.who.role) (known u.desc) (known d) u.rows.items made (grew (known u.desc) (known d) grows) start (inside-now inside)))
-        few s.turning (subst (λ p. WhenInside p (IsUnderWay good stm.config.words (record u { desc = d; phase = u.phase; alg = alg; operations_left = r; out = o; wrote = wrote; granted = granted; must = must; failed = failed; passed = b }))) (sym inside) under)
+        few s.turning (subst (λ p.
+        WhenInside p (IsUnderWay good stm.config.words (record u {
+          desc = d;
+          phase = u.phase;
+          alg = alg;
+          operations_left = r;
+          out = o;
+          wrote = wrote;
+          granted = granted;
+          must = must;
+          failed = failed;
+          passed = b;
+        }))) (sym inside) under)
 
-    pub operated : (op : Op) (reply : ℕ) (r : Bor (List Op)) (o : Output) (wrote : Bool) → Comes op (place_of u) → is_cancel op ≡ false → is_irrev op ≡ false → r.now ≡ rest_of u.operations_left.now → wrote ≡ u.wrote || writes op reply
+    pub operated : (op : Op) (reply : ℕ) (r : Bor (List Op)) (o : Output) (wrote : Bool) → Comes op (place_of u) → is_cancel op ≡ false
+        → is_irrev op ≡ false → r.now ≡ rest_of u.operations_left.now → wrote ≡ u.wrote || writes op reply
         → Carries (known u.desc) (known d) → IsRunning (known d)
         → GaveOver good stm.config.words (ran_one u.regions.now op) (known u.desc).log u.out (known d).log o
         → (IsExplained good stm.config.words (known u.desc).log → IsExplained good stm.config.words (known d).log) → o ≡ record u.out { replies = u.out.replies ++ reply ∷ []; emits = u.out.emits ++ emits_of op reply }
@@ -326,7 +378,8 @@ module _ {K : Type 0} (good : List ℕ → Type 0) (stm : Stm K) (u : Worker K) 
         let still = carries.going runs.0 in
         let written : knows.wrote (known d) ≡ u.wrote || writes op reply = sym (going-writes ops gave told g (more g.explained)) in
         let certain : irrevocable_under u.alg u.granted (u.wrote || writes op reply) ≡ is_irrevocable (known d) = irrevocable-after carries still (g.named) (g.writer) written g.irrevocable in
-        let step = going-step good stm.config.words u.regions.now (script_at u.items_left.now) op (rest_of u.operations_left.now) (known u.desc) (known d) u.alg u.granted u.granted u.out o u.wrote reply plain (λ off. unasked) told g gave (more g.explained)
+        let step = going-step good stm.config.words u.regions.now (script_at u.items_left.now) op (rest_of u.operations_left.now)
+        (known u.desc) (known d) u.alg u.granted u.granted u.out o u.wrote reply plain (λ off. unasked) told g gave (more g.explained)
         carries.alg certain (λ i. (carries.irrevocable (runs-now inside) i).1) (room-next u.out o reply (length (rest_of u.operations_left.now)) (emits_of op reply) told (few-emits op reply) g.room) in
         let going = subst (λ x. Going good stm.config.words u.regions.now (script_at u.items_left.now) x (known d) u.alg u.granted o wrote) (sym is)
         (subst (λ b. Going good stm.config.words u.regions.now (script_at u.items_left.now) (rest_of u.operations_left.now) (known d) u.alg u.granted o b) (sym was) step) in
@@ -336,16 +389,28 @@ module _ {K : Type 0} (good : List ℕ → Type 0) (stm : Stm K) (u : Worker K) 
           unfenced = still.fence ∙ at.unfenced;
           unrolled = still.unrolled at.unrolled;
           committing = λ e. absurd (let f : true ≡ false = sym e ∙ runs.1 in cc);
-          waits = λ e off. absurd (let now = and-left u.must (irrevocable (place_of u)) comes.1 e in let later = ap (irrevocable_under u.alg u.granted) was ∙ irrevocable-wrote u.alg u.granted u.wrote (writes op reply) now in let f : true ≡ false = sym later ∙ off in cc);
+          waits =
+              λ e off.
+              absurd (let now = and-left u.must (irrevocable (place_of u)) comes.1 e in
+              let later = ap (irrevocable_under u.alg u.granted) was ∙ irrevocable-wrote u.alg u.granted u.wrote (writes op reply) now in
+              let f : true ≡ false = sym later ∙ off in cc);
         })
       where
-        going-writes : u.operations_left.now ≡ op ∷ rest_of u.operations_left.now → GaveOver good stm.config.words (ran_one u.regions.now op) (known u.desc).log u.out (known d).log o → o ≡ record u.out { replies = u.out.replies ++ reply ∷ []; emits = u.out.emits ++ emits_of op reply }
-            → Going good stm.config.words u.regions.now (script_at u.items_left.now) (op ∷ rest_of u.operations_left.now) (known u.desc) u.alg u.granted u.out u.wrote → IsExplained good stm.config.words (known d).log → u.wrote || writes op reply ≡ knows.wrote (known d)
+        going-writes : u.operations_left.now ≡ op ∷ rest_of u.operations_left.now
+            → GaveOver good stm.config.words (ran_one u.regions.now op) (known u.desc).log u.out (known d).log o
+            → o ≡ record u.out { replies = u.out.replies ++ reply ∷ []; emits = u.out.emits ++ emits_of op reply }
+            → Going good stm.config.words u.regions.now (script_at u.items_left.now) (op ∷ rest_of u.operations_left.now) (known u.desc)
+            u.alg u.granted u.out u.wrote → IsExplained good stm.config.words (known d).log
+            → u.wrote || writes op reply ≡ knows.wrote (known d)
         going-writes ops gave told g ex = wrote-one good stm.config.words u.regions.now op (known u.desc) (known d) u.out o u.wrote reply told g.writer gave ex
 
         irrevocable-after : Carries (known u.desc) (known d) → IsStillIn (known u.desc) (known d) → (known u.desc).alg ≡ u.alg → u.wrote ≡ knows.wrote (known u.desc) → knows.wrote (known d) ≡ u.wrote || writes op reply
             → irrevocable_under u.alg u.granted u.wrote ≡ is_irrevocable (known u.desc) → irrevocable_under u.alg u.granted (u.wrote || writes op reply) ≡ is_irrevocable (known d)
-        irrevocable-after c still named was now irrevocable = by u.alg u.granted (known u.desc).granted u.wrote (writes op reply) (subst (λ a. irrevocable_under u.alg u.granted u.wrote ≡ irrevocable_under a (known u.desc).granted (knows.wrote (known u.desc))) named irrevocable ∙ ap (irrevocable_under u.alg (known u.desc).granted) (sym was))
+        irrevocable-after c still named was now irrevocable =
+            by u.alg u.granted (known u.desc).granted u.wrote (writes op reply)
+            (subst
+            (λ a. irrevocable_under u.alg u.granted u.wrote ≡ irrevocable_under a (known u.desc).granted (knows.wrote (known u.desc))) named
+            irrevocable ∙ ap (irrevocable_under u.alg (known u.desc).granted) (sym was))
             ∙ ((λ i. irrevocable_under (sym (c.alg ∙ named) i) (sym still.granted i) (sym now i)))
           where
             by : (a : Alg) (x y w m : Bool) → irrevocable_under a x w ≡ irrevocable_under a y w → irrevocable_under a x (w || m) ≡ irrevocable_under a y (w || m)
@@ -361,22 +426,32 @@ module _ {K : Type 0} (good : List ℕ → Type 0) (stm : Stm K) (u : Worker K) 
             by Alg.RingSw x y w m h = h
             by Alg.Serial x y w m h = h
 
-    pub operated-now : (op : Op) (reply : ℕ) (r : Bor (List Op)) (o : Output) (wrote : Bool) → r.now ≡ rest_of u.operations_left.now → wrote ≡ u.wrote || writes op reply → o ≡ record u.out { replies = u.out.replies ++ reply ∷ []; emits = u.out.emits ++ emits_of op reply }
+    pub operated-now : (op : Op) (reply : ℕ) (r : Bor (List Op)) (o : Output) (wrote : Bool) → r.now ≡ rest_of u.operations_left.now
+        → wrote ≡ u.wrote || writes op reply
+        → o ≡ record u.out { replies = u.out.replies ++ reply ∷ []; emits = u.out.emits ++ emits_of op reply }
         → place_of (record u { desc = d; operations_left = r; out = o; wrote = wrote }) ≡ after (place_of u) (Reply op reply)
-    operated-now op reply r o wrote is was told = operated-at (place_of (record u { desc = d })) r.now o wrote op reply is was (ap (λ (x : Output). x.replies) told) (ap (λ (x : Output). x.emits) told) ∙ ap (λ (p : CallerProgress). after p (Reply op reply)) place-now
+    operated-now op reply r o wrote is was told =
+        operated-at (place_of (record u { desc = d })) r.now o wrote op reply is was (ap (λ (x : Output). x.replies) told)
+        (ap (λ (x : Output). x.emits) told) ∙ ap (λ (p : CallerProgress). after p (Reply op reply)) place-now
 
     -- the caller knows what it knew: the call changed nothing
     same-known : known d ≡ known u.desc → Stands good stm.config.words u.regions.now u.all.now (caller_of u.desc.who.role) (known d) u.rows.items u.phase
     same-known knows = subst (λ v. Stands good stm.config.words u.regions.now u.all.now (caller_of u.desc.who.role) v u.rows.items u.phase) (sym knows) s.stands
 
-    pub refused : (r : Bor (List Op)) (o : Output) → Comes Cancel (place_of u) → r.now ≡ rest_of u.operations_left.now → known d ≡ known u.desc → is_irrevocable (known u.desc) ≡ true → o ≡ record u.out { replies = u.out.replies ++ 0 ∷ [] }
+    pub refused : (r : Bor (List Op)) (o : Output) → Comes Cancel (place_of u) → r.now ≡ rest_of u.operations_left.now
+        → known d ≡ known u.desc → is_irrevocable (known u.desc) ≡ true → o ≡ record u.out { replies = u.out.replies ++ 0 ∷ [] }
         → Sound good stm (record u { desc = d; operations_left = r; out = o })
     refused r o comes is knows certain told =
         let inside = comes.0 in
         let at = attempt-now inside in
         let g = subst (λ x. Going good stm.config.words u.regions.now (script_at u.items_left.now) x (known u.desc) u.alg u.granted u.out u.wrote) (next-is Cancel u.operations_left.now comes.2) at.going in
-        let step = going-refused good stm.config.words u.regions.now (script_at u.items_left.now) (rest_of u.operations_left.now) (known u.desc) u.alg u.granted u.out o u.wrote g certain told (room-told u.out o 0 (length (rest_of u.operations_left.now)) told g.room) in
-        let going = subst (λ v. Going good stm.config.words u.regions.now (script_at u.items_left.now) r.now v u.alg u.granted o u.wrote) (sym knows) (subst (λ x. Going good stm.config.words u.regions.now (script_at u.items_left.now) x (known u.desc) u.alg u.granted o u.wrote) (sym is) step) in
+        let step = going-refused good stm.config.words u.regions.now (script_at u.items_left.now) (rest_of u.operations_left.now)
+        (known u.desc) u.alg u.granted u.out o u.wrote g certain told
+        (room-told u.out o 0 (length (rest_of u.operations_left.now)) told g.room) in
+        let going = subst (λ v. Going good stm.config.words u.regions.now (script_at u.items_left.now) r.now v u.alg u.granted o u.wrote)
+        (sym knows) (subst
+        (λ x. Going good stm.config.words u.regions.now (script_at u.items_left.now) x (known u.desc) u.alg u.granted o u.wrote) (sym is)
+        step) in
         sound-of u.phase u.alg r o u.wrote u.granted u.must u.passed u.failed (subst (IsAt good stm.config (caller_of u.desc.who.role) u.phase) (sym knows) s.at) (cleared-told u.out o (u.out.replies ++ 0 ∷ []) told)
         (same-known knows) s.counted s.turning (subst (λ p. WhenInside p (IsUnderWay good stm.config.words (record u { desc = d; operations_left = r; out = o }))) (sym inside) (record {
           going = going;
@@ -387,8 +462,12 @@ module _ {K : Type 0} (good : List ℕ → Type 0) (stm : Stm K) (u : Worker K) 
           waits = at.waits;
         }))
 
-    pub refused-now : (r : Bor (List Op)) (o : Output) → r.now ≡ rest_of u.operations_left.now → o ≡ record u.out { replies = u.out.replies ++ 0 ∷ [] } → place_of (record u { desc = d; operations_left = r; out = o }) ≡ after (place_of u) (TryCancel Irrevocable)
-    refused-now r o is told = refused-at (place_of (record u { desc = d })) r.now o is (ap (λ (x : Output). x.replies) told) (ap (λ (x : Output). x.emits) told) ∙ ap (λ (p : CallerProgress). after p (TryCancel Irrevocable)) place-now
+    pub refused-now : (r : Bor (List Op)) (o : Output) → r.now ≡ rest_of u.operations_left.now
+        → o ≡ record u.out { replies = u.out.replies ++ 0 ∷ [] }
+        → place_of (record u { desc = d; operations_left = r; out = o }) ≡ after (place_of u) (TryCancel Irrevocable)
+    refused-now r o is told =
+        refused-at (place_of (record u { desc = d })) r.now o is (ap (λ (x : Output). x.replies) told) (ap (λ (x : Output). x.emits) told)
+        ∙ ap (λ (p : CallerProgress). after p (TryCancel Irrevocable)) place-now
 
     -- a cancel was refused outside the script
     pub refused-drop : u.phase ≡ Inside → known d ≡ known u.desc → is_irrevocable (known u.desc) ≡ true → Refused good stm u (record u { desc = d })
@@ -421,7 +500,10 @@ module _ {K : Type 0} (good : List ℕ → Type 0) (stm : Stm K) (u : Worker K) 
         let at = attempt-now inside in
         let certain = granted-irrevocable u.alg u.wrote in
         stays-in u.alg u.operations_left u.out u.wrote true u.must u.passed u.failed inside h.continues.running h.continues.made h.continues.later refl s.counted (record {
-          going = going-later good stm.config.words u.regions.now (script_at u.items_left.now) u.operations_left.now (known u.desc) (known d) u.alg u.granted true u.out u.wrote at.going h.log h.continues.alg h.opaque.explained (certain ∙ sym h.irrevocable) (λ off. absurd (let f : true ≡ false = sym h.irrevocable ∙ off in cc));
+          going =
+              going-later good stm.config.words u.regions.now (script_at u.items_left.now) u.operations_left.now (known u.desc) (known d)
+              u.alg u.granted true u.out u.wrote at.going h.log h.continues.alg h.opaque.explained (certain ∙ sym h.irrevocable) (λ off.
+              absurd (let f : true ≡ false = sym h.irrevocable ∙ off in cc));
           here = at.here;
           unfenced = h.continues.fence ∙ at.unfenced;
           unrolled = λ e. h.kept (at.unrolled (ap (λ (g : Log). not (is_empty g.writes)) (sym h.log) ∙ e));
@@ -429,14 +511,18 @@ module _ {K : Type 0} (good : List ℕ → Type 0) (stm : Stm K) (u : Worker K) 
           waits = λ e off. absurd (let f : true ≡ false = sym certain ∙ off in cc);
         })
 
-    pub granted-asked : (r : Bor (List Op)) (o : Output) → Comes Irrev (place_of u) → r.now ≡ rest_of u.operations_left.now → o ≡ record u.out { replies = u.out.replies ++ 1 ∷ [] } → answers.TriesIrrevocable good stm.config (caller_of u.desc.who.role) (known u.desc) (known d)
+    pub granted-asked : (r : Bor (List Op)) (o : Output) → Comes Irrev (place_of u) → r.now ≡ rest_of u.operations_left.now
+        → o ≡ record u.out { replies = u.out.replies ++ 1 ∷ [] }
+        → answers.TriesIrrevocable good stm.config (caller_of u.desc.who.role) (known u.desc) (known d)
         → Sound good stm (record u { desc = d; operations_left = r; out = o; granted = true })
     granted-asked r o comes is told h =
         let inside = comes.0 in
         let at = attempt-now inside in
         let certain = granted-irrevocable u.alg u.wrote in
         let g = subst (λ x. Going good stm.config.words u.regions.now (script_at u.items_left.now) x (known u.desc) u.alg u.granted u.out u.wrote) (next-is Irrev u.operations_left.now comes.2) at.going in
-        let step = going-asked good stm.config.words u.regions.now (script_at u.items_left.now) (rest_of u.operations_left.now) (known u.desc) (known d) u.alg u.granted true u.out o u.wrote g h.log h.continues.alg h.opaque.explained certain h.irrevocable told (room-told u.out o 1 (length (rest_of u.operations_left.now)) told g.room) in
+        let step = going-asked good stm.config.words u.regions.now (script_at u.items_left.now) (rest_of u.operations_left.now)
+        (known u.desc) (known d) u.alg u.granted true u.out o u.wrote g h.log h.continues.alg h.opaque.explained certain h.irrevocable told
+        (room-told u.out o 1 (length (rest_of u.operations_left.now)) told g.room) in
         stays-in u.alg r o u.wrote true u.must u.passed u.failed inside h.continues.running h.continues.made h.continues.later (cleared-told u.out o (u.out.replies ++ 1 ∷ []) told) s.counted (record {
           going = subst (λ x. Going good stm.config.words u.regions.now (script_at u.items_left.now) x (known d) u.alg true o u.wrote) (sym is) step;
           here = at.here;
@@ -449,17 +535,26 @@ module _ {K : Type 0} (good : List ℕ → Type 0) (stm : Stm K) (u : Worker K) 
     pub forced-now : is_forced (place_of u) ≡ true → place_of (record u { desc = d; granted = true }) ≡ after (place_of u) (TryIrrevocable Granted)
     forced-now e = ap (λ (p : CallerProgress). record p { granted = true }) place-now ∙ sym (ap (λ b. granted_at b (place_of u)) e)
 
-    pub asked-now : (r : Bor (List Op)) (o : Output) → is_forced (place_of u) ≡ false → r.now ≡ rest_of u.operations_left.now → o ≡ record u.out { replies = u.out.replies ++ 1 ∷ [] } → place_of (record u { desc = d; operations_left = r; out = o; granted = true }) ≡ after (place_of u) (TryIrrevocable Granted)
-    asked-now r o e is told = asked-at (place_of (record u { desc = d })) r.now o is (ap (λ (x : Output). x.replies) told) (ap (λ (x : Output). x.emits) told) ∙ (ap (granted_at false) place-now ∙ sym (ap (λ b. granted_at b (place_of u)) e))
+    pub asked-now : (r : Bor (List Op)) (o : Output) → is_forced (place_of u) ≡ false → r.now ≡ rest_of u.operations_left.now
+        → o ≡ record u.out { replies = u.out.replies ++ 1 ∷ [] }
+        → place_of (record u { desc = d; operations_left = r; out = o; granted = true }) ≡ after (place_of u) (TryIrrevocable Granted)
+    asked-now r o e is told =
+        asked-at (place_of (record u { desc = d })) r.now o is (ap (λ (x : Output). x.replies) told) (ap (λ (x : Output). x.emits) told)
+        ∙ (ap (granted_at false) place-now ∙ sym (ap (λ b. granted_at b (place_of u)) e))
 
     -- the attempt waits to be alone, or to commit
-    waits-on : (b : Bool) → u.phase ≡ Inside → Continues (known u.desc) (known d) → (known d).log ≡ (known u.desc).log → (known d).kept ≡ (known u.desc).kept → (known d).granted ≡ (known u.desc).granted → answers.IsOpaque good stm.config (caller_of u.desc.who.role) (known d)
+    waits-on : (b : Bool) → u.phase ≡ Inside → Continues (known u.desc) (known d) → (known d).log ≡ (known u.desc).log
+        → (known d).kept ≡ (known u.desc).kept → (known d).granted ≡ (known u.desc).granted
+        → answers.IsOpaque good stm.config (caller_of u.desc.who.role) (known d)
         → ((known d).committing ≡ true → (u.operations_left.now ≡ []) × (is_forced (place_of u) ≡ false)) → Sound good stm (record u { desc = d; passed = b })
     waits-on b inside h log kept grant opaque committing =
         let at = attempt-now inside in
         let same_irrevocable : is_irrevocable (known d) ≡ is_irrevocable (known u.desc) = λ i. irrevocable_under (h.alg i) (grant i) (knows.wrote (record (known u.desc) { log = log i })) in
         stays-in u.alg u.operations_left u.out u.wrote u.granted u.must b u.failed inside h.running h.made h.later refl s.counted (record {
-          going = going-later good stm.config.words u.regions.now (script_at u.items_left.now) u.operations_left.now (known u.desc) (known d) u.alg u.granted u.granted u.out u.wrote at.going log h.alg opaque.explained (at.going.irrevocable ∙ sym same_irrevocable) (λ off. sym same_irrevocable ∙ off);
+          going =
+              going-later good stm.config.words u.regions.now (script_at u.items_left.now) u.operations_left.now (known u.desc) (known d)
+              u.alg u.granted u.granted u.out u.wrote at.going log h.alg opaque.explained (at.going.irrevocable ∙ sym same_irrevocable)
+              (λ off. sym same_irrevocable ∙ off);
           here = at.here;
           unfenced = h.fence ∙ at.unfenced;
           unrolled = λ e. kept ∙ at.unrolled (ap (λ (g : Log). not (is_empty g.writes)) (sym log) ∙ e);
@@ -470,7 +565,10 @@ module _ {K : Type 0} (good : List ℕ → Type 0) (stm : Stm K) (u : Worker K) 
     pub busied : u.phase ≡ Inside → answers.Waits good stm.config (caller_of u.desc.who.role) (known u.desc) (known d) → Sound good stm (record u { desc = d; passed = u.passed })
     busied inside h = waits-on u.passed inside h.continues h.log h.kept h.granted h.opaque (λ e. absurd (let f : true ≡ false = sym e ∙ h.uncommitted in cc))
 
-    pub again : (b : Bool) → u.phase ≡ Inside → u.operations_left.now ≡ [] → is_forced (place_of u) ≡ false → answers.GoesOn stm.config ToCommit (known u.desc) (known d) → (known d).log ≡ (known u.desc).log → (known d).kept ≡ (known u.desc).kept → answers.IsOpaque good stm.config (caller_of u.desc.who.role) (known d) → Sound good stm (record u { desc = d; passed = b })
+    pub again : (b : Bool) → u.phase ≡ Inside → u.operations_left.now ≡ [] → is_forced (place_of u) ≡ false
+        → answers.GoesOn stm.config ToCommit (known u.desc) (known d) → (known d).log ≡ (known u.desc).log
+        → (known d).kept ≡ (known u.desc).kept → answers.IsOpaque good stm.config (caller_of u.desc.who.role) (known d)
+        → Sound good stm (record u { desc = d; passed = b })
     again b inside none free h log kept opaque = waits-on b inside h.continues log kept h.granted opaque (λ e. (none, free))
 
     pub same-place : (b : Bool) → place_of (record u { desc = d; passed = b }) ≡ place_of u
@@ -479,7 +577,9 @@ module _ {K : Type 0} (good : List ℕ → Type 0) (stm : Stm K) (u : Worker K) 
     pub still-same : (b : Bool) → IsKept u (record u { desc = d; passed = b })
     still-same b = record { same = same; all = refl; regions = refl; policy = refl }
 
-    pub over-now : (said : Said) (q : Noted) (must b : Bool) (failed : ℕ) (o : Output) → o ≡ cleared u.out → record (place_of u) { phase = Between; replies = []; emits = []; failed = failed; must = must; profile = q } ≡ after (place_of u) said
+    pub over-now : (said : Said) (q : Noted) (must b : Bool) (failed : ℕ) (o : Output) → o ≡ cleared u.out
+        → record (place_of u) { phase = Between; replies = []; emits = []; failed = failed; must = must; profile = q }
+        ≡ after (place_of u) said
         → place_of (record u { desc = d; phase = Between; out = o; must = must; failed = failed; passed = b; profile = q }) ≡ after (place_of u) said
     over-now said q must b failed o clear is =
         let r : o.replies ≡ [] = ap (λ (x : Output). x.replies) clear in
@@ -487,17 +587,23 @@ module _ {K : Type 0} (good : List ℕ → Type 0) (stm : Stm K) (u : Worker K) 
         (λ i. record (place-now i) { phase = Between; replies = r i; emits = e i; failed = failed; must = must; profile = q }) ∙ is
 
     script-here : BeforeTx u.items_left.now → slice_index_or (scripts_of (caller_of u.desc.who.role) u.all.now) (length u.rows.items) [] ≡ script_at u.items_left.now
-    script-here b = (drop-head (length u.rows.items) [] (script_at u.items_left.now) (scripts_of (caller_of u.desc.who.role) u.all.now) (scripts_of (caller_of u.desc.who.role) (rest_of u.items_left.now)) (sym (tx-scripts good stm.config.words u.regions.now (caller_of u.desc.who.role) u.items_left.now b s.fits) ∙ s.todo)).0
+    script-here b =
+        (drop-head (length u.rows.items) [] (script_at u.items_left.now) (scripts_of (caller_of u.desc.who.role) u.all.now)
+        (scripts_of (caller_of u.desc.who.role) (rest_of u.items_left.now))
+        (sym (tx-scripts good stm.config.words u.regions.now (caller_of u.desc.who.role) u.items_left.now b s.fits) ∙ s.todo)).0
 
     -- the row is written, whose replies are those in o
     row-ended : (kind : Kind) (time : ℕ) (o : Output) (b : Bool) (w : Worker K) → u.phase ≡ Inside → IsIdle (known d)
-        → Works good stm.config.words u.regions.now u.all.now (caller_of u.desc.who.role) (known d) (u.rows.items ++ row_of kind time (caller_of u.desc.who.role) (length u.rows.items) o ∷ []) → EndsWith kind time (record u { desc = d; out = o; passed = b }) w
+        → Works good stm.config.words u.regions.now u.all.now (caller_of u.desc.who.role) (known d)
+        (u.rows.items ++ row_of kind time (caller_of u.desc.who.role) (length u.rows.items) o ∷ [])
+        → EndsWith kind time (record u { desc = d; out = o; passed = b }) w
         → Sound good stm w × IsKept u w × (place_of w ≡ ended kind time (record (place_of u) { replies = o.replies; emits = o.emits }))
     row-ended kind time o b w inside idle works ends =
         let n = caller_of u.desc.who.role in
         let first = (attempt-now inside).here in
         let row = row_of kind time n (length u.rows.items) o in
-        let at : place_of w ≡ ended kind time (record (place_of u) { replies = o.replies; emits = o.emits }) = ends.at ∙ ap (λ (p : CallerProgress). ended kind time (record p { replies = o.replies; emits = o.emits })) place-now in
+        let at : place_of w ≡ ended kind time (record (place_of u) { replies = o.replies; emits = o.emits }) = ends.at ∙ ap
+        (λ (p : CallerProgress). ended kind time (record p { replies = o.replies; emits = o.emits })) place-now in
         let caller : caller_of w.desc.who.role ≡ n = ap (λ (p : CallerProgress). p.caller) at in
         let rows : w.rows.items ≡ u.rows.items ++ row ∷ [] = ap (λ (p : CallerProgress). p.rows) at in
         let left : w.items_left.now ≡ rest_of u.items_left.now = ap (λ (p : CallerProgress). p.left) at in
@@ -545,29 +651,40 @@ module _ {K : Type 0} (good : List ℕ → Type 0) (stm : Stm K) (u : Worker K) 
     script-over : u.phase ≡ Inside → u.operations_left.now ≡ [] → GaveOver good stm.config.words (run u.regions.now (script_at u.items_left.now)) no_log no_replies (known u.desc).log u.out
     script-over inside none = gave-all good stm.config.words u.regions.now (script_at u.items_left.now) u.operations_left.now (known u.desc) u.alg u.granted u.out u.wrote (attempt-now inside).going none
 
-    pub committed : (t : ℕ) (b : Bool) (w : Worker K) → u.phase ≡ Inside → u.operations_left.now ≡ [] → answers.CommitsAt good stm.config (caller_of u.desc.who.role) t (known u.desc) (known d) → EndsWith W t (record u { desc = d; passed = b }) w
+    pub committed : (t : ℕ) (b : Bool) (w : Worker K) → u.phase ≡ Inside → u.operations_left.now ≡ []
+        → answers.CommitsAt good stm.config (caller_of u.desc.who.role) t (known u.desc) (known d)
+        → EndsWith W t (record u { desc = d; passed = b }) w
         → Sound good stm w × IsKept u w × (place_of w ≡ after (place_of u) (TryCommit (Committed t)))
     committed t b w inside none h ends =
         row-ended W t u.out b w inside h.ends.idle
-        (row-wrote good u.regions.now u.all.now stm.config (caller_of u.desc.who.role) (known u.desc) (known d) u.rows.items (script_at u.items_left.now) u.out (script-here (attempt-now inside).here) (inside-now inside) t (script-over inside none)
+        (row-wrote good u.regions.now u.all.now stm.config (caller_of u.desc.who.role) (known u.desc) (known d) u.rows.items
+        (script_at u.items_left.now) u.out (script-here (attempt-now inside).here) (inside-now inside) t (script-over inside none)
         (commits good stm.config (caller_of u.desc.who.role) t (known u.desc) (known d) h))
         ends
 
-    pub readonly : (t : ℕ) (b : Bool) (w : Worker K) → u.phase ≡ Inside → u.operations_left.now ≡ [] → answers.EndsAt good stm.config (caller_of u.desc.who.role) t (known u.desc) (known d) → knows.wrote (known u.desc) ≡ false → EndsWith R t (record u { desc = d; passed = b }) w
+    pub readonly : (t : ℕ) (b : Bool) (w : Worker K) → u.phase ≡ Inside → u.operations_left.now ≡ []
+        → answers.EndsAt good stm.config (caller_of u.desc.who.role) t (known u.desc) (known d) → knows.wrote (known u.desc) ≡ false
+        → EndsWith R t (record u { desc = d; passed = b }) w
         → Sound good stm w × IsKept u w × (place_of w ≡ after (place_of u) (TryCommit (ReadOnly t)))
     readonly t b w inside none h unwritten ends =
         row-ended R t u.out b w inside h.ends.idle
-        (row-read good u.regions.now u.all.now stm.config (caller_of u.desc.who.role) (known u.desc) (known d) u.rows.items (script_at u.items_left.now) u.out (script-here (attempt-now inside).here) (inside-now inside) t (script-over inside none)
+        (row-read good u.regions.now u.all.now stm.config (caller_of u.desc.who.role) (known u.desc) (known d) u.rows.items
+        (script_at u.items_left.now) u.out (script-here (attempt-now inside).here) (inside-now inside) t (script-over inside none)
         (quits good stm.config (caller_of u.desc.who.role) t (known u.desc) (known d) h) (nothing (known u.desc) unwritten))
         ends
 
-    pub cancelled : (t : ℕ) (o : Output) (w : Worker K) → Comes Cancel (place_of u) → answers.EndsAt good stm.config (caller_of u.desc.who.role) t (known u.desc) (known d) → is_irrevocable (known u.desc) ≡ false → o ≡ record u.out { replies = u.out.replies ++ 1 ∷ [] } → EndsWith C t (record u { desc = d; out = o }) w
+    pub cancelled : (t : ℕ) (o : Output) (w : Worker K) → Comes Cancel (place_of u)
+        → answers.EndsAt good stm.config (caller_of u.desc.who.role) t (known u.desc) (known d) → is_irrevocable (known u.desc) ≡ false
+        → o ≡ record u.out { replies = u.out.replies ++ 1 ∷ [] } → EndsWith C t (record u { desc = d; out = o }) w
         → Sound good stm w × IsKept u w × (place_of w ≡ after (place_of u) (TryCancel (Cancelled t)))
     cancelled t o w comes h off told ends =
         let inside = comes.0 in
-        let g = subst (λ x. Going good stm.config.words u.regions.now (script_at u.items_left.now) x (known u.desc) u.alg u.granted u.out u.wrote) (next-is Cancel u.operations_left.now comes.2) (attempt-now inside).going in
+        let g = subst
+        (λ x. Going good stm.config.words u.regions.now (script_at u.items_left.now) x (known u.desc) u.alg u.granted u.out u.wrote)
+        (next-is Cancel u.operations_left.now comes.2) (attempt-now inside).going in
         let e = row-ended C t o u.passed w inside h.ends.idle
-        (row-cancelled good u.regions.now u.all.now stm.config (caller_of u.desc.who.role) (known u.desc) (known d) u.rows.items (script_at u.items_left.now) u.out (script-here (attempt-now inside).here) (inside-now inside) t o
+        (row-cancelled good u.regions.now u.all.now stm.config (caller_of u.desc.who.role) (known u.desc) (known d) u.rows.items
+        (script_at u.items_left.now) u.out (script-here (attempt-now inside).here) (inside-now inside) t o
         (gave-cut good stm.config.words u.regions.now (script_at u.items_left.now) (rest_of u.operations_left.now) (known u.desc) u.alg u.granted u.out u.wrote g off) (g.ends refl)
         (cut-unasked good stm.config.words u.regions.now (script_at u.items_left.now) (rest_of u.operations_left.now) (known u.desc) u.alg u.granted u.out u.wrote g off)
         (quits good stm.config (caller_of u.desc.who.role) t (known u.desc) (known d) h) told)
@@ -580,7 +697,9 @@ module _ {K : Type 0} (good : List ℕ → Type 0) (stm : Stm K) (u : Worker K) 
 
     -- the switch of the text is done
     pub switched : (alg : Alg) (r : Bor (List Item)) → u.phase ≡ Quiet → u.chosen ≡ None → SwitchesTo alg u.items_left.now → r.now ≡ rest_of u.items_left.now → IsIdle (known d) → (known d).made ≡ (known u.desc).made
-        → Sound good stm (record u { desc = d; items_left = r; phase = Between }) × IsKept u (record u { desc = d; items_left = r; phase = Between }) × (place_of (record u { desc = d; items_left = r; phase = Between }) ≡ after (place_of u) (Installed alg))
+        → Sound good stm (record u { desc = d; items_left = r; phase = Between })
+        × IsKept u (record u { desc = d; items_left = r; phase = Between })
+        × (place_of (record u { desc = d; items_left = r; phase = Between }) ≡ after (place_of u) (Installed alg))
     switched alg r quiet none to is idle made =
         let n = caller_of u.desc.who.role in
         let left = switch-left n alg u.items_left.now to in (
@@ -592,7 +711,10 @@ module _ {K : Type 0} (good : List ℕ → Type 0) (stm : Stm K) (u : Worker K) 
             todo = subst (λ k. scripts_of k r.now ≡ drop (length u.rows.items) (scripts_of k u.all.now)) (sym n_is) (ap (scripts_of n) is ∙ (left.0 ∙ s.todo));
             within = subst (λ k. length u.rows.items ≤ length (scripts_of k u.all.now)) (sym n_is) s.within;
             counted = s.counted;
-            fits = subst (λ k. ItemsFit good stm.config.words u.regions.now k r.now) (sym n_is) (subst (ItemsFit good stm.config.words u.regions.now n) (sym is) (rest-fits good stm.config.words u.regions.now n u.items_left.now s.fits));
+            fits =
+                subst (λ k. ItemsFit good stm.config.words u.regions.now k r.now) (sym n_is)
+                (subst (ItemsFit good stm.config.words u.regions.now n) (sym is)
+                (rest-fits good stm.config.words u.regions.now n u.items_left.now s.fits));
             roomy = record { spare = s.roomy.spare ∙ (left.1 ∙ ap spares (sym is)); rows = s.roomy.rows };
             turning = tt;
             plain = s.plain;
@@ -609,7 +731,9 @@ module _ {K : Type 0} (good : List ℕ → Type 0) (stm : Stm K) (u : Worker K) 
 
     -- the switch that the policy asked for is done
     pub switched-besides : (alg chosen : Alg) → u.phase ≡ Quiet → u.chosen ≡ Some chosen → chosen ≡ alg → IsIdle (known d) → (known d).made ≡ (known u.desc).made
-        → Sound good stm (record u { desc = d; phase = Between; profile = no_profile; chosen = None }) × IsKept u (record u { desc = d; phase = Between; profile = no_profile; chosen = None }) × (place_of (record u { desc = d; phase = Between; profile = no_profile; chosen = None }) ≡ after (place_of u) (Installed alg))
+        → Sound good stm (record u { desc = d; phase = Between; profile = no_profile; chosen = None })
+        × IsKept u (record u { desc = d; phase = Between; profile = no_profile; chosen = None })
+        × (place_of (record u { desc = d; phase = Between; profile = no_profile; chosen = None }) ≡ after (place_of u) (Installed alg))
     switched-besides alg chosen quiet some to idle made = (
       record {
         own = own-same;
@@ -632,14 +756,26 @@ module _ {K : Type 0} (good : List ℕ → Type 0) (stm : Stm K) (u : Worker K) 
 -- whoever took the same steps is outside in the same way
 pub outside : {K : Type 0} (d e : Handle K) → e.view ≡ d.view → IsOutside (known d) (known e)
 outside d e same =
-    subst (λ (v : View). known_of v e.own ≡ record (known d) { committing = e.own.committing; log = (known_of v e.own).log; depth = e.own.depth; marks = e.own.marks; kept = (known_of v e.own).kept; reads_limit = e.own.reads_limit; writes_limit = e.own.writes_limit }) (sym same) refl
+    subst (λ (v : View).
+    known_of v e.own
+    ≡ record (known d) {
+      committing = e.own.committing;
+      log = (known_of v e.own).log;
+      depth = e.own.depth;
+      marks = e.own.marks;
+      kept = (known_of v e.own).kept;
+      reads_limit = e.own.reads_limit;
+      writes_limit = e.own.writes_limit;
+    }) (sym same) refl
 
 -- each call's turn
 module _ {K : Type 0} (good : List ℕ → Type 0) (stm : Stm K) (u : Worker K) (s : Sound good stm u) (d : Handle K) (same : IsSameCaller u.desc d) where
   is-between : Rest u.phase → (known u.desc).running ≡ false
   is-between r = asks-out good stm u s r
 
-  pub turned-began : (alg : Alg) (r : Bor (List Op)) (o : Output) → u.phase ≡ Between → BeforeTx u.items_left.now → u.chosen ≡ None → r.now ≡ script_at u.items_left.now → o ≡ cleared u.out → BeginsAt good stm.config (caller_of u.desc.who.role) alg (known u.desc) (known d)
+  pub turned-began : (alg : Alg) (r : Bor (List Op)) (o : Output) → u.phase ≡ Between → BeforeTx u.items_left.now → u.chosen ≡ None
+      → r.now ≡ script_at u.items_left.now → o ≡ cleared u.out
+      → BeginsAt good stm.config (caller_of u.desc.who.role) alg (known u.desc) (known d)
       → Turned good stm MaySay u (TryBegin (Begun alg)) (record u { desc = d; phase = Inside; alg = alg; operations_left = r; out = o; wrote = false; granted = false; passed = false })
   turned-began alg r o between here unasked is clear h = turned-by good stm u s MaySay (TryBegin (Begun alg)) _ stm.ranges (λ m. m) (between, here, unasked) (idle-now good stm u s between).1 h
       (began-now good stm u s d same h.grows alg r o is clear)
@@ -647,7 +783,9 @@ module _ {K : Type 0} (good : List ℕ → Type 0) (stm : Stm K) (u : Worker K) 
       (began good stm u s d same h.grows alg r o between here is clear h)
 
   -- nothing began
-  pub turned-stayed : (said : Said) → u.phase ≡ Between → MaySay (place_of u) said → Asks said (known u.desc) → Tells good stm.config (caller_of u.desc.who.role) said (known u.desc) (known d) → place_of u ≡ after (place_of u) said → Stays stm.config (known u.desc) (known d)
+  pub turned-stayed : (said : Said) → u.phase ≡ Between → MaySay (place_of u) said → Asks said (known u.desc)
+      → Tells good stm.config (caller_of u.desc.who.role) said (known u.desc) (known d) → place_of u ≡ after (place_of u) said
+      → Stays stm.config (known u.desc) (known d)
       → Turned good stm MaySay u said (record u { desc = d })
   turned-stayed said between here asks told is h =
       let r = rest-between u.phase between in
@@ -656,15 +794,21 @@ module _ {K : Type 0} (good : List ℕ → Type 0) (stm : Stm K) (u : Worker K) 
       (rested good stm u s d same h.grows u.phase r r h.made (subst (λ p. IsAt good stm.config (caller_of u.desc.who.role) p (known d)) (sym between) h.idle) s.turning)
 
   -- the gate is closed, or stays so
-  pub turned-closed : (said : Said) (p : Phase) → Rest u.phase → Rest p → MaySay (place_of u) said → Asks said (known u.desc) → Tells good stm.config (caller_of u.desc.who.role) said (known u.desc) (known d) → record (place_of u) { phase = p } ≡ after (place_of u) said
-      → (grows : Grows (known u.desc) (known d)) → (known d).made ≡ (known u.desc).made → IsAt good stm.config (caller_of u.desc.who.role) p (known d) → ToSwitch p u.chosen u.items_left.now → Turned good stm MaySay u said (record u { desc = d; phase = p })
+  pub turned-closed : (said : Said) (p : Phase) → Rest u.phase → Rest p → MaySay (place_of u) said → Asks said (known u.desc)
+      → Tells good stm.config (caller_of u.desc.who.role) said (known u.desc) (known d)
+      → record (place_of u) { phase = p } ≡ after (place_of u) said
+      → (grows : Grows (known u.desc) (known d)) → (known d).made ≡ (known u.desc).made
+      → IsAt good stm.config (caller_of u.desc.who.role) p (known d) → ToSwitch p u.chosen u.items_left.now
+      → Turned good stm MaySay u said (record u { desc = d; phase = p })
   turned-closed said p r q here asks told is grows made at turning =
       turned-by good stm u s MaySay said _ stm.ranges (say-turn (place_of u) said) here asks told (ap (λ (q : CallerProgress). record q { phase = p }) (place-now good stm u s d same grows) ∙ is)
       (record { same = same; all = refl; regions = refl; policy = refl })
       (rested good stm u s d same grows p r q made at turning)
 
   -- the closing is given up
-  pub turned-reopened : (u.phase ≡ Closing) ⊎ (u.phase ≡ Quiet) → answers.Reopens good stm.config (caller_of u.desc.who.role) (known u.desc) (known d) → Turned good stm MayWind u Said.Reopened (record u { desc = d; phase = Between })
+  pub turned-reopened : (u.phase ≡ Closing) ⊎ (u.phase ≡ Quiet)
+      → answers.Reopens good stm.config (caller_of u.desc.who.role) (known u.desc) (known d)
+      → Turned good stm MayWind u Said.Reopened (record u { desc = d; phase = Between })
   turned-reopened closing h =
       let r = rest-closed u.phase closing in
       turned-by good stm u s MayWind Said.Reopened _ stm.ranges (λ m. m) closing (is-between r) h (ap (λ (q : CallerProgress). record q { phase = Between }) (place-now good stm u s d same h.grows))
@@ -688,7 +832,9 @@ module _ {K : Type 0} (good : List ℕ → Type 0) (stm : Stm K) (u : Worker K) 
       or-none false b h = (refl, h)
 
   -- the attempt is over, without a row
-  pub turned-over : (may : CallerProgress → Said → Type 0) (said : Said) (q : Noted) (must b : Bool) (failed : ℕ) (o : Output) → (may (place_of u) said → MayTurn (place_of u) said) → u.phase ≡ Inside → may (place_of u) said → Asks said (known u.desc) → Tells good stm.config (caller_of u.desc.who.role) said (known u.desc) (known d)
+  pub turned-over : (may : CallerProgress → Said → Type 0) (said : Said) (q : Noted) (must b : Bool) (failed : ℕ) (o : Output)
+      → (may (place_of u) said → MayTurn (place_of u) said) → u.phase ≡ Inside → may (place_of u) said → Asks said (known u.desc)
+      → Tells good stm.config (caller_of u.desc.who.role) said (known u.desc) (known d)
       → record (place_of u) { phase = Between; replies = []; emits = []; failed = failed; must = must; profile = q } ≡ after (place_of u) said
       → (grows : Grows (known u.desc) (known d)) → IsIdle (known d) → (known d).made ≡ (known u.desc).made → o ≡ cleared u.out → IsCounted failed must
       → Turned good stm may u said (record u { desc = d; phase = Between; out = o; must = must; failed = failed; passed = b; profile = q })
@@ -701,13 +847,15 @@ module _ {K : Type 0} (good : List ℕ → Type 0) (stm : Stm K) (u : Worker K) 
   few-next = still-few u.failed u.must s.counted
 
   -- by a refusal
-  pub turned-quit : (said : Said) (q : Noted) (must b : Bool) (failed : ℕ) (o : Output) → u.phase ≡ Inside → MaySay (place_of u) said → Tells good stm.config (caller_of u.desc.who.role) said (known u.desc) (known d) → Asks said (known u.desc)
+  pub turned-quit : (said : Said) (q : Noted) (must b : Bool) (failed : ℕ) (o : Output) → u.phase ≡ Inside → MaySay (place_of u) said
+      → Tells good stm.config (caller_of u.desc.who.role) said (known u.desc) (known d) → Asks said (known u.desc)
       → record (place_of u) { phase = Between; replies = []; emits = []; failed = failed; must = must; profile = q } ≡ after (place_of u) said
       → Quits (known u.desc) (known d) → o ≡ cleared u.out → IsCounted failed must
       → Turned good stm MaySay u said (record u { desc = d; phase = Between; out = o; must = must; failed = failed; passed = b; profile = q })
   turned-quit said q must b failed o inside here told asks is h clear few = turned-over MaySay said q must b failed o (say-turn (place_of u) said) inside here asks told is h.ends.grows h.ends.idle h.made clear few
 
-  pub turned-refused : (r : Bor (List Op)) (o : Output) → Comes Cancel (place_of u) → r.now ≡ rest_of u.operations_left.now → known d ≡ known u.desc → is_irrevocable (known u.desc) ≡ true → o ≡ record u.out { replies = u.out.replies ++ 0 ∷ [] }
+  pub turned-refused : (r : Bor (List Op)) (o : Output) → Comes Cancel (place_of u) → r.now ≡ rest_of u.operations_left.now
+      → known d ≡ known u.desc → is_irrevocable (known u.desc) ≡ true → o ≡ record u.out { replies = u.out.replies ++ 0 ∷ [] }
       → Turned good stm MaySay u (TryCancel Irrevocable) (record u { desc = d; operations_left = r; out = o })
   turned-refused r o comes is knows certain told =
       let grows = subst (Grows (known u.desc)) (sym knows) (grows-same (known u.desc) (known u.desc) refl refl [] refl refl refl refl) in
@@ -718,58 +866,82 @@ module _ {K : Type 0} (good : List ℕ → Type 0) (stm : Stm K) (u : Worker K) 
   pub dropped-refused : u.phase ≡ Inside → known d ≡ known u.desc → is_irrevocable (known u.desc) ≡ true → Refused good stm u (record u { desc = d })
   dropped-refused inside knows certain = refused-drop good stm u s d same (subst (Grows (known u.desc)) (sym knows) (grows-same (known u.desc) (known u.desc) refl refl [] refl refl refl refl)) inside knows certain
 
-  pub turned-forced : u.phase ≡ Inside → is_forced (place_of u) ≡ true → answers.TriesIrrevocable good stm.config (caller_of u.desc.who.role) (known u.desc) (known d) → Turned good stm MaySay u (TryIrrevocable Granted) (record u { desc = d; granted = true })
+  pub turned-forced : u.phase ≡ Inside → is_forced (place_of u) ≡ true
+      → answers.TriesIrrevocable good stm.config (caller_of u.desc.who.role) (known u.desc) (known d)
+      → Turned good stm MaySay u (TryIrrevocable Granted) (record u { desc = d; granted = true })
   turned-forced inside forced h =
       turned-by good stm u s MaySay (TryIrrevocable Granted) _ stm.ranges (λ m. m) (inl (inside, forced)) (runs-now good stm u s inside) h (forced-now good stm u s d same h.continues.grows forced)
       (record { same = same; all = refl; regions = refl; policy = refl })
       (granted-forced good stm u s d same h.continues.grows inside h)
 
-  pub turned-asked : (r : Bor (List Op)) (o : Output) → Comes Irrev (place_of u) → r.now ≡ rest_of u.operations_left.now → o ≡ record u.out { replies = u.out.replies ++ 1 ∷ [] } → answers.TriesIrrevocable good stm.config (caller_of u.desc.who.role) (known u.desc) (known d)
+  pub turned-asked : (r : Bor (List Op)) (o : Output) → Comes Irrev (place_of u) → r.now ≡ rest_of u.operations_left.now
+      → o ≡ record u.out { replies = u.out.replies ++ 1 ∷ [] }
+      → answers.TriesIrrevocable good stm.config (caller_of u.desc.who.role) (known u.desc) (known d)
       → Turned good stm MaySay u (TryIrrevocable Granted) (record u { desc = d; operations_left = r; out = o; granted = true })
   turned-asked r o comes is told h =
       turned-by good stm u s MaySay (TryIrrevocable Granted) _ stm.ranges (λ m. m) (inr comes) (runs-now good stm u s comes.0) h (asked-now good stm u s d same h.continues.grows r o comes.1 is told)
       (record { same = same; all = refl; regions = refl; policy = refl })
       (granted-asked good stm u s d same h.continues.grows r o comes is told h)
 
-  pub turned-busy : (k status : ℕ) → u.phase ≡ Inside → MaySay (place_of u) (TryIrrevocable (Busy k status)) → answers.Irrevs good stm.config (caller_of u.desc.who.role) (Busy k status) (known u.desc) (known d) → Turned good stm MaySay u (TryIrrevocable (Busy k status)) (record u { desc = d })
+  pub turned-busy : (k status : ℕ) → u.phase ≡ Inside → MaySay (place_of u) (TryIrrevocable (Busy k status))
+      → answers.Irrevs good stm.config (caller_of u.desc.who.role) (Busy k status) (known u.desc) (known d)
+      → Turned good stm MaySay u (TryIrrevocable (Busy k status)) (record u { desc = d })
   turned-busy k status inside here h =
       turned-by good stm u s MaySay (TryIrrevocable (Busy k status)) _ stm.ranges (λ m. m) here (runs-now good stm u s inside) h (same-place good stm u s d same h.0.continues.grows u.passed)
       (still-same good stm u s d same h.0.continues.grows u.passed)
       (busied good stm u s d same h.0.continues.grows inside h.0)
 
-  pub turned-again : (word had now : ℕ) (b : Bool) → u.phase ≡ Inside → u.operations_left.now ≡ [] → is_forced (place_of u) ≡ false → answers.Commits good stm.config (caller_of u.desc.who.role) (Again word had now) (known u.desc) (known d)
+  pub turned-again : (word had now : ℕ) (b : Bool) → u.phase ≡ Inside → u.operations_left.now ≡ [] → is_forced (place_of u) ≡ false
+      → answers.Commits good stm.config (caller_of u.desc.who.role) (Again word had now) (known u.desc) (known d)
       → Turned good stm MaySay u (TryCommit (Again word had now)) (record u { desc = d; passed = b })
   turned-again word had now b inside none free h =
       turned-by good stm u s MaySay (TryCommit (Again word had now)) _ stm.ranges (λ m. m) (inside, free, none) (runs-now good stm u s inside) h (same-place good stm u s d same h.0.continues.grows b)
       (still-same good stm u s d same h.0.continues.grows b)
       (again good stm u s d same h.0.continues.grows b inside none free h.0 h.2 h.3 h.4)
 
-  pub turned-committed : (t : ℕ) (b : Bool) (w : Worker K) → u.phase ≡ Inside → u.operations_left.now ≡ [] → is_forced (place_of u) ≡ false → answers.CommitsAt good stm.config (caller_of u.desc.who.role) t (known u.desc) (known d) → EndsWith W t (record u { desc = d; passed = b }) w
+  pub turned-committed : (t : ℕ) (b : Bool) (w : Worker K) → u.phase ≡ Inside → u.operations_left.now ≡ [] → is_forced (place_of u) ≡ false
+      → answers.CommitsAt good stm.config (caller_of u.desc.who.role) t (known u.desc) (known d)
+      → EndsWith W t (record u { desc = d; passed = b }) w
       → Turned good stm MaySay u (TryCommit (Committed t)) w
   turned-committed t b w inside none free h ends =
       let e = committed good stm u s d same h.ends.grows t b w inside none h ends in
-      turned-by good stm u s MaySay (TryCommit (Committed t)) w stm.ranges (λ m. m) (inside, free, none) (runs-now good stm u s inside) (subst (λ (k : Handle K). answers.CommitsAt good stm.config (caller_of u.desc.who.role) t (known u.desc) (known k)) (sym ends.desc) h) e.2 e.1 e.0
+      turned-by good stm u s MaySay (TryCommit (Committed t)) w stm.ranges (λ m. m) (inside, free, none) (runs-now good stm u s inside)
+      (subst (λ (k : Handle K). answers.CommitsAt good stm.config (caller_of u.desc.who.role) t (known u.desc) (known k)) (sym ends.desc) h)
+      e.2 e.1 e.0
 
-  pub turned-readonly : (t : ℕ) (b : Bool) (w : Worker K) → u.phase ≡ Inside → u.operations_left.now ≡ [] → is_forced (place_of u) ≡ false → answers.Commits good stm.config (caller_of u.desc.who.role) (ReadOnly t) (known u.desc) (known d) → EndsWith R t (record u { desc = d; passed = b }) w
+  pub turned-readonly : (t : ℕ) (b : Bool) (w : Worker K) → u.phase ≡ Inside → u.operations_left.now ≡ [] → is_forced (place_of u) ≡ false
+      → answers.Commits good stm.config (caller_of u.desc.who.role) (ReadOnly t) (known u.desc) (known d)
+      → EndsWith R t (record u { desc = d; passed = b }) w
       → Turned good stm MaySay u (TryCommit (ReadOnly t)) w
   turned-readonly t b w inside none free h ends =
       let e = readonly good stm u s d same h.0.ends.grows t b w inside none h.0 h.2 ends in
-      turned-by good stm u s MaySay (TryCommit (ReadOnly t)) w stm.ranges (λ m. m) (inside, free, none) (runs-now good stm u s inside) (subst (λ (k : Handle K). answers.Commits good stm.config (caller_of u.desc.who.role) (ReadOnly t) (known u.desc) (known k)) (sym ends.desc) h) e.2 e.1 e.0
+      turned-by good stm u s MaySay (TryCommit (ReadOnly t)) w stm.ranges (λ m. m) (inside, free, none) (runs-now good stm u s inside)
+      (subst (λ (k : Handle K). answers.Commits good stm.config (caller_of u.desc.who.role) (ReadOnly t) (known u.desc) (known k))
+      (sym ends.desc) h) e.2 e.1 e.0
 
-  pub turned-cancelled : (t : ℕ) (o : Output) (w : Worker K) → Comes Cancel (place_of u) → answers.Cancels good stm.config (caller_of u.desc.who.role) (Cancelled t) (known u.desc) (known d) → o ≡ record u.out { replies = u.out.replies ++ 1 ∷ [] } → EndsWith C t (record u { desc = d; out = o }) w
+  pub turned-cancelled : (t : ℕ) (o : Output) (w : Worker K) → Comes Cancel (place_of u)
+      → answers.Cancels good stm.config (caller_of u.desc.who.role) (Cancelled t) (known u.desc) (known d)
+      → o ≡ record u.out { replies = u.out.replies ++ 1 ∷ [] } → EndsWith C t (record u { desc = d; out = o }) w
       → Turned good stm MaySay u (TryCancel (Cancelled t)) w
   turned-cancelled t o w comes h told ends =
       let e = cancelled good stm u s d same h.0.ends.grows t o w comes h.0 h.3 told ends in
-      turned-by good stm u s MaySay (TryCancel (Cancelled t)) w stm.ranges (λ m. m) comes (runs-now good stm u s comes.0) (subst (λ (k : Handle K). answers.Cancels good stm.config (caller_of u.desc.who.role) (Cancelled t) (known u.desc) (known k)) (sym ends.desc) h) e.2 e.1 e.0
+      turned-by good stm u s MaySay (TryCancel (Cancelled t)) w stm.ranges (λ m. m) comes (runs-now good stm u s comes.0)
+      (subst (λ (k : Handle K). answers.Cancels good stm.config (caller_of u.desc.who.role) (Cancelled t) (known u.desc) (known k))
+      (sym ends.desc) h) e.2 e.1 e.0
 
-  pub turned-switched : (alg : Alg) (r : Bor (List Item)) (x : CallerState) → u.phase ≡ Quiet → u.chosen ≡ None → MustSwitchTo alg u.chosen u.items_left.now → r.now ≡ rest_of u.items_left.now → answers.Installs good stm.config (caller_of u.desc.who.role) alg (known u.desc) x → answers.Reopens good stm.config (caller_of u.desc.who.role) x (known d)
+  pub turned-switched : (alg : Alg) (r : Bor (List Item)) (x : CallerState) → u.phase ≡ Quiet → u.chosen ≡ None
+      → MustSwitchTo alg u.chosen u.items_left.now → r.now ≡ rest_of u.items_left.now
+      → answers.Installs good stm.config (caller_of u.desc.who.role) alg (known u.desc) x
+      → answers.Reopens good stm.config (caller_of u.desc.who.role) x (known d)
       → Turned good stm MaySay u (Installed alg) (record u { desc = d; items_left = r; phase = Between })
   turned-switched alg r x quiet none to is i h =
       let grows = grows-trans (known u.desc) x (known d) i.closed.grows h.grows in
       let e = switched good stm u s d same grows alg r quiet none (subst (λ (c : Option Alg). MustSwitchTo alg c u.items_left.now) none to) is h.idle (h.made ∙ i.closed.made) in
       turned-by good stm u s MaySay (Installed alg) _ stm.ranges (λ m. m) (quiet, to) (is-between (rest-quiet u.phase quiet)) (x, i, h) e.2 e.1 e.0
 
-  pub turned-besides : (alg chosen : Alg) (x : CallerState) → u.phase ≡ Quiet → u.chosen ≡ Some chosen → MustSwitchTo alg u.chosen u.items_left.now → answers.Installs good stm.config (caller_of u.desc.who.role) alg (known u.desc) x → answers.Reopens good stm.config (caller_of u.desc.who.role) x (known d)
+  pub turned-besides : (alg chosen : Alg) (x : CallerState) → u.phase ≡ Quiet → u.chosen ≡ Some chosen
+      → MustSwitchTo alg u.chosen u.items_left.now → answers.Installs good stm.config (caller_of u.desc.who.role) alg (known u.desc) x
+      → answers.Reopens good stm.config (caller_of u.desc.who.role) x (known d)
       → Turned good stm MaySay u (Installed alg) (record u { desc = d; phase = Between; profile = no_profile; chosen = None })
   turned-besides alg chosen x quiet some to i h =
       let grows = grows-trans (known u.desc) x (known d) i.closed.grows h.grows in
@@ -777,7 +949,9 @@ module _ {K : Type 0} (good : List ℕ → Type 0) (stm : Stm K) (u : Worker K) 
       turned-by good stm u s MaySay (Installed alg) _ stm.ranges (λ m. m) (quiet, to) (is-between (rest-quiet u.phase quiet)) (x, i, h) e.2 e.1 e.0
 
   -- the logs are longer: nothing else is said of the caller than that its next item is done
-  pub turned-lengthened : (reads writes : ℕ) (r : Bor (List Item)) → u.phase ≡ Between → u.chosen ≡ None → Lengthens reads writes u.items_left.now → r.now ≡ rest_of u.items_left.now → Reserves reads writes (known u.desc) (known d) → IsOutside (known u.desc) (known d)
+  pub turned-lengthened : (reads writes : ℕ) (r : Bor (List Item)) → u.phase ≡ Between → u.chosen ≡ None
+      → Lengthens reads writes u.items_left.now → r.now ≡ rest_of u.items_left.now → Reserves reads writes (known u.desc) (known d)
+      → IsOutside (known u.desc) (known d)
       → Turned good stm MaySay u (Reserved reads writes) (record u { desc = d; items_left = r })
   turned-lengthened reads writes r between none here is sizes outside =
       let n = caller_of u.desc.who.role in
@@ -798,12 +972,17 @@ module _ {K : Type 0} (good : List ℕ → Type 0) (stm : Stm K) (u : Worker K) 
       (record {
         own = record { table = same.table ∙ s.own.table; config = ap (λ x. x.config) same.who ∙ s.own.config; rule = ap (λ x. x.rule) same.who ∙ s.own.rule };
         at = subst (λ p. IsAt good stm.config (caller_of d.who.role) p (known d)) (sym between) idle;
-        stands = stands-rest good stm.config.words u.regions.now u.all.now (caller_of d.who.role) (known d) u.rows.items u.phase rest (subst (λ k. Works good stm.config.words u.regions.now u.all.now k (known d) u.rows.items) (sym n_is) works);
+        stands =
+            stands-rest good stm.config.words u.regions.now u.all.now (caller_of d.who.role) (known d) u.rows.items u.phase rest
+            (subst (λ k. Works good stm.config.words u.regions.now u.all.now k (known d) u.rows.items) (sym n_is) works);
         done = subst (DidFirst u.all.now) (sym is) (did-first u.all.now u.items_left.now s.done);
         todo = subst (λ k. scripts_of k r.now ≡ drop (length u.rows.items) (scripts_of k u.all.now)) (sym n_is) (ap (scripts_of n) is ∙ (left.0 ∙ s.todo));
         within = subst (λ k. length u.rows.items ≤ length (scripts_of k u.all.now)) (sym n_is) s.within;
         counted = s.counted;
-        fits = subst (λ k. ItemsFit good stm.config.words u.regions.now k r.now) (sym n_is) (subst (ItemsFit good stm.config.words u.regions.now n) (sym is) (rest-fits good stm.config.words u.regions.now n u.items_left.now s.fits));
+        fits =
+            subst (λ k. ItemsFit good stm.config.words u.regions.now k r.now) (sym n_is)
+            (subst (ItemsFit good stm.config.words u.regions.now n) (sym is)
+            (rest-fits good stm.config.words u.regions.now n u.items_left.now s.fits));
         roomy = record { spare = s.roomy.spare ∙ (left.1 ∙ ap spares (sym is)); rows = s.roomy.rows };
         turning = subst (λ p. ToSwitch p u.chosen r.now) (sym between) tt;
         plain = s.plain;
@@ -825,7 +1004,8 @@ module _ {K : Type 0} (good : List ℕ → Type 0) (stm : Stm K) (u : Worker K) 
       → Turned good stm MaySay u (Stopped op stop) (stopped_by stop (record u { desc = d; out = o }))
   stopped-is op (stops.Conflict cause) o comes plain h clear =
       let q = stops-quits good stm.config (caller_of u.desc.who.role) h.address (stops.Conflict cause) h.before (known d) h.stops in
-      turned-over MaySay (Stopped op (stops.Conflict cause)) (with_outcome u.profile outcomes.Conflict) (must_next u.must u.failed) u.passed (failed_next u.must u.failed) (cleared o) (λ m. m) comes.0 (comes, plain) (runs-now good stm u s comes.0) h refl
+      turned-over MaySay (Stopped op (stops.Conflict cause)) (with_outcome u.profile outcomes.Conflict) (must_next u.must u.failed) u.passed
+      (failed_next u.must u.failed) (cleared o) (λ m. m) comes.0 (comes, plain) (runs-now good stm u s comes.0) h refl
       (grows-trans (known u.desc) h.before (known d) h.carries.grows q.ends.grows) q.ends.idle (q.made ∙ h.carries.made) (ap cleared clear) few-next
   stopped-is op (stops.Full limit) o comes plain h clear =
       let q = stops-quits good stm.config (caller_of u.desc.who.role) h.address (stops.Full limit) h.before (known d) h.stops in
@@ -837,11 +1017,18 @@ module _ {K : Type 0} (good : List ℕ → Type 0) (stm : Stm K) (u : Worker K) 
       (grows-trans (known u.desc) h.before (known d) h.carries.grows q.ends.grows) q.ends.idle (q.made ∙ h.carries.made) (ap cleared clear) s.counted
 
   -- an operation was stopped, and its attempt is over
-  pub turned-stopped : (op : Op) (stop : Stop) (o : Output) (w : Worker K) → Comes op (place_of u) → is_call op ≡ false → StoppedBy good stm.config (caller_of u.desc.who.role) op stop (known u.desc) (known d) → o ≡ u.out → w ≡ stopped_by stop (record u { desc = d; out = o })
+  pub turned-stopped : (op : Op) (stop : Stop) (o : Output) (w : Worker K) → Comes op (place_of u) → is_call op ≡ false
+      → StoppedBy good stm.config (caller_of u.desc.who.role) op stop (known u.desc) (known d) → o ≡ u.out
+      → w ≡ stopped_by stop (record u { desc = d; out = o })
       → Turned good stm MaySay u (Stopped op stop) w
-  turned-stopped op stop o w comes plain h same_out is = subst (Turned good stm MaySay u (Stopped op stop)) (sym is) (subst (λ x. Turned good stm MaySay u (Stopped op stop) (stopped_by stop (record u { desc = d; out = x }))) (sym same_out) (stopped-again op stop comes plain h))
+  turned-stopped op stop o w comes plain h same_out is =
+      subst (Turned good stm MaySay u (Stopped op stop)) (sym is) (subst
+      (λ x. Turned good stm MaySay u (Stopped op stop) (stopped_by stop (record u { desc = d; out = x }))) (sym same_out)
+      (stopped-again op stop comes plain h))
     where
-      stopped-again : (op : Op) (stop : Stop) → Comes op (place_of u) → is_call op ≡ false → StoppedBy good stm.config (caller_of u.desc.who.role) op stop (known u.desc) (known d) → Turned good stm MaySay u (Stopped op stop) (stopped_by stop (record u { desc = d }))
+      stopped-again : (op : Op) (stop : Stop) → Comes op (place_of u) → is_call op ≡ false
+          → StoppedBy good stm.config (caller_of u.desc.who.role) op stop (known u.desc) (known d)
+          → Turned good stm MaySay u (Stopped op stop) (stopped_by stop (record u { desc = d }))
       stopped-again op (stops.Conflict cause) comes plain h = stopped-is op (stops.Conflict cause) (cleared u.out) comes plain h refl
       stopped-again op (stops.Full limit) comes plain h = stopped-is op (stops.Full limit) (cleared u.out) comes plain h refl
       stopped-again op (stops.ClockFull clock) comes plain h = stopped-is op (stops.ClockFull clock) (cleared u.out) comes plain h refl

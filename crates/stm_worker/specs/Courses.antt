@@ -25,19 +25,8 @@ Went h at (said ∷ more) to = MayTurn at said × IsFair h at said × Went h (af
 
 -- what was installed in a turn
 abbrev pub installed : Said → List Alg
-installed (TryBegin b) = []
-installed (Reply op reply) = []
-installed (Stopped op stop) = []
-installed (TryCancel c) = []
-installed (TryIrrevocable r) = []
-installed (TryCommit c) = []
-installed (TryClose c) = []
-installed (Looked l) = []
 installed (Installed alg) = alg ∷ []
-installed (Reserved reads writes) = []
-installed Idle = []
-installed Dropped = []
-installed Reopened = []
+installed said = []
 
 -- and in all of them
 abbrev pub all_installed : List Said → List Alg
@@ -47,21 +36,7 @@ all_installed (said ∷ more) = installed said ++ all_installed more
 -- an attempt begins under this algorithm
 abbrev pub BeginsUnder : Alg → Said → Type 0
 BeginsUnder knows (TryBegin (Begun alg)) = alg ≡ knows
-BeginsUnder knows (TryBegin (Closed gate)) = Unit {0}
-BeginsUnder knows (TryBegin (Held word)) = Unit {0}
-BeginsUnder knows (TryBegin (ClockFull clock)) = Unit {0}
-BeginsUnder knows (Reply op reply) = Unit {0}
-BeginsUnder knows (Stopped op stop) = Unit {0}
-BeginsUnder knows (TryCancel c) = Unit {0}
-BeginsUnder knows (TryIrrevocable r) = Unit {0}
-BeginsUnder knows (TryCommit c) = Unit {0}
-BeginsUnder knows (TryClose c) = Unit {0}
-BeginsUnder knows (Looked l) = Unit {0}
-BeginsUnder knows (Installed alg) = Unit {0}
-BeginsUnder knows (Reserved reads writes) = Unit {0}
-BeginsUnder knows Idle = Unit {0}
-BeginsUnder knows Dropped = Unit {0}
-BeginsUnder knows Reopened = Unit {0}
+BeginsUnder knows said = Unit {0}
 
 -- who is alone knows the algorithm that it installed last: its attempts begin under that
 abbrev pub Knows : Alg → List Said → Alg → Type 0
@@ -70,19 +45,8 @@ Knows knows (said ∷ more) last = BeginsUnder knows said × Knows (last_of know
 
 -- an attempt is cancelled as a schedule is over
 abbrev pub is_cut : Said → Bool
-is_cut (TryBegin b) = false
-is_cut (Reply op reply) = false
-is_cut (Stopped op stop) = false
-is_cut (TryCancel c) = false
-is_cut (TryIrrevocable r) = false
-is_cut (TryCommit c) = false
-is_cut (TryClose c) = false
-is_cut (Looked l) = false
-is_cut (Installed alg) = false
-is_cut (Reserved reads writes) = false
-is_cut Idle = false
 is_cut Dropped = true
-is_cut Reopened = false
+is_cut said = false
 
 -- no attempt was
 abbrev pub IsUncut : List Said → Type 0
@@ -99,5 +63,7 @@ pub record IsFresh (at : CallerProgress) : Type 0 where
 
 -- what a caller has installed when nothing is left to it; start: the algorithm at its first turn
 abbrev pub CoursesInstall : Type 0
-CoursesInstall = (cut : Bool) (h : Header) (at to : CallerProgress) (course : List Said) (start last : Alg) → IsFresh at → Went h at course to → (cut ≡ false → IsUncut course) → (h.callers ≡ 1 → Knows start course last) → IsOver to
+CoursesInstall =
+    (cut : Bool) (h : Header) (at to : CallerProgress) (course : List Said) (start last : Alg) → IsFresh at → Went h at course to
+    → (cut ≡ false → IsUncut course) → (h.callers ≡ 1 → Knows start course last) → IsOver to
     → InstallsBy cut h.callers true at.policy start at.left (map (λ (row : Row). row.kind) to.rows) (all_installed course)

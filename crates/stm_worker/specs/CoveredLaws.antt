@@ -4,7 +4,6 @@ use Rattle.std.proofs.Math.Nat.{mul-suc}
 use Rattle.std.specs.Prelude.{◌⊎◌, ◌&&◌, not, leb, Option, Some, None, ◌||◌}
 use Rattle.stm_model.specs.Algorithms.{entry_rise, quit_rise}
 use Rattle.stm_model.specs.AlgorithmLaws.{entry-low, install-low, quit-low, quit-none}
-use Rattle.stm_model.specs.Logs.{Log}
 use Rattle.stm_model.specs.Memories.{is_empty}
 use Rattle.stm_model.specs.declared.alg.Alg.{Alg}
 use Rattle.stm_model.specs.declared.stop.Stop.{Stop}
@@ -80,7 +79,8 @@ failed_rises-low most failed true few = omega arith
 failed_rises-low most failed false few = few refl
 
 -- an attempt that is counted covers one rise; one that must be irrevocable has none to cover
-way-covers : (most failed rise : ℕ) (must : Bool) → (must ≡ false → failed + 1 ≤ most) → rise ≤ 1 → (must ≡ true → rise ≡ 0) → failed_rises most failed must + rise ≤ failed_rises most (failed_next must failed) (must_next must failed)
+way-covers : (most failed rise : ℕ) (must : Bool) → (must ≡ false → failed + 1 ≤ most) → rise ≤ 1 → (must ≡ true → rise ≡ 0)
+    → failed_rises most failed must + rise ≤ failed_rises most (failed_next must failed) (must_next must failed)
 way-covers most failed rise true few low none = let e = none refl in omega arith
 way-covers most failed rise false few low none = by (leb most_failed (failed + 1))
   where
@@ -145,7 +145,8 @@ module _ {K : Type 0} (good : List ℕ → Type 0) (stm : Stm K) (u : Worker K) 
     granted-covered false x h = h
 
     -- the attempt is over: it was counted, or it was not, or its log was too short, or the item is done
-    way-covered : (x : CallerState) (rise : ℕ) → u.phase ≡ Inside → x.running ≡ false → x.rises ≤ (known u.desc).base + rise → rise ≤ 1 → (u.must ≡ true → rise ≡ 0) → Covered (uncovered + 0) each most all x (in_the_way outcomes.Conflict (place_of u))
+    way-covered : (x : CallerState) (rise : ℕ) → u.phase ≡ Inside → x.running ≡ false → x.rises ≤ (known u.desc).base + rise → rise ≤ 1
+        → (u.must ≡ true → rise ≡ 0) → Covered (uncovered + 0) each most all x (in_the_way outcomes.Conflict (place_of u))
     way-covered x rise e out r low none =
         let a = raised-in (known u.desc) (runs e) in
         let b = raised-out x out in
@@ -158,7 +159,9 @@ module _ {K : Type 0} (good : List ℕ → Type 0) (stm : Stm K) (u : Worker K) 
         let b = raised-out x out in
         omega (arith, a, b, r, covers)
 
-    full-covered : (x : CallerState) (rise : ℕ) → u.phase ≡ Inside → u.must ≡ false → x.running ≡ false → x.rises ≤ (known u.desc).base + rise → rise ≤ 1 → Covered (uncovered + 0) each most all x (record (given_up (place_of u)) { must = true })
+    full-covered : (x : CallerState) (rise : ℕ) → u.phase ≡ Inside → u.must ≡ false → x.running ≡ false
+        → x.rises ≤ (known u.desc).base + rise → rise ≤ 1
+        → Covered (uncovered + 0) each most all x (record (given_up (place_of u)) { must = true })
     full-covered x rise e free out r low =
         let a = raised-in (known u.desc) (runs e) in
         let b = raised-out x out in
@@ -174,12 +177,16 @@ module _ {K : Type 0} (good : List ℕ → Type 0) (stm : Stm K) (u : Worker K) 
         let due = due-low (ended kind 0 (place_of u)).chosen in
         omega (arith, a, b, m, one, due, r, covers)
 
-    stopped-covered : (op : Op) (stop : Stop) (x : CallerState) → Comes op (place_of u) → StoppedBy good stm.config (caller_of u.desc.who.role) op stop (known u.desc) x → Covered (uncovered + uncovered_by (Stopped op stop)) each most all x (after (place_of u) (Stopped op stop))
+    stopped-covered : (op : Op) (stop : Stop) (x : CallerState) → Comes op (place_of u)
+        → StoppedBy good stm.config (caller_of u.desc.who.role) op stop (known u.desc) x
+        → Covered (uncovered + uncovered_by (Stopped op stop)) each most all x (after (place_of u) (Stopped op stop))
     stopped-covered op stop x comes t = by stop (unforced op stop x comes t) (stops-quits good stm.config (caller_of u.desc.who.role) t.address stop t.before x t.stops)
       where
         by : (stop : Stop) → u.must ≡ false → Quits t.before x → Covered (uncovered + uncovered_by (Stopped op stop)) each most all x (after (place_of u) (Stopped op stop))
         by (stops.Conflict cause) free q =
-            way-covered x (quit_rise t.before.alg (has_written t.before)) comes.0 q.ends.idle.1 (let r = q.rises.1 in let e = t.carries.base in omega arith) (quit-low t.before.alg (has_written t.before)) (λ must. absurd (let f : true ≡ false = sym must ∙ free in cc))
+            way-covered x (quit_rise t.before.alg (has_written t.before)) comes.0 q.ends.idle.1
+            (let r = q.rises.1 in let e = t.carries.base in omega arith) (quit-low t.before.alg (has_written t.before)) (λ must.
+            absurd (let f : true ≡ false = sym must ∙ free in cc))
         by (stops.Full limit) free q =
             full-covered x (quit_rise t.before.alg (has_written t.before)) comes.0 free q.ends.idle.1 (let r = q.rises.1 in let e = t.carries.base in omega arith) (quit-low t.before.alg (has_written t.before))
         by (stops.ClockFull clock) free q =
@@ -190,7 +197,9 @@ module _ {K : Type 0} (good : List ℕ → Type 0) (stm : Stm K) (u : Worker K) 
     refused-covered x e q = way-covered x (quit_rise (known u.desc).alg (has_written (known u.desc))) e q.ends.idle.1 q.rises.1 (quit-low (known u.desc).alg (has_written (known u.desc)))
         (λ must. quit-none (known u.desc).alg (has_written (known u.desc)) (unwritten e must q.revocable))
 
-    irrevocable-covered : (r : Irrev) (x : CallerState) → u.phase ≡ Inside → Tells good stm.config (caller_of u.desc.who.role) (TryIrrevocable r) (known u.desc) x → Covered (uncovered + uncovered_by (TryIrrevocable r)) each most all x (after (place_of u) (TryIrrevocable r))
+    irrevocable-covered : (r : Irrev) (x : CallerState) → u.phase ≡ Inside
+        → Tells good stm.config (caller_of u.desc.who.role) (TryIrrevocable r) (known u.desc) x
+        → Covered (uncovered + uncovered_by (TryIrrevocable r)) each most all x (after (place_of u) (TryIrrevocable r))
     irrevocable-covered irrevs.Granted x e t = granted-covered (is_forced (place_of u)) x (goes-covered x e t.continues.running t.continues.base)
     irrevocable-covered (irrevs.Busy caller status) x e t = goes-covered x e t.0.continues.running t.0.continues.base
     irrevocable-covered (irrevs.Taken gate) x e t =
@@ -203,11 +212,14 @@ module _ {K : Type 0} (good : List ℕ → Type 0) (stm : Stm K) (u : Worker K) 
     irrevocable-covered (irrevs.ClockFull clock) x e t = quit-covered x (quit_rise (known u.desc).alg (has_written (known u.desc))) e t.0.ends.idle.1 t.0.rises.1 (quit-low (known u.desc).alg (has_written (known u.desc)))
 
     -- a switch is an item that is done, or it was due
-    switched-covered : (alg : Alg) (x : CallerState) (c : Option Alg) → u.chosen ≡ c → MustSwitchTo alg c u.items_left.now → raised x ≤ raised (known u.desc) + 1 → Covered (uncovered + 0) each most all x (switched c (place_of u))
+    switched-covered : (alg : Alg) (x : CallerState) (c : Option Alg) → u.chosen ≡ c → MustSwitchTo alg c u.items_left.now
+        → raised x ≤ raised (known u.desc) + 1 → Covered (uncovered + 0) each most all x (switched c (place_of u))
     switched-covered alg x None e to r = let one = each-item each u.items_left.now (switch-less alg u.items_left.now to) in omega (arith, r, one, covers)
     switched-covered alg x (Some chosen) e to r = let due : due_of u.chosen ≡ 1 = ap due_of e in omega (arith, r, due, covers)
 
-    pub said-covered : (said : Said) (x : CallerState) → MaySay (place_of u) said → Tells good stm.config (caller_of u.desc.who.role) said (known u.desc) x → Covered (uncovered + uncovered_by said) each most all x (after (place_of u) said)
+    pub said-covered : (said : Said) (x : CallerState) → MaySay (place_of u) said
+        → Tells good stm.config (caller_of u.desc.who.role) said (known u.desc) x
+        → Covered (uncovered + uncovered_by said) each most all x (after (place_of u) said)
     said-covered (TryBegin (begins.Begun alg)) x may t = same-covered x (raised-in x t.running ∙ (t.base ∙ sym (raised-out (known u.desc) (idles may.0))))
     said-covered (TryBegin (begins.Closed gate)) x may t = stays-covered x may.0 t.0
     said-covered (TryBegin (begins.Held word)) x may t = stays-covered x may.0 t.0
@@ -219,10 +231,14 @@ module _ {K : Type 0} (good : List ℕ → Type 0) (stm : Stm K) (u : Worker K) 
     said-covered (TryCancel cancels.Irrevocable) x may t = same-covered x (ap raised t.0)
     said-covered (TryIrrevocable r) x may t = irrevocable-covered r x (asked-inside may) t
     said-covered (TryCommit (commits.Committed time)) x may t = row-covered W x (entry_rise (known u.desc).alg) may.0 t.ends.idle.1 (let r = t.rises in omega arith) (entry-low (known u.desc).alg)
-    said-covered (TryCommit (commits.ReadOnly time)) x may t = row-covered R x (quit_rise (known u.desc).alg (has_written (known u.desc))) may.0 t.0.ends.idle.1 t.1.1 (let l = quit-low (known u.desc).alg (has_written (known u.desc)) in omega arith)
+    said-covered (TryCommit (commits.ReadOnly time)) x may t =
+        row-covered R x (quit_rise (known u.desc).alg (has_written (known u.desc))) may.0 t.0.ends.idle.1 t.1.1
+        (let l = quit-low (known u.desc).alg (has_written (known u.desc)) in omega arith)
     said-covered (TryCommit (commits.Conflict cause)) x may t = refused-covered x may.0 t.0
     said-covered (TryCommit (commits.Again word had now)) x may t = goes-covered x may.0 t.0.continues.running t.0.continues.base
-    said-covered (TryCommit (commits.ClockFull clock)) x may t = quit-covered x (quit_rise (known u.desc).alg (has_written (known u.desc))) may.0 t.0.ends.idle.1 t.0.rises.1 (quit-low (known u.desc).alg (has_written (known u.desc)))
+    said-covered (TryCommit (commits.ClockFull clock)) x may t =
+        quit-covered x (quit_rise (known u.desc).alg (has_written (known u.desc))) may.0 t.0.ends.idle.1 t.0.rises.1
+        (quit-low (known u.desc).alg (has_written (known u.desc)))
     said-covered (TryClose closes.Closed) x may t = same-covered x (raised-out x t.holds.running ∙ (t.rises ∙ sym (raised-out (known u.desc) (idles may.0))))
     said-covered (TryClose (closes.Taken gate)) x may t = stays-covered x may.0 t.0
     said-covered (Looked looks.Quiet) x may t = same-covered x (raised-out x t.0.closed.holds.running ∙ (t.0.rises ∙ sym (raised-out (known u.desc) (closing-now may))))
@@ -243,7 +259,9 @@ module _ {K : Type 0} (good : List ℕ → Type 0) (stm : Stm K) (u : Worker K) 
     said-covered Reopened x may t = absurd may
 
     -- and after the schedule, where an attempt is dropped that nothing counts
-    pub wound-covered : (said : Said) (x : CallerState) → MayWind (place_of u) said → Tells good stm.config (caller_of u.desc.who.role) said (known u.desc) x → Covered (uncovered + uncovered_by said) each most all x (after (place_of u) said)
+    pub wound-covered : (said : Said) (x : CallerState) → MayWind (place_of u) said
+        → Tells good stm.config (caller_of u.desc.who.role) said (known u.desc) x
+        → Covered (uncovered + uncovered_by said) each most all x (after (place_of u) said)
     wound-covered (TryBegin b) x may t = said-covered (TryBegin b) x may.2 t
     wound-covered (Reply op reply) x may t = said-covered (Reply op reply) x may.2 t
     wound-covered (Stopped op stop) x may t = said-covered (Stopped op stop) x may.2 t
@@ -291,14 +309,17 @@ dropped-reserve reads writes (Reserve caller r w ∷ items) b = refl
 -- an item that is done covers an attempt of it that was dropped, too
 module _ {K : Type 0} (good : List ℕ → Type 0) (stm : Stm K) (u : Worker K) (s : Sound good stm u) (fixed : u.policy ≡ Fixed) (each most all : ℕ) (few : u.must ≡ false → u.failed + 1 ≤ most) (wide : most + 3 ≤ each)
     (covers : Covered (dropped_of u.items_left.now) each most all (known u.desc) (place_of u)) where
-  as-said : (said : Said) (x : CallerState) → MaySay (place_of u) said → Tells good stm.config (caller_of u.desc.who.role) said (known u.desc) x → Covered (dropped_of u.items_left.now + uncovered_by said) each most all x (after (place_of u) said)
+  as-said : (said : Said) (x : CallerState) → MaySay (place_of u) said
+      → Tells good stm.config (caller_of u.desc.who.role) said (known u.desc) x
+      → Covered (dropped_of u.items_left.now + uncovered_by said) each most all x (after (place_of u) said)
   as-said said x may t = said-covered good stm u s (dropped_of u.items_left.now) each most all few wide covers said x may t
 
   -- no switch is due then
   no-due : (kind : Kind) → due_of (ended kind 0 (place_of u)).chosen ≡ 0
   no-due kind = ap (λ (p : Policy). due_of (asked_by p (with_outcome u.profile (outcome_of kind)) u.alg)) fixed
 
-  row-settles : (kind : Kind) (x : CallerState) (rise : ℕ) → u.phase ≡ Inside → x.running ≡ false → x.rises ≤ (known u.desc).base + rise → rise ≤ 2 → Covered (dropped_of (rest_of u.items_left.now) + 0) each most all x (ended kind 0 (place_of u))
+  row-settles : (kind : Kind) (x : CallerState) (rise : ℕ) → u.phase ≡ Inside → x.running ≡ false → x.rises ≤ (known u.desc).base + rise
+      → rise ≤ 2 → Covered (dropped_of (rest_of u.items_left.now) + 0) each most all x (ended kind 0 (place_of u))
   row-settles kind x rise e out r low =
       let a = raised-in (known u.desc) (runs good stm u s e) in
       let b = raised-out x out in
@@ -308,15 +329,20 @@ module _ {K : Type 0} (good : List ℕ → Type 0) (stm : Stm K) (u : Worker K) 
       let due = no-due kind in
       omega (arith, a, b, m, one, d, due, r, covers)
 
-  granted-left : (b : Bool) (x : CallerState) → Covered (dropped_of u.items_left.now + 0) each most all x (granted_at b (place_of u)) → Covered (dropped_of (granted_at b (place_of u)).left + 0) each most all x (granted_at b (place_of u))
+  granted-left : (b : Bool) (x : CallerState) → Covered (dropped_of u.items_left.now + 0) each most all x (granted_at b (place_of u))
+      → Covered (dropped_of (granted_at b (place_of u)).left + 0) each most all x (granted_at b (place_of u))
   granted-left true x h = h
   granted-left false x h = h
 
-  switched-left : (alg : Alg) (x : CallerState) (c : Option Alg) → MustSwitchTo alg c u.items_left.now → Covered (dropped_of u.items_left.now + 0) each most all x (switched c (place_of u)) → Covered (dropped_of (switched c (place_of u)).left + 0) each most all x (switched c (place_of u))
+  switched-left : (alg : Alg) (x : CallerState) (c : Option Alg) → MustSwitchTo alg c u.items_left.now
+      → Covered (dropped_of u.items_left.now + 0) each most all x (switched c (place_of u))
+      → Covered (dropped_of (switched c (place_of u)).left + 0) each most all x (switched c (place_of u))
   switched-left alg x None to h = let none = dropped-switch alg u.items_left.now to in omega (arith, h, none)
   switched-left alg x (Some chosen) to h = h
 
-  pub settles : (said : Said) (x : CallerState) → MaySay (place_of u) said → Tells good stm.config (caller_of u.desc.who.role) said (known u.desc) x → Covered (dropped_of (after (place_of u) said).left + uncovered_by said) each most all x (after (place_of u) said)
+  pub settles : (said : Said) (x : CallerState) → MaySay (place_of u) said
+      → Tells good stm.config (caller_of u.desc.who.role) said (known u.desc) x
+      → Covered (dropped_of (after (place_of u) said).left + uncovered_by said) each most all x (after (place_of u) said)
   settles (TryBegin (begins.Begun alg)) x may t = as-said (TryBegin (begins.Begun alg)) x may t
   settles (TryBegin (begins.Closed gate)) x may t = as-said (TryBegin (begins.Closed gate)) x may t
   settles (TryBegin (begins.Held word)) x may t = as-said (TryBegin (begins.Held word)) x may t
@@ -334,7 +360,9 @@ module _ {K : Type 0} (good : List ℕ → Type 0) (stm : Stm K) (u : Worker K) 
   settles (TryIrrevocable (irrevs.Conflict cause)) x may t = as-said (TryIrrevocable (irrevs.Conflict cause)) x may t
   settles (TryIrrevocable (irrevs.ClockFull clock)) x may t = as-said (TryIrrevocable (irrevs.ClockFull clock)) x may t
   settles (TryCommit (commits.Committed time)) x may t = row-settles W x (entry_rise (known u.desc).alg) may.0 t.ends.idle.1 (let r = t.rises in omega arith) (entry-low (known u.desc).alg)
-  settles (TryCommit (commits.ReadOnly time)) x may t = row-settles R x (quit_rise (known u.desc).alg (has_written (known u.desc))) may.0 t.0.ends.idle.1 t.1.1 (let l = quit-low (known u.desc).alg (has_written (known u.desc)) in omega arith)
+  settles (TryCommit (commits.ReadOnly time)) x may t =
+      row-settles R x (quit_rise (known u.desc).alg (has_written (known u.desc))) may.0 t.0.ends.idle.1 t.1.1
+      (let l = quit-low (known u.desc).alg (has_written (known u.desc)) in omega arith)
   settles (TryCommit (commits.Conflict cause)) x may t = as-said (TryCommit (commits.Conflict cause)) x may t
   settles (TryCommit (commits.Again word had now)) x may t = as-said (TryCommit (commits.Again word had now)) x may t
   settles (TryCommit (commits.ClockFull clock)) x may t = as-said (TryCommit (commits.ClockFull clock)) x may t

@@ -118,7 +118,8 @@ abbrev kinds_in : List Tried → List Kind
 kinds_in tried = map (λ (t : Tried). t.kind) tried
 
 -- where nothing was tried nothing is asked for
-untried : (callers : ℕ) (done : Bool) (policy : Policy) (knows : Alg) (since other : List Outcome) (due : List Alg) (items : List Item) → installs_by callers done policy knows since due items [] ≡ installs_by callers done policy knows other due items []
+untried : (callers : ℕ) (done : Bool) (policy : Policy) (knows : Alg) (since other : List Outcome) (due : List Alg) (items : List Item)
+    → installs_by callers done policy knows since due items [] ≡ installs_by callers done policy knows other due items []
 untried callers done policy knows since other due [] = refl
 untried callers done policy knows since other due (Tx caller script ∷ items) = ap (λ l. due ++ l) (untried callers done policy (last_of knows due) since other [] items)
 untried callers done policy knows since other due (Switch caller alg ∷ items) = ap (λ l. due ++ alg ∷ l) (untried callers done policy alg since other [] items)
@@ -152,12 +153,15 @@ fulls-few Cancelled = omega arith
 fulls-few Conflict = omega arith
 fulls-few Full = omega arith
 
-failure-failed : (cut : Bool) (callers : ℕ) (o : Outcome) (tried : List Tried) → IsFailure cut callers o → (fulls (o ∷ []) ≡ 0) ⊎ (fulls_next tried ≡ 0) → All (IsTried cut callers) tried → All (IsTried cut callers) (with_failure o tried)
+failure-failed : (cut : Bool) (callers : ℕ) (o : Outcome) (tried : List Tried) → IsFailure cut callers o
+    → (fulls (o ∷ []) ≡ 0) ⊎ (fulls_next tried ≡ 0) → All (IsTried cut callers) tried → All (IsTried cut callers) (with_failure o tried)
 unfolding with_failure fulls_next
 failure-failed cut callers o [] f few all = all
 failure-failed cut callers o (t ∷ tried) f few all =
     let head = All-head (IsTried cut callers) t tried all in
-    All-cons (IsTried cut callers) (record t { failed = o ∷ t.failed }) tried (record { failures = All-cons (IsFailure cut callers) o t.failed f head.failures; once = by few head.once }) (All-tail (IsTried cut callers) t tried all)
+    All-cons (IsTried cut callers) (record t { failed = o ∷ t.failed }) tried
+    (record { failures = All-cons (IsFailure cut callers) o t.failed f head.failures; once = by few head.once })
+    (All-tail (IsTried cut callers) t tried all)
   where
     by : (fulls (o ∷ []) ≡ 0) ⊎ (fulls t.failed ≡ 0) → fulls t.failed ≤ 1 → fulls (o ∷ t.failed) ≤ 1
     by (inl e) h = let q = fulls-one o t.failed in omega arith
@@ -177,13 +181,19 @@ unfolding with_failure
 failure-kinds o [] = refl
 failure-kinds o (t ∷ tried) = refl
 
-failure-installs : (callers : ℕ) (done : Bool) (policy : Policy) (knows : Alg) (since : List Outcome) (o : Outcome) (due : List Alg) (items : List Item) (tried : List Tried) → installs_by callers done policy knows (since ++ o ∷ []) due items tried ≡ installs_by callers done policy knows since due items (with_failure o tried)
+failure-installs : (callers : ℕ) (done : Bool) (policy : Policy) (knows : Alg) (since : List Outcome) (o : Outcome) (due : List Alg)
+    (items : List Item) (tried : List Tried)
+    → installs_by callers done policy knows (since ++ o ∷ []) due items tried
+    ≡ installs_by callers done policy knows since due items (with_failure o tried)
 unfolding with_failure
 failure-installs callers done policy knows since o due items [] = untried callers done policy knows (since ++ o ∷ []) since due items
 failure-installs callers done policy knows since o due [] (t ∷ tried) = refl
 failure-installs callers done policy knows since o due (Tx caller script ∷ items) (t ∷ tried) =
     let now = last_of knows due in
-    ap (λ all. due ++ installs_by callers done policy now (since_then (asked_for policy all (ran_under callers now t)) all) (asked_for policy all (ran_under callers now t)) items tried) (append_assoc since (o ∷ []) (came_to t))
+    ap (λ all.
+    due
+    ++ installs_by callers done policy now (since_then (asked_for policy all (ran_under callers now t)) all)
+    (asked_for policy all (ran_under callers now t)) items tried) (append_assoc since (o ∷ []) (came_to t))
 failure-installs callers done policy knows since o due (Switch caller alg ∷ items) (t ∷ tried) = ap (λ l. due ++ alg ∷ l) (failure-installs callers done policy alg since o [] items (t ∷ tried))
 failure-installs callers done policy knows since o due (Reserve caller reads writes ∷ items) (t ∷ tried) = ap (λ l. due ++ l) (failure-installs callers done policy (last_of knows due) since o [] items (t ∷ tried))
 
@@ -230,7 +240,9 @@ ran-is : (callers : ℕ) (knows alg : Alg) → (callers ≡ 1 → alg ≡ knows)
 ran-is callers knows alg alone = cond_both (eqb callers 1) knows alg (λ x. alg ≡ x) (λ e. alone (eqb-true callers 1 e)) (λ e. refl)
 
 -- what is due is done before the next item
-due-first : (callers : ℕ) (done : Bool) (policy : Policy) (knows : Alg) (since : List Outcome) (alg : Alg) (items : List Item) (tried : List Tried) → (done ≡ true) ⊎ (items ≢ []) → alg ∷ installs_by callers done policy alg since [] items tried ≡ installs_by callers done policy knows since (alg ∷ []) items tried
+due-first : (callers : ℕ) (done : Bool) (policy : Policy) (knows : Alg) (since : List Outcome) (alg : Alg) (items : List Item)
+    (tried : List Tried) → (done ≡ true) ⊎ (items ≢ [])
+    → alg ∷ installs_by callers done policy alg since [] items tried ≡ installs_by callers done policy knows since (alg ∷ []) items tried
 due-first callers done policy knows since alg [] tried (inl e) = by done e
   where
     by : (b : Bool) → b ≡ true → alg ∷ (if b then [] else []) ≡ (if b then alg ∷ [] else [])
@@ -290,11 +302,19 @@ module _ (h : Header) (cut done : Bool) (policy : Policy) (to : CallerProgress) 
 
     -- an attempt failed; must: whether the next ones must become irrevocable then
     failed : (o : Outcome) (must : Bool) → IsFailure cut h.callers o → (at.must ≡ true → (fulls (o ∷ []) ≡ 0) × (must ≡ true)) → (fulls (o ∷ []) ≡ 0) ⊎ (must ≡ true) → installed said ≡ [] → at.phase ≡ Inside
-        → ((other : List Outcome) → IsNoted h.callers policy knows other at.policy Between at.left at.chosen (with_outcome at.profile o) at.alg → Tells knows other at.left at.rows at.chosen must course) → TellsAt knows since at (said ∷ course)
+        → ((other : List Outcome)
+        → IsNoted h.callers policy knows other at.policy Between at.left at.chosen (with_outcome at.profile o) at.alg
+        → Tells knows other at.left at.rows at.chosen must course) → TellsAt knows since at (said ∷ course)
     failed o must fails forced few none inside next =
         let c = (n.ready inside).0 in
         let noted : at.profile ≡ profile_of since = subst (λ x. NotedWith x since at.profile) c n.noted in
-        let t = next (since ++ o ∷ []) (record { by = n.by; ready = λ e. absurd cc; noted = subst (λ x. NotedWith x (since ++ o ∷ []) (with_outcome at.profile o)) (sym c) (ap (λ p. with_outcome p o) noted ∙ noted-more since o); under = λ one e. absurd cc }) in
+        let t = next (since ++ o ∷ []) (record {
+          by = n.by;
+          ready = λ e. absurd cc;
+          noted = subst (λ x. NotedWith x (since ++ o ∷ []) (with_outcome at.profile o)) (sym c)
+              (ap (λ p. with_outcome p o) noted ∙ noted-more since o);
+          under = λ one e. absurd cc;
+        }) in
         let a = t.adapts in
         still none (record {
           did = t.did;
@@ -302,7 +322,12 @@ module _ (h : Header) (cut done : Bool) (policy : Policy) (to : CallerProgress) 
           all = t.all;
           told = t.told;
           enough = t.enough;
-          adapts = (with_failure o a.0, failure-failed cut h.callers o a.0 fails (rest few t.first) a.1, failure-kinds o a.0 ∙ a.2, a.3 ∙ failure-installs h.callers done policy knows since o (at_most_one at.chosen) (t.did ++ items) a.0);
+          adapts = (
+            with_failure o a.0,
+            failure-failed cut h.callers o a.0 fails (rest few t.first) a.1,
+            failure-kinds o a.0 ∙ a.2,
+            a.3 ∙ failure-installs h.callers done policy knows since o (at_most_one at.chosen) (t.did ++ items) a.0,
+          );
           first = λ e. let f = forced e in failure-fulls o a.0 f.0 (t.first f.1);
         })
       where
@@ -312,7 +337,9 @@ module _ (h : Header) (cut done : Bool) (policy : Policy) (to : CallerProgress) 
 
     -- a transaction ended by a row
     row-told : (kind : Kind) (row : Row) → row.kind ≡ kind → installed said ≡ [] → at.phase ≡ Inside
-        → ((other : List Outcome) → IsNoted h.callers policy knows other at.policy Between (rest_of at.left) (asked_by at.policy (with_outcome at.profile (outcome_of kind)) at.alg) (with_outcome at.profile (outcome_of kind)) at.alg
+        → ((other : List Outcome)
+        → IsNoted h.callers policy knows other at.policy Between (rest_of at.left)
+        (asked_by at.policy (with_outcome at.profile (outcome_of kind)) at.alg) (with_outcome at.profile (outcome_of kind)) at.alg
         → Tells knows other (rest_of at.left) (at.rows ++ row ∷ []) (asked_by at.policy (with_outcome at.profile (outcome_of kind)) at.alg) false course) → TellsAt knows since at (said ∷ course)
     row-told kind row of none inside next =
         let o = outcome_of kind in
@@ -324,16 +351,27 @@ module _ (h : Header) (cut done : Bool) (policy : Policy) (to : CallerProgress) 
         let noted : at.profile ≡ profile_of since = subst (λ x. NotedWith x since at.profile) unasked n.noted in
         let behind : with_outcome at.profile o ≡ profile_of all = ap (λ p. with_outcome p o) noted ∙ noted-more since o in
         let asked : asked_by at.policy (with_outcome at.profile o) at.alg ≡ c = λ i. asked_by (n.by i) (behind i) at.alg in
-        let t = next left (record { by = n.by; ready = λ e. absurd cc; noted = subst (λ x. NotedWith x left (with_outcome at.profile o)) (sym asked) (noted-behind c all (with_outcome at.profile o) behind); under = λ one e. absurd cc }) in
+        let t = next left (record {
+          by = n.by;
+          ready = λ e. absurd cc;
+          noted =
+              subst (λ x. NotedWith x left (with_outcome at.profile o)) (sym asked) (noted-behind c all (with_outcome at.profile o) behind);
+          under = λ one e. absurd cc;
+        }) in
         let a = t.adapts in
         let tried : Tried = record { failed = []; alg = at.alg; kind = kind } in
         let told : map (λ (r : Row). r.kind) (at.rows ++ row ∷ []) ≡ map (λ (r : Row). r.kind) at.rows ++ kind ∷ [] =
         map-append (λ (r : Row). r.kind) at.rows (row ∷ []) ∙ ap (λ k. map (λ (r : Row). r.kind) at.rows ++ k ∷ []) of in
-        let is : all_installed course ≡ installs_by h.callers done policy knows left (at_most_one c) (t.did ++ items) a.0 = a.3 ∙ ap (λ x. installs_by h.callers done policy knows left (at_most_one x) (t.did ++ items) a.0) asked in
+        let is : all_installed course ≡ installs_by h.callers done policy knows left (at_most_one c) (t.did ++ items) a.0 = a.3 ∙ ap
+        (λ x. installs_by h.callers done policy knows left (at_most_one x) (t.did ++ items) a.0) asked in
         let now : knows ≡ last_of knows (at_most_one at.chosen) = ap (λ x. last_of knows (at_most_one x)) (sym unasked) in
         let ran : at.alg ≡ ran_under h.callers (last_of knows (at_most_one at.chosen)) tried = ran-is h.callers (last_of knows (at_most_one at.chosen)) at.alg (λ one. n.under one inside ∙ now) in
         let due : all_installed course ≡ installs_by h.callers done policy knows since (at_most_one at.chosen) (Tx first.0 first.1 ∷ t.did ++ items) (tried ∷ a.0) =
-        is ∙ (λ i. at_most_one (sym unasked i) ++ installs_by h.callers done policy (now i) (since_then (at_most_one (asked_by policy (profile_of all) (ran i))) all) (at_most_one (asked_by policy (profile_of all) (ran i))) (t.did ++ items) a.0) in
+        is
+        ∙ (λ i.
+        at_most_one (sym unasked i)
+        ++ installs_by h.callers done policy (now i) (since_then (at_most_one (asked_by policy (profile_of all) (ran i))) all)
+        (at_most_one (asked_by policy (profile_of all) (ran i))) (t.did ++ items) a.0) in
         still none (record {
           did = Tx first.0 first.1 ∷ t.did;
           more = kind ∷ t.more;
@@ -345,7 +383,10 @@ module _ (h : Header) (cut done : Bool) (policy : Policy) (to : CallerProgress) 
         })
 
   -- the switch is done
-  installed-told : (alg : Alg) (course : List Said) (at : CallerProgress) (knows : Alg) (since : List Outcome) (chosen : Option Alg) → at.chosen ≡ chosen → at.policy ≡ policy → NotedWith chosen since at.profile → MustSwitchTo alg chosen at.left → ((other : List Outcome) → IsNotedAt h.callers policy alg other (switched chosen at) → TellsAt alg other (switched chosen at) course) → Tells knows since at.left at.rows chosen at.must (Installed alg ∷ course)
+  installed-told : (alg : Alg) (course : List Said) (at : CallerProgress) (knows : Alg) (since : List Outcome) (chosen : Option Alg)
+      → at.chosen ≡ chosen → at.policy ≡ policy → NotedWith chosen since at.profile → MustSwitchTo alg chosen at.left
+      → ((other : List Outcome) → IsNotedAt h.callers policy alg other (switched chosen at) → TellsAt alg other (switched chosen at) course)
+      → Tells knows since at.left at.rows chosen at.must (Installed alg ∷ course)
   installed-told alg course at knows since None is by noted may next =
       let first = switch-first alg at.left may in
       let t = next since (record { by = by; ready = λ e. absurd cc; noted = subst (λ c. NotedWith c since at.profile) (sym is) noted; under = λ one e. absurd cc }) in
@@ -368,12 +409,21 @@ module _ (h : Header) (cut done : Bool) (policy : Policy) (to : CallerProgress) 
         all = t.all;
         told = t.told;
         enough = λ e. absurd cc;
-        adapts = (a.0, a.1, a.2, ap (λ l. alg ∷ l) a.3 ∙ (due-first h.callers done policy knows [] alg (t.did ++ items) a.0 (t.enough refl) ∙ (λ i. installs_by h.callers done policy knows (sym noted i) (sym may i ∷ []) (t.did ++ items) a.0)));
+        adapts = (
+          a.0,
+          a.1,
+          a.2,
+          ap (λ l. alg ∷ l) a.3
+              ∙ (due-first h.callers done policy knows [] alg (t.did ++ items) a.0 (t.enough refl)
+              ∙ (λ i. installs_by h.callers done policy knows (sym noted i) (sym may i ∷ []) (t.did ++ items) a.0)),
+        );
         first = t.first;
       }
 
   -- longer logs are made
-  lengthened-told : (reads writes : ℕ) (course : List Said) (at : CallerProgress) (knows : Alg) (since : List Outcome) → at.chosen ≡ None → Lengthens reads writes at.left → Tells knows since (rest_of at.left) at.rows at.chosen at.must course → TellsAt knows since at (Reserved reads writes ∷ course)
+  lengthened-told : (reads writes : ℕ) (course : List Said) (at : CallerProgress) (knows : Alg) (since : List Outcome) → at.chosen ≡ None
+      → Lengthens reads writes at.left → Tells knows since (rest_of at.left) at.rows at.chosen at.must course
+      → TellsAt knows since at (Reserved reads writes ∷ course)
   lengthened-told reads writes course at knows since unasked may t =
       let first = reserve-first reads writes at.left may in
       let a = t.adapts in
@@ -383,7 +433,14 @@ module _ (h : Header) (cut done : Bool) (policy : Policy) (to : CallerProgress) 
         all = first.1 ∙ ap (λ l. Reserve first.0 reads writes ∷ l) t.all;
         told = t.told;
         enough = λ e. inr (λ z. absurd cc);
-        adapts = (a.0, a.1, a.2, a.3 ∙ (λ i. installs_by h.callers done policy knows since (at_most_one (unasked i)) (t.did ++ items) a.0) ∙ ap (λ c. at_most_one c ++ installs_by h.callers done policy (last_of knows (at_most_one c)) since [] (t.did ++ items) a.0) (sym unasked));
+        adapts = (
+          a.0,
+          a.1,
+          a.2,
+          a.3 ∙ (λ i. installs_by h.callers done policy knows since (at_most_one (unasked i)) (t.did ++ items) a.0)
+              ∙ ap (λ c. at_most_one c ++ installs_by h.callers done policy (last_of knows (at_most_one c)) since [] (t.did ++ items) a.0)
+              (sym unasked),
+        );
         first = t.first;
       }
 
@@ -400,9 +457,15 @@ module _ (h : Header) (cut done : Bool) (policy : Policy) (to : CallerProgress) 
     unforced false b f i e = absurd cc
 
     by-stop : (op : Op) (stop : Stop) → IsFair h at (Stopped op stop) → Comes op at → Further knows (after at (Stopped op stop)) course → TellsAt knows since at (Stopped op stop ∷ course)
-    by-stop op (stops.Conflict cause) fair comes next = failed (Stopped op (stops.Conflict cause)) course at knows since n outcomes.Conflict (must_next at.must at.failed) fair.1.0 (λ e. (refl, forced-on e)) (inl refl) refl comes.0 next
-    by-stop op (stops.Full limit) fair comes next = failed (Stopped op (stops.Full limit)) course at knows since n outcomes.Full true tt (λ e. absurd (unforced at.must (irrevocable at) comes.1 fair.0 e)) (inr refl) refl comes.0 next
-    by-stop op (stops.ClockFull clock) fair comes next = still (Stopped op (stops.ClockFull clock)) course at knows since n refl (next since (record { by = n.by; ready = λ e. absurd cc; noted = n.noted; under = λ one e. absurd cc }))
+    by-stop op (stops.Conflict cause) fair comes next =
+        failed (Stopped op (stops.Conflict cause)) course at knows since n outcomes.Conflict (must_next at.must at.failed) fair.1.0
+        (λ e. (refl, forced-on e)) (inl refl) refl comes.0 next
+    by-stop op (stops.Full limit) fair comes next =
+        failed (Stopped op (stops.Full limit)) course at knows since n outcomes.Full true tt
+        (λ e. absurd (unforced at.must (irrevocable at) comes.1 fair.0 e)) (inr refl) refl comes.0 next
+    by-stop op (stops.ClockFull clock) fair comes next =
+        still (Stopped op (stops.ClockFull clock)) course at knows since n refl
+        (next since (record { by = n.by; ready = λ e. absurd cc; noted = n.noted; under = λ one e. absurd cc }))
 
     by-grant : (forced : Bool) → is_forced at ≡ forced → Further knows (granted_at forced at) course → TellsAt knows since at (TryIrrevocable irrevs.Granted ∷ course)
     by-grant true e next = still (TryIrrevocable irrevs.Granted) course at knows since n refl (next since (record { by = n.by; ready = n.ready; noted = n.noted; under = n.under }))
@@ -417,38 +480,68 @@ module _ (h : Header) (cut done : Bool) (policy : Policy) (to : CallerProgress) 
     cut-by true h = refl
     cut-by false h = absurd (h refl)
 
-    by-said : (said : Said) → MayTurn at said → IsFair h at said → (cut ≡ false → IsUncut (said ∷ course)) → (h.callers ≡ 1 → BeginsUnder knows said) → Further (last_of knows (installed said)) (after at said) course → TellsAt knows since at (said ∷ course)
-    by-said (TryBegin (begins.Begun alg)) may fair uncut under next = still (TryBegin (begins.Begun alg)) course at knows since n refl (next since (record { by = n.by; ready = λ e. (may.2, may.1); noted = n.noted; under = λ one e. under one }))
+    by-said : (said : Said) → MayTurn at said → IsFair h at said → (cut ≡ false → IsUncut (said ∷ course))
+        → (h.callers ≡ 1 → BeginsUnder knows said) → Further (last_of knows (installed said)) (after at said) course
+        → TellsAt knows since at (said ∷ course)
+    by-said (TryBegin (begins.Begun alg)) may fair uncut under next =
+        still (TryBegin (begins.Begun alg)) course at knows since n refl
+        (next since (record { by = n.by; ready = λ e. (may.2, may.1); noted = n.noted; under = λ one e. under one }))
     by-said (TryBegin (begins.Closed gate)) may fair uncut under next = still (TryBegin (begins.Closed gate)) course at knows since n refl (next since n)
     by-said (TryBegin (begins.Held word)) may fair uncut under next = still (TryBegin (begins.Held word)) course at knows since n refl (next since n)
     by-said (TryBegin (begins.ClockFull clock)) may fair uncut under next = still (TryBegin (begins.ClockFull clock)) course at knows since n refl (next since n)
     by-said (Reply op reply) may fair uncut under next = still (Reply op reply) course at knows since n refl (next since n)
     by-said (Stopped op stop) may fair uncut under next = by-stop op stop fair may.0 next
-    by-said (TryCancel (cancels.Cancelled time)) may fair uncut under next = row-told (TryCancel (cancels.Cancelled time)) course at knows since n C (row_at C time (record at { replies = at.replies ++ 1 ∷ [] })) refl refl may.0 next
+    by-said (TryCancel (cancels.Cancelled time)) may fair uncut under next =
+        row-told (TryCancel (cancels.Cancelled time)) course at knows since n C
+        (row_at C time (record at { replies = at.replies ++ 1 ∷ [] })) refl refl may.0 next
     by-said (TryCancel cancels.Irrevocable) may fair uncut under next = still (TryCancel cancels.Irrevocable) course at knows since n refl (next since n)
     by-said (TryIrrevocable irrevs.Granted) may fair uncut under next = by-grant (is_forced at) refl next
     by-said (TryIrrevocable (irrevs.Busy caller status)) may fair uncut under next = still (TryIrrevocable (irrevs.Busy caller status)) course at knows since n refl (next since n)
-    by-said (TryIrrevocable (irrevs.Taken gate)) may fair uncut under next = failed (TryIrrevocable (irrevs.Taken gate)) course at knows since n outcomes.Cancelled (must_next at.must at.failed) (inl fair.0.2) (λ e. (refl, forced-on e)) (inl refl) refl (asking may) next
-    by-said (TryIrrevocable (irrevs.Conflict cause)) may fair uncut under next = failed (TryIrrevocable (irrevs.Conflict cause)) course at knows since n outcomes.Conflict (must_next at.must at.failed) fair.1 (λ e. (refl, forced-on e)) (inl refl) refl (asking may) next
-    by-said (TryIrrevocable (irrevs.ClockFull clock)) may fair uncut under next = still (TryIrrevocable (irrevs.ClockFull clock)) course at knows since n refl (next since (record { by = n.by; ready = λ e. absurd cc; noted = n.noted; under = λ one e. absurd cc }))
+    by-said (TryIrrevocable (irrevs.Taken gate)) may fair uncut under next =
+        failed (TryIrrevocable (irrevs.Taken gate)) course at knows since n outcomes.Cancelled (must_next at.must at.failed) (inl fair.0.2)
+        (λ e. (refl, forced-on e)) (inl refl) refl (asking may) next
+    by-said (TryIrrevocable (irrevs.Conflict cause)) may fair uncut under next =
+        failed (TryIrrevocable (irrevs.Conflict cause)) course at knows since n outcomes.Conflict (must_next at.must at.failed) fair.1
+        (λ e. (refl, forced-on e)) (inl refl) refl (asking may) next
+    by-said (TryIrrevocable (irrevs.ClockFull clock)) may fair uncut under next =
+        still (TryIrrevocable (irrevs.ClockFull clock)) course at knows since n refl
+        (next since (record { by = n.by; ready = λ e. absurd cc; noted = n.noted; under = λ one e. absurd cc }))
     by-said (TryCommit (commits.Committed time)) may fair uncut under next = row-told (TryCommit (commits.Committed time)) course at knows since n W (row_at W time at) refl refl may.0 next
     by-said (TryCommit (commits.ReadOnly time)) may fair uncut under next = row-told (TryCommit (commits.ReadOnly time)) course at knows since n R (row_at R time at) refl refl may.0 next
-    by-said (TryCommit (commits.Conflict cause)) may fair uncut under next = failed (TryCommit (commits.Conflict cause)) course at knows since n outcomes.Conflict (must_next at.must at.failed) fair.1 (λ e. (refl, forced-on e)) (inl refl) refl may.0 next
+    by-said (TryCommit (commits.Conflict cause)) may fair uncut under next =
+        failed (TryCommit (commits.Conflict cause)) course at knows since n outcomes.Conflict (must_next at.must at.failed) fair.1
+        (λ e. (refl, forced-on e)) (inl refl) refl may.0 next
     by-said (TryCommit (commits.Again word had now)) may fair uncut under next = still (TryCommit (commits.Again word had now)) course at knows since n refl (next since n)
-    by-said (TryCommit (commits.ClockFull clock)) may fair uncut under next = still (TryCommit (commits.ClockFull clock)) course at knows since n refl (next since (record { by = n.by; ready = λ e. absurd cc; noted = n.noted; under = λ one e. absurd cc }))
-    by-said (TryClose closes.Closed) may fair uncut under next = still (TryClose closes.Closed) course at knows since n refl (next since (record { by = n.by; ready = λ e. absurd cc; noted = n.noted; under = λ one e. absurd cc }))
+    by-said (TryCommit (commits.ClockFull clock)) may fair uncut under next =
+        still (TryCommit (commits.ClockFull clock)) course at knows since n refl
+        (next since (record { by = n.by; ready = λ e. absurd cc; noted = n.noted; under = λ one e. absurd cc }))
+    by-said (TryClose closes.Closed) may fair uncut under next =
+        still (TryClose closes.Closed) course at knows since n refl
+        (next since (record { by = n.by; ready = λ e. absurd cc; noted = n.noted; under = λ one e. absurd cc }))
     by-said (TryClose (closes.Taken gate)) may fair uncut under next = still (TryClose (closes.Taken gate)) course at knows since n refl (next since n)
-    by-said (Looked looks.Quiet) may fair uncut under next = still (Looked looks.Quiet) course at knows since n refl (next since (record { by = n.by; ready = λ e. absurd cc; noted = n.noted; under = λ one e. absurd cc }))
+    by-said (Looked looks.Quiet) may fair uncut under next =
+        still (Looked looks.Quiet) course at knows since n refl
+        (next since (record { by = n.by; ready = λ e. absurd cc; noted = n.noted; under = λ one e. absurd cc }))
     by-said (Looked (looks.Busy caller status)) may fair uncut under next = still (Looked (looks.Busy caller status)) course at knows since n refl (next since n)
     by-said (Installed alg) may fair uncut under next = installed-told alg course at knows since at.chosen refl n.by n.noted may.1 next
-    by-said (Reserved reads writes) may fair uncut under next = lengthened-told reads writes course at knows since may.2 may.1 (next since (record { by = n.by; ready = λ e. absurd (let x = sym may.0 ∙ e in cc); noted = n.noted; under = λ one e. absurd (let x = sym may.0 ∙ e in cc) }))
+    by-said (Reserved reads writes) may fair uncut under next =
+        lengthened-told reads writes course at knows since may.2 may.1 (next since
+        (record {
+          by = n.by;
+          ready = λ e. absurd (let x = sym may.0 ∙ e in cc);
+          noted = n.noted;
+          under = λ one e. absurd (let x = sym may.0 ∙ e in cc);
+        }))
     by-said Idle may fair uncut under next = still Idle course at knows since n refl (next since n)
     by-said Dropped may fair uncut under next = failed Dropped course at knows since n outcomes.Cancelled at.must (inr (cut-by cut uncut)) (λ e. (refl, e)) (inl refl) refl may.0 next
     by-said Reopened may fair uncut under next = still Reopened course at knows since n refl (next since (record { by = n.by; ready = λ e. absurd cc; noted = n.noted; under = λ one e. absurd cc }))
 
   -- the whole course, where the items that are counted as done after it install nothing
-  module _ (last : (knows : Alg) (since : List Outcome) → IsNotedAt h.callers policy knows since to → (a : Adapts cut h.callers done policy knows since (at_most_one to.chosen) items kinds []) × (fulls_next a.0 ≡ 0)) (enough : to.chosen ≡ None → (done ≡ true) ⊎ (items ≢ [])) (end : Alg) where
-    all-told : (course : List Said) (at : CallerProgress) (knows : Alg) (since : List Outcome) → IsNotedAt h.callers policy knows since at → Went h at course to → (cut ≡ false → IsUncut course) → (h.callers ≡ 1 → Knows knows course end) → TellsAt knows since at course
+  module _
+      (last : (knows : Alg) (since : List Outcome) → IsNotedAt h.callers policy knows since to → (a : Adapts cut h.callers done policy knows since (at_most_one to.chosen) items kinds []) × (fulls_next a.0 ≡ 0))
+      (enough : to.chosen ≡ None → (done ≡ true) ⊎ (items ≢ [])) (end : Alg) where
+    all-told : (course : List Said) (at : CallerProgress) (knows : Alg) (since : List Outcome) → IsNotedAt h.callers policy knows since at
+        → Went h at course to → (cut ≡ false → IsUncut course) → (h.callers ≡ 1 → Knows knows course end) → TellsAt knows since at course
     all-told [] at knows since n went uncut alone = let a = last knows since (subst (IsNotedAt h.callers policy knows since) went n) in subst (λ p. TellsAt knows since p []) (sym went) (record {
       did = [];
       more = [];
@@ -459,7 +552,9 @@ module _ (h : Header) (cut done : Bool) (policy : Policy) (to : CallerProgress) 
       first = λ e. a.1;
     })
     all-told (said ∷ course) at knows since n went uncut alone =
-        by-said course at knows since n said went.0 went.1 uncut (λ one. (alone one).0) (λ other m. all-told course (after at said) (last_of knows (installed said)) other m went.2 (λ e. uncut-on said course (uncut e)) (λ one. (alone one).1))
+        by-said course at knows since n said went.0 went.1 uncut (λ one. (alone one).0) (λ other m.
+        all-told course (after at said) (last_of knows (installed said)) other m went.2 (λ e. uncut-on said course (uncut e)) (λ one.
+        (alone one).1))
 
 fresh-noted : (callers : ℕ) (knows : Alg) (at : CallerProgress) → IsFresh at → IsNotedAt callers at.policy knows [] at
 fresh-noted callers knows at f = record {
@@ -477,15 +572,20 @@ fixed-installs callers done knows since (Tx caller script ∷ items) (t ∷ trie
 fixed-installs callers done knows since (Switch caller alg ∷ items) tried = ap (λ l. alg ∷ l) (fixed-installs callers done alg since items tried)
 fixed-installs callers done knows since (Reserve caller reads writes ∷ items) tried = fixed-installs callers done knows since items tried
 
-by-policy : (cut : Bool) (callers : ℕ) (done : Bool) (policy : Policy) (start : Alg) (items : List Item) (kinds : List Kind) (installs : List Alg) → Adapts cut callers done policy start [] [] items kinds installs → InstallsBy cut callers done policy start items kinds installs
+by-policy : (cut : Bool) (callers : ℕ) (done : Bool) (policy : Policy) (start : Alg) (items : List Item) (kinds : List Kind)
+    (installs : List Alg) → Adapts cut callers done policy start [] [] items kinds installs
+    → InstallsBy cut callers done policy start items kinds installs
 by-policy cut callers done Fixed start items kinds installs a = a.3 ∙ fixed-installs callers done start [] items a.0
 by-policy cut callers done (Round n) start items kinds installs a = a
 by-policy cut callers done Expert start items kinds installs a = a
 by-policy cut callers done (State n) start items kinds installs a = a
 
 -- of a caller that had done nothing, where these are the first of its items, or these and the first operations of an attempt
-module _ (cut : Bool) (h : Header) (at to : CallerProgress) (course : List Said) (start end : Alg) (fresh : IsFresh at) (went : Went h at course to) (uncut : cut ≡ false → IsUncut course) (alone : h.callers ≡ 1 → Knows start course end) (first : List Item) (is : at.left ≡ first ++ to.left) where
-  from-start : (done : Bool) (items : List Item) (kinds : List Kind) → TellsAt h cut done at.policy to items kinds start [] at course → InstallsBy cut h.callers done at.policy start (first ++ items) (map (λ (r : Row). r.kind) to.rows ++ kinds) (all_installed course)
+module _ (cut : Bool) (h : Header) (at to : CallerProgress) (course : List Said) (start end : Alg) (fresh : IsFresh at)
+    (went : Went h at course to) (uncut : cut ≡ false → IsUncut course) (alone : h.callers ≡ 1 → Knows start course end) (first : List Item)
+    (is : at.left ≡ first ++ to.left) where
+  from-start : (done : Bool) (items : List Item) (kinds : List Kind) → TellsAt h cut done at.policy to items kinds start [] at course
+      → InstallsBy cut h.callers done at.policy start (first ++ items) (map (λ (r : Row). r.kind) to.rows ++ kinds) (all_installed course)
   from-start done items kinds t =
       let did : t.did ≡ first = append_cancel_right t.did first to.left (sym t.all ∙ is) in
       let told : map (λ (r : Row). r.kind) to.rows ≡ t.more = t.told ∙ ap (λ (rows : List Row). map (λ (r : Row). r.kind) rows ++ t.more) fresh.rows in
@@ -504,14 +604,34 @@ module _ (cut : Bool) (h : Header) (at to : CallerProgress) (course : List Said)
           (subst (λ k. InstallsBy cut h.callers done at.policy start (first ++ []) k (all_installed course)) (append-nil (map (λ (r : Row). r.kind) to.rows)) (from-start done [] [] t))
 
       by : (c : Option Alg) → to.chosen ≡ c → (done : Bool) × (to.chosen ≡ None → done ≡ true) × InstallsBy cut h.callers done at.policy start first (map (λ (r : Row). r.kind) to.rows) (all_installed course)
-      by None e = (true, (λ n. refl), whole true (all-told h cut true at.policy to [] [] (λ knows since n. (([], All-nil _, refl, ap at_most_one (sym e)), none-tried)) (λ n. inl refl) end course at start [] (fresh-noted h.callers start at fresh) went uncut alone))
-      by (Some alg) e = (false, (λ n. absurd (let x = sym e ∙ n in cc)), whole false (all-told h cut false at.policy to [] [] (λ knows since n. (([], All-nil _, refl, refl), none-tried)) (λ n. absurd (let x = sym e ∙ n in cc)) end course at start [] (fresh-noted h.callers start at fresh) went uncut alone))
+      by None e = (
+        true,
+        (λ n. refl),
+        whole true (all-told h cut true at.policy to [] [] (λ knows since n. (([], All-nil _, refl, ap at_most_one (sym e)), none-tried))
+            (λ n. inl refl) end course at start [] (fresh-noted h.callers start at fresh) went uncut alone),
+      )
+      by (Some alg) e = (
+        false,
+        (λ n. absurd (let x = sym e ∙ n in cc)),
+        whole false (all-told h cut false at.policy to [] [] (λ knows since n. (([], All-nil _, refl, refl), none-tried))
+            (λ n. absurd (let x = sym e ∙ n in cc)) end course at start [] (fresh-noted h.callers start at fresh) went uncut alone),
+      )
 
-  pub open-installs : to.phase ≡ Inside → (caller : ℕ) (ops : List Op) (kind : Kind) → InstallsBy cut h.callers false at.policy start (first ++ Tx caller ops ∷ []) (map (λ (r : Row). r.kind) to.rows ++ kind ∷ []) (all_installed course)
+  pub open-installs : to.phase ≡ Inside → (caller : ℕ) (ops : List Op) (kind : Kind)
+      → InstallsBy cut h.callers false at.policy start (first ++ Tx caller ops ∷ []) (map (λ (r : Row). r.kind) to.rows ++ kind ∷ [])
+      (all_installed course)
   open-installs inside caller ops kind =
       let tried : Tried = record { failed = []; alg = to.alg; kind = kind } in
       from-start false (Tx caller ops ∷ []) (kind ∷ []) (all-told h cut false at.policy to (Tx caller ops ∷ []) (kind ∷ [])
-      (λ knows since n. ((tried ∷ [], All-cons (IsTried cut h.callers) tried [] (record { failures = All-nil (IsFailure cut h.callers); once = omega arith }) (All-nil _), refl, ap (λ c. at_most_one c ++ []) (sym (n.ready inside).0)), fulls-none tried [] refl))
+      (λ knows since n. (
+        (
+          tried ∷ [],
+          All-cons (IsTried cut h.callers) tried [] (record { failures = All-nil (IsFailure cut h.callers); once = omega arith }) (All-nil _),
+          refl,
+          ap (λ c. at_most_one c ++ []) (sym (n.ready inside).0),
+        ),
+        fulls-none tried [] refl,
+      ))
       (λ n. inr (λ z. absurd cc)) end course at start [] (fresh-noted h.callers start at fresh) went uncut alone)
 
 pub courses-install : CoursesInstall

@@ -1,4 +1,5 @@
--- WHICH INSTALLS ARE A CALLER'S: the switches of its items, and after a transaction the switch that its policy asks for. With one caller alone these are determined but for one thing: whether a transaction's first attempt met a log that was too short.
+-- WHICH INSTALLS ARE A CALLER'S: the switches of its items, and after a transaction the switch that its policy asks for. With one caller
+-- alone these are determined but for one thing: whether a transaction's first attempt met a log that was too short.
 use Rattle.std.specs.Prelude.{ℕ, suc, ◌≡◌, ◌<◌, ◌≤◌, ◌⊎◌, ◌==◌, Bool, true, List, [], ◌∷◌, ◌++◌, map, All, Option, Some, None, if◌then◌else◌}
 use Rattle.stm_model.specs.declared.alg.Alg.{Alg}
 use Rattle.stm_profile.specs.declared.outcome.Outcome.{Outcome}
@@ -72,7 +73,9 @@ abbrev pub last_of : Alg → List Alg → Alg
 last_of knows [] = knows
 last_of knows (alg ∷ more) = last_of alg more
 
--- THE INSTALLS of one of so many callers that does these items, whose transactions were tried so. knows: the algorithm that was installed last; since: what its attempts came to since it last switched by its policy; due: the switch that its policy asks for, which comes before the next item; done: whether it is done where no item comes
+-- THE INSTALLS of one of so many callers that does these items, whose transactions were tried so. knows: the algorithm that was installed
+-- last; since: what its attempts came to since it last switched by its policy; due: the switch that its policy asks for, which comes before
+-- the next item; done: whether it is done where no item comes
 abbrev pub installs_by : ℕ → Bool → Policy → Alg → List Outcome → List Alg → List Item → List Tried → List Alg
 installs_by callers done policy knows since due [] tried = if done then due else []
 installs_by callers done policy knows since due (Switch caller alg ∷ items) tried = due ++ alg ∷ installs_by callers done policy alg since [] items tried

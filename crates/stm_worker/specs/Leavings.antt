@@ -66,7 +66,9 @@ module _ {K : Type 0} (good : List ℕ → Type 0) (stm : Stm K) where
     pub calm : v.phase ≡ Between → v.all.now ≡ items ++ v.items_left.now
     pub rows : List Row
     -- those that it had, or one more
-    pub behind : (v.all.now ≡ items ++ v.items_left.now) × (rows ≡ v.rows.items) ⊎ (v.phase ≡ Inside) × ((first : List Item) × (v.all.now ≡ first ++ v.items_left.now) × BeginsNext first v.items_left.now items) × ((row : Row) × (rows ≡ v.rows.items ++ row ∷ []))
+    pub behind : (v.all.now ≡ items ++ v.items_left.now) × (rows ≡ v.rows.items)
+        ⊎ (v.phase ≡ Inside) × ((first : List Item) × (v.all.now ≡ first ++ v.items_left.now) × BeginsNext first v.items_left.now items)
+        × ((row : Row) × (rows ≡ v.rows.items ++ row ∷ []))
     pub works : Works good stm.config.words v.regions.now items (caller_of v.desc.who.role) (known w.desc) rows
     pub whole : length rows ≡ length (scripts_of (caller_of v.desc.who.role) items)
 

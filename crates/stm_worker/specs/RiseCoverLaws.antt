@@ -93,7 +93,8 @@ module _ {K : Type 0} (good : List ℕ → Type 0) (stm : Stm K) (u : Worker K) 
   none-failed may t one none = ap (λ (p : CallerProgress). p.failed) t.now ∙ alone-failed good stm.config (caller_of u.desc.who.role) one said (place_of u) (known u.desc) (known w.desc) none t.told
 
   -- and so one that must be irrevocable follows only on one whose log was too short
-  pub turned-covers-alone : (each most : ℕ) → Turned good stm MaySay u said w → stm.config.callers ≡ 1 → u.failed ≡ 0 → 1 ≤ most → most + 3 ≤ each → Covers each most u → CoversAfter each most (clock_of said) w × (w.failed ≡ 0)
+  pub turned-covers-alone : (each most : ℕ) → Turned good stm MaySay u said w → stm.config.callers ≡ 1 → u.failed ≡ 0 → 1 ≤ most
+      → most + 3 ≤ each → Covers each most u → CoversAfter each most (clock_of said) w × (w.failed ≡ 0)
   turned-covers-alone each most t one none much wide covers = (
     after-turn good stm u said w s each most t (alone-covers-but good stm u said w s 0 each most t none much wide (omega (arith, covers))),
     none-failed MaySay t one none,
@@ -120,7 +121,8 @@ all-covers uncovered each most all (Switch caller alg ∷ items) failed must ris
 all-covers uncovered each most all (Reserve caller reads writes ∷ items) failed must risen counts few wide covers =
     let e : failed_rises most failed must ≡ 0 = (λ i. failed_rises most (counts.0 i) (counts.1 i)) in omega (arith, e, covers)
 
-pub covers-all : {K : Type 0} (uncovered each most : ℕ) (w : Worker K) → CountsNext w → (w.must ≡ false → w.failed ≤ most) → most ≤ each → CoversBut uncovered each most w → raised (known w.desc) ≤ each * length w.all.now + uncovered
+pub covers-all : {K : Type 0} (uncovered each most : ℕ) (w : Worker K) → CountsNext w → (w.must ≡ false → w.failed ≤ most) → most ≤ each
+    → CoversBut uncovered each most w → raised (known w.desc) ≤ each * length w.all.now + uncovered
 covers-all uncovered each most w counts few wide covers = all-covers uncovered each most (length w.all.now) w.items_left.now w.failed w.must (raised (known w.desc)) counts few wide (omega (arith, covers))
 
 -- while an item is left that is not all
@@ -132,7 +134,8 @@ some-left uncovered each most all (x ∷ items) failed must risen some few wide 
     let one = each-item each (x ∷ items) refl in
     omega (arith, m, one, covers)
 
-pub covers-left : {K : Type 0} (uncovered each most : ℕ) (w : Worker K) → 0 < length w.items_left.now → (w.must ≡ false → w.failed ≤ most) → most + 2 ≤ each → CoversBut uncovered each most w → raised (known w.desc) + 2 ≤ each * length w.all.now + uncovered
+pub covers-left : {K : Type 0} (uncovered each most : ℕ) (w : Worker K) → 0 < length w.items_left.now → (w.must ≡ false → w.failed ≤ most)
+    → most + 2 ≤ each → CoversBut uncovered each most w → raised (known w.desc) + 2 ≤ each * length w.all.now + uncovered
 covers-left uncovered each most w some few wide covers = some-left uncovered each most (length w.all.now) w.items_left.now w.failed w.must (raised (known w.desc)) some few wide (omega (arith, covers))
 
 -- the same, where the item covers an attempt that was dropped
@@ -141,7 +144,9 @@ done-covered w each most None h = omega (arith, h)
 done-covered w each most (Some clock) h = h
 
 module _ {K : Type 0} (good : List ℕ → Type 0) (stm : Stm K) (u : Worker K) (said : Said) (w : Worker K) (s : Sound good stm u) where
-  settled-there : (may : CallerProgress → Said → Type 0) (each most : ℕ) → Turned good stm may u said w → MaySay (place_of u) said → u.policy ≡ Fixed → AllowsOneMore most u → most + 3 ≤ each → CoversOnceDone each most u → CoversOnceDoneAfter each most (clock_of said) w
+  settled-there : (may : CallerProgress → Said → Type 0) (each most : ℕ) → Turned good stm may u said w → MaySay (place_of u) said
+      → u.policy ≡ Fixed → AllowsOneMore most u → most + 3 ≤ each → CoversOnceDone each most u
+      → CoversOnceDoneAfter each most (clock_of said) w
   settled-there may each most t says fixed few wide covers =
       done-covered w each most (clock_of said) (subst (λ n. CoversBut (dropped_of w.items_left.now + n) each most w) (same-uncovered (place_of u) said says)
       (subst (λ (at : CallerProgress). CoversBut (dropped_of at.left + uncovered_by said) each most w) (sym t.now)
@@ -156,7 +161,8 @@ winds : {K : Type 0} (w : Worker K) (each most : ℕ) (clock : Option ℕ) → C
 winds w each most None h = (omega (arith, h), λ e. omega (arith, h))
 winds w each most (Some clock) h = omega (arith, h)
 
-module _ {K : Type 0} (good : List ℕ → Type 0) (stm : Stm K) (u : Worker K) (s : Sound good stm u) (each most : ℕ) (few : AllowsOneMore most u) (wide : most + 3 ≤ each) (covers : CoversWinding each most u) (w : Worker K) where
+module _ {K : Type 0} (good : List ℕ → Type 0) (stm : Stm K) (u : Worker K) (s : Sound good stm u) (each most : ℕ)
+    (few : AllowsOneMore most u) (wide : most + 3 ≤ each) (covers : CoversWinding each most u) (w : Worker K) where
   goes-on : (said : Said) → Turned good stm MayWind u said w → u.phase ≡ Inside → MaySay (place_of u) said → CoversWindingAfter each most (clock_of said) w
   goes-on said t inside says =
       let now : Covers each most u = covers.1 inside in
@@ -222,7 +228,8 @@ module _ {K : Type 0} (good : List ℕ → Type 0) (stm : Stm K) (w : Worker K) 
   shut-owes out =
       let a = raised-out (known w.desc) out in
       let b = owed-out (known w.desc) out in
-      let h : raised (known w.desc) ≤ each * length w.all.now + uncovered = done-all uncovered each most (length w.all.now) w.items_left.now w.failed w.must (raised (known w.desc)) counts few (omega arith) (omega (arith, covers)) in
+      let h : raised (known w.desc) ≤ each * length w.all.now + uncovered = done-all uncovered each most (length w.all.now) w.items_left.now
+      w.failed w.must (raised (known w.desc)) counts few (omega arith) (omega (arith, covers)) in
       omega (arith, a, b, h)
 
   -- THE ITEMS PAY FOR ALL that their caller raised, and may still raise by what it has open

@@ -76,18 +76,11 @@ uncovered_at (Some clock) = 1
 
 abbrev pub uncovered_by : Said → ℕ
 uncovered_by (TryBegin b) = uncovered_at (clock_of (TryBegin b))
-uncovered_by (Reply op reply) = 0
 uncovered_by (Stopped op stop) = uncovered_at (clock_of (Stopped op stop))
-uncovered_by (TryCancel c) = 0
 uncovered_by (TryIrrevocable r) = uncovered_at (clock_of (TryIrrevocable r))
 uncovered_by (TryCommit c) = uncovered_at (clock_of (TryCommit c))
-uncovered_by (TryClose c) = 0
-uncovered_by (Looked l) = 0
-uncovered_by (Installed alg) = 0
-uncovered_by (Reserved reads writes) = 0
-uncovered_by Idle = 0
 uncovered_by Dropped = 1
-uncovered_by Reopened = 0
+uncovered_by said = 0
 
 -- the same of what a caller knows at a place, with so many items in all
 abbrev pub Covered : ℕ → ℕ → ℕ → ℕ → CallerState → CallerProgress → Type 0
@@ -106,21 +99,32 @@ CountsNext w = IsCountedFor w.items_left.now w.failed w.must
 module _ (K : Type 0) (good : List ℕ → Type 0) where
   -- A TURN PAYS for what it raised the clock by
   abbrev pub TurnsCover : Type 0
-  TurnsCover = (stm : Stm K) (u : Worker K) (said : Said) (w : Worker K) (each most : ℕ) → Sound good stm u → Turned good stm MaySay u said w → 17 ≤ most → most + 3 ≤ each → Covers each most u → CoversAfter each most (clock_of said) w
+  TurnsCover =
+      (stm : Stm K) (u : Worker K) (said : Said) (w : Worker K) (each most : ℕ) → Sound good stm u → Turned good stm MaySay u said w
+      → 17 ≤ most → most + 3 ≤ each → Covers each most u → CoversAfter each most (clock_of said) w
 
   -- with one caller no attempt is counted
   abbrev pub TurnsCoverAlone : Type 0
-  TurnsCoverAlone = (stm : Stm K) (u : Worker K) (said : Said) (w : Worker K) (each most : ℕ) → Sound good stm u → Turned good stm MaySay u said w → stm.config.callers ≡ 1 → u.failed ≡ 0 → 1 ≤ most → most + 3 ≤ each → Covers each most u
+  TurnsCoverAlone =
+      (stm : Stm K) (u : Worker K) (said : Said) (w : Worker K) (each most : ℕ) → Sound good stm u → Turned good stm MaySay u said w
+      → stm.config.callers ≡ 1 → u.failed ≡ 0 → 1 ≤ most → most + 3 ≤ each → Covers each most u
       → CoversAfter each most (clock_of said) w × (w.failed ≡ 0)
 
   -- after the schedule an attempt may be dropped, which its item covers later
   abbrev pub TurnsCoverWinding : Type 0
-  TurnsCoverWinding = (stm : Stm K) (u : Worker K) (said : Said) (w : Worker K) (each most : ℕ) → Sound good stm u → Turned good stm MayWind u said w → AllowsOneMore most u → most + 3 ≤ each → CoversWinding each most u → CoversWindingAfter each most (clock_of said) w
+  TurnsCoverWinding =
+      (stm : Stm K) (u : Worker K) (said : Said) (w : Worker K) (each most : ℕ) → Sound good stm u → Turned good stm MayWind u said w
+      → AllowsOneMore most u → most + 3 ≤ each → CoversWinding each most u → CoversWindingAfter each most (clock_of said) w
 
   -- and with no switch besides those of the text, for what was dropped too
   abbrev pub TurnsCoverFinishing : Type 0
-  TurnsCoverFinishing = (stm : Stm K) (u : Worker K) (said : Said) (w : Worker K) (each most : ℕ) → Sound good stm u → Turned good stm MayFinish u said w → u.policy ≡ Fixed → AllowsOneMore most u → most + 3 ≤ each → CoversOnceDone each most u → CoversOnceDoneAfter each most (clock_of said) w
+  TurnsCoverFinishing =
+      (stm : Stm K) (u : Worker K) (said : Said) (w : Worker K) (each most : ℕ) → Sound good stm u → Turned good stm MayFinish u said w
+      → u.policy ≡ Fixed → AllowsOneMore most u → most + 3 ≤ each → CoversOnceDone each most u
+      → CoversOnceDoneAfter each most (clock_of said) w
 
   -- THE ITEMS PAY FOR ALL that their caller raised, and may still raise by what it has open
   abbrev pub ItemsCover : Type 0
-  ItemsCover = (stm : Stm K) (w : Worker K) (uncovered each most : ℕ) → Sound good stm w → CountsNext w → AllowsOneMore most w → most + 3 ≤ each → CoversBut (dropped_of w.items_left.now + uncovered) each most w → owed (known w.desc) ≤ each * length w.all.now + uncovered
+  ItemsCover =
+      (stm : Stm K) (w : Worker K) (uncovered each most : ℕ) → Sound good stm w → CountsNext w → AllowsOneMore most w → most + 3 ≤ each
+      → CoversBut (dropped_of w.items_left.now + uncovered) each most w → owed (known w.desc) ≤ each * length w.all.now + uncovered

@@ -41,7 +41,26 @@ use Rattle.stm_worker.specs.Courses.{IsUncut, Knows, Went, all_installed, instal
 use Rattle.stm_worker.specs.Tellings.{Tells}
 
 abbrev pub place_of : {K : Type 0} → Worker K → CallerProgress
-place_of w = record { caller = caller_of w.desc.who.role; left = w.items_left.now; failed = w.failed; must = w.must; phase = w.phase; alg = w.alg; rest = w.operations_left.now; replies = w.out.replies; emits = w.out.emits; wrote = w.wrote; granted = w.granted; rows = w.rows.items; policy = w.policy; profile = w.profile; chosen = w.chosen; reads_limit = (known w.desc).reads_limit; writes_limit = (known w.desc).writes_limit }
+place_of w =
+    record {
+      caller = caller_of w.desc.who.role;
+      left = w.items_left.now;
+      failed = w.failed;
+      must = w.must;
+      phase = w.phase;
+      alg = w.alg;
+      rest = w.operations_left.now;
+      replies = w.out.replies;
+      emits = w.out.emits;
+      wrote = w.wrote;
+      granted = w.granted;
+      rows = w.rows.items;
+      policy = w.policy;
+      profile = w.profile;
+      chosen = w.chosen;
+      reads_limit = (known w.desc).reads_limit;
+      writes_limit = (known w.desc).writes_limit;
+    }
 
 -- the descriptor of caller n is idle, in an attempt, or holds the gate
 abbrev pub IsAt : (List ℕ → Type 0) → Config → ℕ → Phase → CallerState → Type 0
@@ -147,7 +166,26 @@ pub record IsSame {K : Type 0} (cut : Bool) (v w : Worker K) : Type 0 where
 pub record IsFreshWorker {K : Type 0} (desc : Handle K) (items : List Item) (regions : List Region) (alg : Alg) (policy : Policy) (w : Worker K) : Type 0 where
   pub is_desc : w.desc ≡ desc
   pub all : w.all.now ≡ items
-  pub at : place_of w ≡ record { caller = caller_of desc.who.role; left = items; failed = 0; must = false; phase = Between; alg = alg; rest = []; replies = []; emits = []; wrote = false; granted = false; rows = []; policy = policy; profile = no_profile; chosen = None; reads_limit = (known desc).reads_limit; writes_limit = (known desc).writes_limit }
+  pub at : place_of w
+      ≡ record {
+        caller = caller_of desc.who.role;
+        left = items;
+        failed = 0;
+        must = false;
+        phase = Between;
+        alg = alg;
+        rest = [];
+        replies = [];
+        emits = [];
+        wrote = false;
+        granted = false;
+        rows = [];
+        policy = policy;
+        profile = no_profile;
+        chosen = None;
+        reads_limit = (known desc).reads_limit;
+        writes_limit = (known desc).writes_limit;
+      }
   pub over : w.regions.now ≡ regions
   pub roomy : Roomy w
 

@@ -21,7 +21,8 @@ use tx_answers::answers::Cancel;
 /// open.
 pub fn give_up<K: MemRule>(stm: &Stm<K>, w: &mut Worker<K>) -> Option<Said>
     requires { Sound (K.good stm.now.rule) stm.now w.old }
-    ensures { MatchOption result (NothingToGiveUp (K.good stm.now.rule) stm.now w.old w.new) (λ said. GaveUp (K.good stm.now.rule) stm.now w.old said w.new) }
+    ensures { MatchOption result (NothingToGiveUp (K.good stm.now.rule) stm.now w.old w.new)
+        (λ said. GaveUp (K.good stm.now.rule) stm.now w.old said w.new) }
 {
     match w.phase {
         Phase::Between => None,
@@ -59,11 +60,13 @@ pub fn make_idle<K: MemRule>(stm: &Stm<K>, w: &mut Worker<K>)
 fn end_attempt<K: MemRule>(stm: &Stm<K>, desc: &mut Desc<K>)
     requires own { IsOf desc.old stm.now }
     requires runs { (known desc.old).running ≡ true }
-    requires keeps { KeepsRule (K.good stm.now.rule) stm.now.config (caller_of desc.old.who.role) (known desc.old) }
+    requires keeps { KeepsRule (K.good stm.now.rule) stm.now.config (caller_of desc.old.who.role)
+        (known desc.old) }
     ensures same { IsSameCaller desc.old desc.new }
     ensures idle { IsIdle (known desc.new) }
     ensures owes { (known desc.new).rises ≤ owed (known desc.old) }
-    ensures keeps { KeepsMade (K.good stm.now.rule) stm.now.config (caller_of desc.old.who.role) (known desc.old) (known desc.new) }
+    ensures keeps { KeepsMade (K.good stm.now.rule) stm.now.config (caller_of desc.old.who.role)
+        (known desc.old) (known desc.new) }
 {
     match cancel(desc, stm) {
         Cancel::Cancelled { time: _ } => {}
@@ -75,7 +78,8 @@ fn end_attempt<K: MemRule>(stm: &Stm<K>, desc: &mut Desc<K>)
 
 /// No attempt and no closing is open.
 pub fn has_nothing_open<K: MemRule>(w: &Worker<K>) -> bool
-    ensures { MatchBool result (HasNothingOpen (place_of w.now)) (HasNothingOpen (place_of w.now) → ⊥) }
+    ensures { MatchBool result (HasNothingOpen (place_of w.now))
+        (HasNothingOpen (place_of w.now) → ⊥) }
 {
     match w.phase {
         Phase::Between => true,

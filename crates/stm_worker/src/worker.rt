@@ -188,15 +188,25 @@ fn operate<K: MemRule>(
     requires runs { IsRunning (known desc.old) }
     requires unfenced { (known desc.old).fence ≡ 0 }
     requires fits { OpFits regions.now stm.now.config.words op }
-    requires well { Under (K.good stm.now.rule) stm.now.config.words (known desc.old).log (AllWellFormed regions.now) }
+    requires well { Under (K.good stm.now.rule) stm.now.config.words (known desc.old).log
+        (AllWellFormed regions.now) }
     requires room { HasRoom out.old 1 }
     ensures same { IsSameCaller desc.old desc.new }
-    ensures goes { OnOk result (Carries (known desc.old) (known desc.new) × IsRunning (known desc.new)) }
-    ensures stopped { IfErr result (λ stop. StoppedBy (K.good stm.now.rule) stm.now.config (caller_of desc.old.who.role) op stop (known desc.old) (known desc.new)) }
-    ensures gave { OnOk result (GaveOver (K.good stm.now.rule) stm.now.config.words (ran_one regions.now op) (known desc.old).log out.old (known desc.new).log out.new) }
-    ensures told { IfOk result (λ r. out.new ≡ record out.old { replies = out.old.replies ++ r ∷ []; emits = out.old.emits ++ emits_of op r }) }
+    ensures goes { OnOk result
+        (Carries (known desc.old) (known desc.new) × IsRunning (known desc.new)) }
+    ensures stopped { IfErr result (λ stop.
+        StoppedBy (K.good stm.now.rule) stm.now.config (caller_of desc.old.who.role) op stop
+        (known desc.old) (known desc.new)) }
+    ensures gave { OnOk result (GaveOver (K.good stm.now.rule) stm.now.config.words
+        (ran_one regions.now op) (known desc.old).log out.old (known desc.new).log out.new) }
+    ensures told { IfOk result (λ r.
+        out.new
+        ≡ record out.old
+        { replies = out.old.replies ++ r ∷ []; emits = out.old.emits ++ emits_of op r }) }
     ensures untold { IfErr result (λ stop. out.new ≡ out.old) }
-    ensures explained { OnOk result (IsExplained (K.good stm.now.rule) stm.now.config.words (known desc.old).log → IsExplained (K.good stm.now.rule) stm.now.config.words (known desc.new).log) }
+    ensures explained { OnOk result (IsExplained (K.good stm.now.rule) stm.now.config.words
+        (known desc.old).log
+        → IsExplained (K.good stm.now.rule) stm.now.config.words (known desc.new).log) }
     ensures kept { out.new.room ≡ out.old.room }
 {
     let mut live = Live {
@@ -259,7 +269,9 @@ impl<'a, K: MemRule> Worker<'a, K> {
         turnstile: &G,
     ) -> Result<Said, Memory>
         requires sound { Sound (K.good stm.now.rule) stm.now self.old }
-        ensures turned { MatchResult result (λ said. Turned (K.good stm.now.rule) stm.now MaySay self.old said self.new) (λ _. Starved (K.good stm.now.rule) stm.now self.old self.new) }
+        ensures turned { MatchResult result
+            (λ said. Turned (K.good stm.now.rule) stm.now MaySay self.old said self.new) (λ _.
+            Starved (K.good stm.now.rule) stm.now self.old self.new) }
     {
         let Some((op, later)) = self.next_operation() else {
             return self.other_call(alloc, stm, turnstile);
@@ -276,8 +288,11 @@ impl<'a, K: MemRule> Worker<'a, K> {
     #[inline(always)]
     fn next_operation(&self) -> Option<(Op, &'a [Op])>
         requires running { self.now.phase ≡ Phase.Inside → (known self.now.desc).running ≡ true }
-        requires told { self.now.phase ≡ Phase.Inside → irrevocable (place_of self.now) ≡ is_irrevocable (known self.now.desc) }
-        ensures { MatchOption result (OnlyCalls (place_of self.now)) (λ next. Comes next.0 (place_of self.now) × (is_call next.0 ≡ false) × (next.1.now ≡ rest_of self.now.operations_left.now)) }
+        requires told { self.now.phase ≡ Phase.Inside
+            → irrevocable (place_of self.now) ≡ is_irrevocable (known self.now.desc) }
+        ensures { MatchOption result (OnlyCalls (place_of self.now)) (λ next.
+            Comes next.0 (place_of self.now) × (is_call next.0 ≡ false)
+            × (next.1.now ≡ rest_of self.now.operations_left.now)) }
     {
         match self.phase {
             Phase::Inside => {}
@@ -305,7 +320,9 @@ impl<'a, K: MemRule> Worker<'a, K> {
     ) -> Result<Said, Memory>
         requires sound { Sound (K.good stm.now.rule) stm.now self.old }
         requires call { OnlyCalls (place_of self.old) }
-        ensures turned { MatchResult result (λ said. Turned (K.good stm.now.rule) stm.now MaySay self.old said self.new) (λ _. Starved (K.good stm.now.rule) stm.now self.old self.new) }
+        ensures turned { MatchResult result
+            (λ said. Turned (K.good stm.now.rule) stm.now MaySay self.old said self.new) (λ _.
+            Starved (K.good stm.now.rule) stm.now self.old self.new) }
     {
         self.call(alloc, stm, turnstile)
     }
@@ -320,7 +337,9 @@ impl<'a, K: MemRule> Worker<'a, K> {
     ) -> Result<Said, Memory>
         requires sound { Sound (K.good stm.now.rule) stm.now self.old }
         requires call { OnlyCalls (place_of self.old) }
-        ensures turned { MatchResult result (λ said. Turned (K.good stm.now.rule) stm.now MaySay self.old said self.new) (λ _. Starved (K.good stm.now.rule) stm.now self.old self.new) }
+        ensures turned { MatchResult result
+            (λ said. Turned (K.good stm.now.rule) stm.now MaySay self.old said self.new) (λ _.
+            Starved (K.good stm.now.rule) stm.now self.old self.new) }
     {
         match self.phase {
             Phase::Between => match self.chosen {
@@ -342,7 +361,9 @@ impl<'a, K: MemRule> Worker<'a, K> {
         requires sound { Sound (K.good stm.now.rule) stm.now self.old }
         requires between { self.old.phase ≡ Phase.Between }
         requires unasked { self.old.chosen ≡ None }
-        ensures turned { MatchResult result (λ said. Turned (K.good stm.now.rule) stm.now MaySay self.old said self.new) (λ _. Starved (K.good stm.now.rule) stm.now self.old self.new) }
+        ensures turned { MatchResult result
+            (λ said. Turned (K.good stm.now.rule) stm.now MaySay self.old said self.new) (λ _.
+            Starved (K.good stm.now.rule) stm.now self.old self.new) }
     {
         let items = self.items_left;
         match items.first() {
@@ -377,7 +398,9 @@ impl<'a, K: MemRule> Worker<'a, K> {
         requires between { self.old.phase ≡ Phase.Between }
         requires unasked { self.old.chosen ≡ None }
         requires here { Lengthens reads writes self.old.items_left.now }
-        ensures turned { MatchResult result (λ _. Turned (K.good _stm.now.rule) _stm.now MaySay self.old (Said.Reserved reads writes) self.new) (λ _. Starved (K.good _stm.now.rule) _stm.now self.old self.new) }
+        ensures turned { MatchResult result (λ _.
+            Turned (K.good _stm.now.rule) _stm.now MaySay self.old (Said.Reserved reads writes)
+            self.new) (λ _. Starved (K.good _stm.now.rule) _stm.now self.old self.new) }
     {
         reserve(alloc, &mut self.desc, reads, writes)?;
         self.items_left = tail(self.items_left);
@@ -419,7 +442,8 @@ impl<'a, K: MemRule> Worker<'a, K> {
         requires here { BeforeTx self.old.items_left.now }
         requires unasked { self.old.chosen ≡ None }
         requires script { script.now ≡ script_at self.old.items_left.now }
-        ensures turned { Turned (K.good stm.now.rule) stm.now MaySay self.old (Said.TryBegin result) self.new }
+        ensures turned { Turned (K.good stm.now.rule) stm.now MaySay self.old (Said.TryBegin result)
+            self.new }
     {
         match try_begin(&mut self.desc, stm) {
             Begin::Begun(alg) => {
@@ -446,7 +470,10 @@ impl<'a, K: MemRule> Worker<'a, K> {
         requires comes { Comes op (place_of self.old) }
         requires plain { is_call op ≡ false }
         requires later { later.now ≡ rest_of self.old.operations_left.now }
-        ensures turned { MatchResult result (λ reply. Turned (K.good stm.now.rule) stm.now MaySay self.old (Said.Reply op reply) self.new) (λ stop. Turned (K.good stm.now.rule) stm.now MaySay self.old (Said.Stopped op stop) self.new) }
+        ensures turned { MatchResult result (λ reply.
+            Turned (K.good stm.now.rule) stm.now MaySay self.old (Said.Reply op reply) self.new)
+            (λ stop.
+            Turned (K.good stm.now.rule) stm.now MaySay self.old (Said.Stopped op stop) self.new) }
     {
         match operate(stm, &mut self.desc, self.regions, op, &mut self.out) {
             Ok(reply) => {
@@ -465,7 +492,8 @@ impl<'a, K: MemRule> Worker<'a, K> {
     fn cancel(&mut self, stm: &Stm<K>) -> Cancel
         requires sound { Sound (K.good stm.now.rule) stm.now self.old }
         requires comes { Comes Op.Cancel (place_of self.old) }
-        ensures turned { Turned (K.good stm.now.rule) stm.now MaySay self.old (Said.TryCancel result) self.new }
+        ensures turned { Turned (K.good stm.now.rule) stm.now MaySay self.old
+            (Said.TryCancel result) self.new }
     {
         match cancel(&mut self.desc, stm) {
             Cancel::Cancelled { time } => {
@@ -488,7 +516,8 @@ impl<'a, K: MemRule> Worker<'a, K> {
         requires inside { self.old.phase ≡ Phase.Inside }
         requires forced { forced ≡ is_forced (place_of self.old) }
         requires asked { forced ≡ false → Next Op.Irrev self.old.operations_left.now }
-        ensures turned { Turned (K.good stm.now.rule) stm.now MaySay self.old (Said.TryIrrevocable result) self.new }
+        ensures turned { Turned (K.good stm.now.rule) stm.now MaySay self.old
+            (Said.TryIrrevocable result) self.new }
     {
         match try_irrevocable(&mut self.desc, stm) {
             Irrev::Granted => {
@@ -515,7 +544,8 @@ impl<'a, K: MemRule> Worker<'a, K> {
     /// The open attempt is irrevocable now: where `irrev` asked for it, that operation is done.
     fn take_grant(&mut self, forced: bool)
         requires { forced ≡ false → HasRoom self.old.out 1 }
-        ensures { MatchBool forced (self.new ≡ record self.old { granted = true }) (DoneIrrev self.old self.new) }
+        ensures { MatchBool forced (self.new ≡ record self.old { granted = true })
+            (DoneIrrev self.old self.new) }
     {
         if forced {
             self.granted = true;
@@ -532,7 +562,8 @@ impl<'a, K: MemRule> Worker<'a, K> {
         requires inside { self.old.phase ≡ Phase.Inside }
         requires unforced { is_forced (place_of self.old) ≡ false }
         requires over { self.old.operations_left.now ≡ [] }
-        ensures turned { Turned (K.good stm.now.rule) stm.now MaySay self.old (Said.TryCommit result) self.new }
+        ensures turned { Turned (K.good stm.now.rule) stm.now MaySay self.old
+            (Said.TryCommit result) self.new }
     {
         self.pass(turnstile);
         self.passed = true;
@@ -569,7 +600,8 @@ impl<'a, K: MemRule> Worker<'a, K> {
         requires sound { Sound (K.good stm.now.rule) stm.now self.old }
         requires between { self.old.phase ≡ Phase.Between }
         requires here { MustSwitch self.old.chosen self.old.items_left.now }
-        ensures turned { Turned (K.good stm.now.rule) stm.now MaySay self.old (Said.TryClose result) self.new }
+        ensures turned { Turned (K.good stm.now.rule) stm.now MaySay self.old (Said.TryClose result)
+            self.new }
     {
         match close_gate(&mut self.desc, stm) {
             CloseGate::Closed => {
@@ -584,7 +616,8 @@ impl<'a, K: MemRule> Worker<'a, K> {
     fn look(&mut self, stm: &Stm<K>) -> Look
         requires sound { Sound (K.good stm.now.rule) stm.now self.old }
         requires closing { self.old.phase ≡ Phase.Closing }
-        ensures turned { Turned (K.good stm.now.rule) stm.now MaySay self.old (Said.Looked result) self.new }
+        ensures turned { Turned (K.good stm.now.rule) stm.now MaySay self.old (Said.Looked result)
+            self.new }
     {
         match look(&mut self.desc, stm) {
             Look::Quiet => {
@@ -601,7 +634,8 @@ impl<'a, K: MemRule> Worker<'a, K> {
         requires sound { Sound (K.good stm.now.rule) stm.now self.old }
         requires quiet { self.old.phase ≡ Phase.Quiet }
         requires to { MustSwitchTo alg self.old.chosen self.old.items_left.now }
-        ensures turned { Turned (K.good stm.now.rule) stm.now MaySay self.old (Said.Installed alg) self.new }
+        ensures turned { Turned (K.good stm.now.rule) stm.now MaySay self.old (Said.Installed alg)
+            self.new }
     {
         install(&mut self.desc, stm, alg);
         reopen(&mut self.desc, stm);
@@ -724,7 +758,9 @@ impl<'a, K: MemRule> Worker<'a, K> {
     pub(crate) fn drop_attempt(&mut self, stm: &Stm<K>) -> bool
         requires sound { Sound (K.good stm.now.rule) stm.now self.old }
         requires inside { self.old.phase ≡ Phase.Inside }
-        ensures { MatchBool result (Turned (K.good stm.now.rule) stm.now MayWind self.old Said.Dropped self.new) (Refused (K.good stm.now.rule) stm.now self.old self.new) }
+        ensures { MatchBool result
+            (Turned (K.good stm.now.rule) stm.now MayWind self.old Said.Dropped self.new)
+            (Refused (K.good stm.now.rule) stm.now self.old self.new) }
     {
         match cancel(&mut self.desc, stm) {
             Cancel::Cancelled { time: _ } => {
@@ -739,7 +775,8 @@ impl<'a, K: MemRule> Worker<'a, K> {
     pub(crate) fn open_again(&mut self, stm: &Stm<K>)
         requires sound { Sound (K.good stm.now.rule) stm.now self.old }
         requires closing { (self.old.phase ≡ Phase.Closing) ⊎ (self.old.phase ≡ Phase.Quiet) }
-        ensures turned { Turned (K.good stm.now.rule) stm.now MayWind self.old Said.Reopened self.new }
+        ensures turned { Turned (K.good stm.now.rule) stm.now MayWind self.old Said.Reopened
+            self.new }
     {
         reopen(&mut self.desc, stm);
         self.phase = Phase::Between;

@@ -18,7 +18,8 @@ fn put_agrees<A: Access>(acc: &mut A, queue: &Queue, value: u32, room: bool) -> 
     requires well { Under (A.good acc.old) (A.words acc.old) (A.log acc.old) (IsQueue queue.now) }
     ensures going { OnOk result (A.stopped acc.new ≡ None) }
     ensures words { OnOk result (A.words acc.new ≡ A.words acc.old) }
-    ensures well { OnOk result (Under (A.good acc.new) (A.words acc.new) (A.log acc.new) (IsQueue queue.now)) }
+    ensures well { OnOk result
+        (Under (A.good acc.new) (A.words acc.new) (A.log acc.new) (IsQueue queue.now)) }
 {
     let reply = queue.put(acc, value)?;
     Ok((reply == Put::Added) == room)
@@ -31,7 +32,8 @@ fn get_agrees<A: Access>(acc: &mut A, queue: &Queue, first: Option<u32>) -> Resu
     requires well { Under (A.good acc.old) (A.words acc.old) (A.log acc.old) (IsQueue queue.now) }
     ensures going { OnOk result (A.stopped acc.new ≡ None) }
     ensures words { OnOk result (A.words acc.new ≡ A.words acc.old) }
-    ensures well { OnOk result (Under (A.good acc.new) (A.words acc.new) (A.log acc.new) (IsQueue queue.now)) }
+    ensures well { OnOk result
+        (Under (A.good acc.new) (A.words acc.new) (A.log acc.new) (IsQueue queue.now)) }
 {
     Ok(queue.get(acc)? == first)
 }

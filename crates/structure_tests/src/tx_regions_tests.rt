@@ -27,7 +27,8 @@ use tx_tree::tree::Tree;
 /// A plain memory of zeros, in which each region is well-formed.
 fn zeros(alloc: Global, words: usize) -> Result<Plain, AllocError>
     ensures words { IfOk result (λ p. length p ≡ words) }
-    ensures good { IfOk result (λ p. (regions : List Region) → AllWellFormed regions (overlay (openings p) (own_writes p))) }
+    ensures good { IfOk result (λ p.
+        (regions : List Region) → AllWellFormed regions (overlay (openings p) (own_writes p))) }
 {
     let memory = shared::zeros(alloc, words)?;
     memories_stay_good();
@@ -54,7 +55,8 @@ fn adds_twice<A: Access>(
 ) -> Result<(Insert, Insert, bool, u64), Stop>
     requires going { A.stopped acc.old ≡ None }
     requires within { ChainsFit (list_of keys.now) (A.words acc.old) }
-    requires well { Under (A.good acc.old) (A.words acc.old) (A.log acc.old) (IsChains (list_of keys.now)) }
+    requires well { Under (A.good acc.old) (A.words acc.old) (A.log acc.old)
+        (IsChains (list_of keys.now)) }
 {
     let first = keys.insert(acc, key)?;
     let again = keys.insert(acc, key)?;
@@ -71,7 +73,8 @@ fn adds_three<A: Access>(
 ) -> Result<(Insert, Insert, Insert, bool), Stop>
     requires going { A.stopped acc.old ≡ None }
     requires within { ChainsFit (list_of keys.now) (A.words acc.old) }
-    requires well { Under (A.good acc.old) (A.words acc.old) (A.log acc.old) (IsChains (list_of keys.now)) }
+    requires well { Under (A.good acc.old) (A.words acc.old) (A.log acc.old)
+        (IsChains (list_of keys.now)) }
 {
     let first = keys.insert(acc, three[0])?;
     let second = keys.insert(acc, three[1])?;
@@ -88,7 +91,8 @@ fn hashes<A: Access>(
 ) -> Result<(Insert, Insert, bool, bool), Stop>
     requires going { A.stopped acc.old ≡ None }
     requires within { ChainsFit (hash_of hash.now) (A.words acc.old) }
-    requires well { Under (A.good acc.old) (A.words acc.old) (A.log acc.old) (IsChains (hash_of hash.now)) }
+    requires well { Under (A.good acc.old) (A.words acc.old) (A.log acc.old)
+        (IsChains (hash_of hash.now)) }
 {
     let first = hash.insert(acc, keys[0])?;
     let second = hash.insert(acc, keys[1])?;

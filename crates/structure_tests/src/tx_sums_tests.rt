@@ -36,7 +36,8 @@ fn put_agrees<A: Access>(
     requires key { (key < length values.old) × (length values.old < 2 ^ 32) }
     ensures going { OnOk result (A.stopped acc.new ≡ None) }
     ensures words { OnOk result (A.words acc.new ≡ A.words acc.old) }
-    ensures well { OnOk result (Under (A.good acc.new) (A.words acc.new) (A.log acc.new) (IsSumMap map.now)) }
+    ensures well { OnOk result
+        (Under (A.good acc.new) (A.words acc.new) (A.log acc.new) (IsSumMap map.now)) }
     ensures values { length values.new ≡ length values.old }
 {
     let used = values.iter().filter(|value| value.is_some()).count();
@@ -67,7 +68,8 @@ fn remove_agrees<A: Access>(
     requires key { (key < length values.old) × (length values.old < 2 ^ 32) }
     ensures going { OnOk result (A.stopped acc.new ≡ None) }
     ensures words { OnOk result (A.words acc.new ≡ A.words acc.old) }
-    ensures well { OnOk result (Under (A.good acc.new) (A.words acc.new) (A.log acc.new) (IsSumMap map.now)) }
+    ensures well { OnOk result
+        (Under (A.good acc.new) (A.words acc.new) (A.log acc.new) (IsSumMap map.now)) }
     ensures values { length values.new ≡ length values.old }
 {
     let expected = values[key].is_some();
@@ -84,7 +86,8 @@ fn replies_agree<A: Access>(acc: &mut A, map: &SumMap, values: &[Option<u64>]) -
     requires few { (0 < length values.now) × (length values.now < 2 ^ 16) }
     ensures going { OnOk result (A.stopped acc.new ≡ None) }
     ensures words { OnOk result (A.words acc.new ≡ A.words acc.old) }
-    ensures well { OnOk result (Under (A.good acc.new) (A.words acc.new) (A.log acc.new) (IsSumMap map.now)) }
+    ensures well { OnOk result
+        (Under (A.good acc.new) (A.words acc.new) (A.log acc.new) (IsSumMap map.now)) }
 {
     let keys = values.len();
     for pair in 0..keys * keys {

@@ -63,7 +63,8 @@ fn wish(round: usize) -> Wish
 fn run<R: Threads + Wait + Sync>(rt: &R, alloc: Global) -> Result<ClosedMemory<usize>, NewError>
     ensures fair { IfOk result (λ came. IsFair LIMITER came.words.items) }
     ensures count { IfOk result (λ came. length came.words.items ≡ 33) }
-    ensures installs { IfOk result (λ came. slice_index_or came.closed.installs 0 [] ≡ OrecLazy ∷ Tml ∷ []) }
+    ensures installs { IfOk result (λ came.
+        slice_index_or came.closed.installs 0 [] ≡ OrecLazy ∷ Tml ∷ []) }
 {
     with_memory(rt, alloc, sizes(33, 4), Alg::OrecLazy, LIMITER, &Serve)
 }

@@ -42,7 +42,8 @@ pub record Carries (v w : CallerState) : Type 0 where
   -- an irrevocable attempt goes on, and stays so
   pub irrevocable : v.running ≡ true → is_irrevocable v ≡ true → (w.running ≡ true) × (is_irrevocable w ≡ true)
 
-pub grows-same : (v w : CallerState) → w.seen ≡ v.seen → w.front ≡ v.front → (more : List TracedStep) → w.step_trace ≡ more ++ v.step_trace → w.reads_limit ≡ v.reads_limit → w.writes_limit ≡ v.writes_limit → w.fenced ≡ v.fenced → Grows v w
+pub grows-same : (v w : CallerState) → w.seen ≡ v.seen → w.front ≡ v.front → (more : List TracedStep) → w.step_trace ≡ more ++ v.step_trace
+    → w.reads_limit ≡ v.reads_limit → w.writes_limit ≡ v.writes_limit → w.fenced ≡ v.fenced → Grows v w
 grows-same v w s f more t r l e = record { later = []; is = s ∙ sym (append-nil v.seen); ascending = tt; up_to = tt; front_rose = omega arith; more = more; step_trace = t; reads_limit = r; writes_limit = l; fenced = e }
 
 pub ascending-append : (a b : ℕ) (xs ys : List Entry) → Ascending a xs → Within b xs → a ≤ b → Ascending b ys → Ascending a (xs ++ ys)
@@ -71,7 +72,20 @@ grows-trans u v w a b =
     }
 
 pub carries-refl : (v : CallerState) → Carries v v
-carries-refl v = record { made = refl; grows = grows-same v v refl refl [] refl refl refl refl; closing = refl; alg = refl; installs = refl; base = refl; owes = omega arith; going = λ r. record { running = r; start = le_refl v.start; granted = refl; holds = refl; depth = refl; marks = refl; unrolled = λ u. u; fence = refl }; irrevocable = λ r i. (r, i) }
+carries-refl v =
+    record {
+      made = refl;
+      grows = grows-same v v refl refl [] refl refl refl refl;
+      closing = refl;
+      alg = refl;
+      installs = refl;
+      base = refl;
+      owes = omega arith;
+      going = λ r.
+          record
+          { running = r; start = le_refl v.start; granted = refl; holds = refl; depth = refl; marks = refl; unrolled = λ u. u; fence = refl };
+      irrevocable = λ r i. (r, i);
+    }
 
 pub carries-trans : (u v w : CallerState) → Carries u v → Carries v w → Carries u w
 carries-trans u v w a b = record {
@@ -82,7 +96,20 @@ carries-trans u v w a b = record {
   installs = b.installs ∙ a.installs;
   base = b.base ∙ a.base;
   owes = (let x = a.owes in let y = b.owes in omega arith);
-  going = λ r. let y = b.going r in let x = a.going y.running in record { running = x.running; start = (let m = x.start in let n = y.start in omega arith); granted = y.granted ∙ x.granted; holds = y.holds ∙ x.holds; depth = y.depth ∙ x.depth; marks = y.marks ∙ x.marks; unrolled = λ u. y.unrolled (x.unrolled u); fence = y.fence ∙ x.fence };
+  going =
+      λ r.
+      let y = b.going r in
+      let x = a.going y.running in
+      record {
+        running = x.running;
+        start = (let m = x.start in let n = y.start in omega arith);
+        granted = y.granted ∙ x.granted;
+        holds = y.holds ∙ x.holds;
+        depth = y.depth ∙ x.depth;
+        marks = y.marks ∙ x.marks;
+        unrolled = λ u. y.unrolled (x.unrolled u);
+        fence = y.fence ∙ x.fence;
+      };
   irrevocable = λ r i. let m = a.irrevocable r i in b.irrevocable m.0 m.1;
 }
 
@@ -104,7 +131,8 @@ writes-some l k a x w =
 irrevocable-along : (v w : CallerState) (some : Bool) → w.alg ≡ v.alg → w.granted ≡ v.granted → wrote w ≡ some → irrevocable_under v.alg v.granted some ≡ true → is_irrevocable w ≡ true
 irrevocable-along v w some alg granted is h = (λ i. irrevocable_under (alg i) (granted i) (is i)) ∙ h
 
-carries-goes : {c : Config} {asked : Asked} → (v w : CallerState) → v.running ≡ true → v.closing ≡ false → GoesOn c asked v w → (IsUnrolled v → IsUnrolled w) → (is_irrevocable v ≡ true → is_irrevocable w ≡ true) → Carries v w
+carries-goes : {c : Config} {asked : Asked} → (v w : CallerState) → v.running ≡ true → v.closing ≡ false → GoesOn c asked v w
+    → (IsUnrolled v → IsUnrolled w) → (is_irrevocable v ≡ true → is_irrevocable w ≡ true) → Carries v w
 carries-goes v w running closing g unrolled irrevocable = let k = g.continues in record {
   made = k.made;
   grows = k.grows;
@@ -121,7 +149,11 @@ carries-goes v w running closing g unrolled irrevocable = let k = g.continues in
     owed-goes v w now before b = grind (arith, now, before, b)
 
 pub carries-wrote : {c : Config} {asked : Asked} → (v w : CallerState) (a x : ℕ) → v.running ≡ true → v.closing ≡ false → GoesOn c asked v w → Writes v.log a x w.log → Carries v w
-carries-wrote v w a x running closing g writes = carries-goes v w running closing g (λ u none. absurd (let some = writes-some v.log w.log a x writes in let no : true ≡ false = sym some ∙ none in cc)) (λ h. irrevocable-along v w true g.continues.alg g.granted (writes-some v.log w.log a x writes) (irrevocable-writer v.alg v.granted (wrote v) h))
+carries-wrote v w a x running closing g writes =
+    carries-goes v w running closing g
+    (λ u none. absurd (let some = writes-some v.log w.log a x writes in let no : true ≡ false = sym some ∙ none in cc)) (λ h.
+    irrevocable-along v w true g.continues.alg g.granted (writes-some v.log w.log a x writes)
+    (irrevocable-writer v.alg v.granted (wrote v) h))
 
 pub carries-quits : (v w : CallerState) → v.running ≡ true → v.closing ≡ false → Quits v w → Carries v w
 carries-quits v w running closing q = record {

@@ -26,12 +26,33 @@ pub same-number : {K : Type 0} (d e : Handle K) → IsSameCaller d e → number 
 same-number {K} d e same = ap (λ (w : Who K). caller_of w.role) same.who
 
 -- a commit that was done took effect
-pub took-by : (good : List ℕ → Type 0) (c : Config) (n : ℕ) (tells : Log → Type 0) (answer : Commit) (from : ℕ) (u v w : CallerState) → tells v.log → v.made ≡ u.made → Grows u v → from ≤ v.start → Commits good c n answer v w → ((t : ℕ) × (answer ≡ Committed t)) ⊎ ((t : ℕ) × (answer ≡ ReadOnly t)) → TookEffect good c n tells from u w
-took-by good c n tells answer from u v w told made grows later commits (inl p) = record { before = v; told = told; made = made; grows = grows; later = later; time = p.0; commits = inl (subst (λ r. Commits good c n r v w) p.1 commits) }
-took-by good c n tells answer from u v w told made grows later commits (inr p) = record { before = v; told = told; made = made; grows = grows; later = later; time = p.0; commits = inr (subst (λ r. Commits good c n r v w) p.1 commits) }
+pub took-by : (good : List ℕ → Type 0) (c : Config) (n : ℕ) (tells : Log → Type 0) (answer : Commit) (from : ℕ) (u v w : CallerState)
+    → tells v.log → v.made ≡ u.made → Grows u v → from ≤ v.start → Commits good c n answer v w
+    → ((t : ℕ) × (answer ≡ Committed t)) ⊎ ((t : ℕ) × (answer ≡ ReadOnly t)) → TookEffect good c n tells from u w
+took-by good c n tells answer from u v w told made grows later commits (inl p) =
+    record {
+      before = v;
+      told = told;
+      made = made;
+      grows = grows;
+      later = later;
+      time = p.0;
+      commits = inl (subst (λ r. Commits good c n r v w) p.1 commits);
+    }
+took-by good c n tells answer from u v w told made grows later commits (inr p) =
+    record {
+      before = v;
+      told = told;
+      made = made;
+      grows = grows;
+      later = later;
+      time = p.0;
+      commits = inr (subst (λ r. Commits good c n r v w) p.1 commits);
+    }
 
 -- what took effect since v did so since u, from which v came without an entry
-pub took-since : (good : List ℕ → Type 0) (c : Config) (n : ℕ) (tells : Log → Type 0) (late early : ℕ) (u v w : CallerState) → v.made ≡ u.made → Grows u v → early ≤ late → TookEffect good c n tells late v w → TookEffect good c n tells early u w
+pub took-since : (good : List ℕ → Type 0) (c : Config) (n : ℕ) (tells : Log → Type 0) (late early : ℕ) (u v w : CallerState)
+    → v.made ≡ u.made → Grows u v → early ≤ late → TookEffect good c n tells late v w → TookEffect good c n tells early u w
 took-since good c n tells late early u v w made grows le t = record {
   before = t.before;
   told = t.told;

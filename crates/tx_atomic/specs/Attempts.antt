@@ -24,7 +24,8 @@ ended_by (stops.Conflict cause) = ends.Conflict cause
 ended_by (stops.Full limit) = ends.Full
 ended_by (stops.ClockFull clock) = ends.ClockFull
 
--- from u to w one attempt took effect, and its commit was the last call: what it had read and written is such a log, and no attempt before it left an entry; it knew all that u had seen, and its start is no earlier than this
+-- from u to w one attempt took effect, and its commit was the last call: what it had read and written is such a log, and no attempt before
+-- it left an entry; it knew all that u had seen, and its start is no earlier than this
 pub record TookEffect (good : List ℕ → Type 0) (c : Config) (n : ℕ) (tells : Log → Type 0) (from : ℕ) (u w : CallerState) : Type 0 where
   pub before : CallerState
   pub told : tells before.log

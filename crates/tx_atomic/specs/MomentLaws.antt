@@ -54,7 +54,9 @@ module _ (good : List ℕ → Type 0) (c : Config) (n : ℕ) (tells : Log → Ty
       let next : suc (time - 1) ≡ time = omega (arith, positive) in
       let held : memory_at (time - 1) history zero_words ≡ memory_at (time - 1) es zero_words = same-memory (time - 1) w.front es history zero_words begun past in
       let after : memory_at time history zero_words ≡ memory_at time es zero_words = same-memory time w.front es history zero_words begun front in
-      let step : memory_at time es zero_words ≡ overlay (memory_at (time - 1) es zero_words) v.log.writes = subst (λ (d : Entry). memory_at d.time es zero_words ≡ overlay (memory_at (d.time - 1) es zero_words) d.writes) here (memory_at-entry c.clock es zero_words k e h.legal.ascending lt) in
+      let step : memory_at time es zero_words ≡ overlay (memory_at (time - 1) es zero_words) v.log.writes = subst
+      (λ (d : Entry). memory_at d.time es zero_words ≡ overlay (memory_at (d.time - 1) es zero_words) d.writes) here
+      (memory_at-entry c.clock es zero_words k e h.legal.ascending lt) in
       let reads : Explains (memory_at (time - 1) es zero_words) v.log.reads = subst (λ (d : Entry). Explains (memory_at (d.time - 1) es zero_words) d.reads) here (h.legal.reads k e lt) in
       let some : is_empty v.log.writes ≡ false = not-empty (is_empty v.log.writes) h.wrote in
       let longer : length w.made ≡ length u.made + 1 = ap length h.made ∙ (length-append v.made (e ∷ []) ∙ ap (λ l. length l + 1) made) in

@@ -8,7 +8,8 @@ use Rattle.stm_rule.specs.Callers.{BeginsHistory}
 use Rattle.tx_answers.specs.CallerState.{CallerState, Grows, zeros}
 use Rattle.tx_atomic.specs.Attempts.{TookEffect}
 
--- between u and w, at one moment of the history, after all that u had seen: the memory was good and explains what the transaction read; what it wrote, if anything, makes it that of the next moment, and is the caller's one entry
+-- between u and w, at one moment of the history, after all that u had seen: the memory was good and explains what the transaction read;
+-- what it wrote, if anything, makes it that of the next moment, and is the caller's one entry
 pub record Happened (good : List ℕ → Type 0) (c : Config) (tells : Log → Type 0) (u w : CallerState) (history : List Entry) : Type 0 where
   pub log : Log
   pub told : tells log
@@ -22,4 +23,6 @@ pub record Happened (good : List ℕ → Type 0) (c : Config) (tells : Log → T
 
 -- each transaction that took effect from u to w has its moment in every history that begins with what was seen since
 abbrev pub HaveMoments : {A : Type 0} (good : List ℕ → Type 0) (tells : ℕ → A → Log → Type 0) → Type 0
-HaveMoments {A = A} good tells = (c : Config) (n : ℕ) (came : A) (u w k : CallerState) (history : List Entry) → TookEffect good c n (tells c.words came) u.front u w → Grows w k → BeginsHistory k.seen k.front history → Happened good c (tells c.words came) u w history
+HaveMoments {A = A} good tells =
+    (c : Config) (n : ℕ) (came : A) (u w k : CallerState) (history : List Entry) → TookEffect good c n (tells c.words came) u.front u w
+    → Grows w k → BeginsHistory k.seen k.front history → Happened good c (tells c.words came) u w history

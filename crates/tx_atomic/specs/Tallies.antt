@@ -36,7 +36,19 @@ noted_times (suc k) e t = noted e (noted_times k e t)
 
 -- the counts of both
 abbrev pub both : Tally → Tally → Tally
-both s t = record { commits = total s.commits t.commits; closed = total s.closed t.closed; held = total s.held t.held; fenced = total s.fenced t.fenced; conflicts = total s.conflicts t.conflicts; full = total s.full t.full; busy = total s.busy t.busy; taken = total s.taken t.taken; again = total s.again t.again; promotions = total s.promotions t.promotions }
+both s t =
+    record {
+      commits = total s.commits t.commits;
+      closed = total s.closed t.closed;
+      held = total s.held t.held;
+      fenced = total s.fenced t.fenced;
+      conflicts = total s.conflicts t.conflicts;
+      full = total s.full t.full;
+      busy = total s.busy t.busy;
+      taken = total s.taken t.taken;
+      again = total s.again t.again;
+      promotions = total s.promotions t.promotions;
+    }
 
 -- no commit was counted, or one was
 abbrev pub CommitsStay : Tally → Tally → Type 0
@@ -50,9 +62,5 @@ abbrev pub failed_next : ℕ → Ended → ℕ
 failed_next failed ends.Closed = failed
 failed_next failed ends.Held = failed
 failed_next failed ends.Fenced = failed
-failed_next failed (ends.Conflict cause) = min (failed + 1) (2 ^ 32 - 1)
 failed_next failed ends.Full = 16
-failed_next failed ends.Busy = min (failed + 1) (2 ^ 32 - 1)
-failed_next failed ends.Taken = min (failed + 1) (2 ^ 32 - 1)
-failed_next failed ends.Again = min (failed + 1) (2 ^ 32 - 1)
-failed_next failed ends.ClockFull = min (failed + 1) (2 ^ 32 - 1)
+failed_next failed e = min (failed + 1) (2 ^ 32 - 1)

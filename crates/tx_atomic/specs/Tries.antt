@@ -42,28 +42,16 @@ counted_all (x ∷ xs) t = counted x (counted_all xs t)
 
 -- a log had its length; another was in the way of an attempt that had begun
 abbrev pub ran_full : Option Ended → Bool
-ran_full None = false
-ran_full (Some ends.Closed) = false
-ran_full (Some ends.Held) = false
-ran_full (Some ends.Fenced) = false
-ran_full (Some (ends.Conflict cause)) = false
 ran_full (Some ends.Full) = true
-ran_full (Some ends.Busy) = false
-ran_full (Some ends.Taken) = false
-ran_full (Some ends.Again) = false
-ran_full (Some ends.ClockFull) = false
+ran_full e = false
 
 abbrev pub was_crossed : Option Ended → ℕ
-was_crossed None = 0
-was_crossed (Some ends.Closed) = 0
-was_crossed (Some ends.Held) = 0
-was_crossed (Some ends.Fenced) = 0
 was_crossed (Some (ends.Conflict cause)) = 1
-was_crossed (Some ends.Full) = 0
 was_crossed (Some ends.Busy) = 1
 was_crossed (Some ends.Taken) = 1
 was_crossed (Some ends.Again) = 1
 was_crossed (Some ends.ClockFull) = 1
+was_crossed e = 0
 
 abbrev pub any_full : List Try → Bool
 any_full [] = false
@@ -84,48 +72,28 @@ module _ (good : List ℕ → Type 0) (c : Config) (n : ℕ) where
   EndsBegin ends.Closed v w = (gate : ℕ) × Begins good c n (begins.Closed gate) v w
   EndsBegin ends.Held v w = (word : ℕ) × Begins good c n (begins.Held word) v w
   EndsBegin ends.Fenced v w = (begun : CallerState) × (alg : Alg) × Begins good c n (begins.Begun alg) v begun × (begun.fence ≢ 0) × Grows begun w
-  EndsBegin (ends.Conflict cause) v w = ⊥
-  EndsBegin ends.Full v w = ⊥
-  EndsBegin ends.Busy v w = ⊥
-  EndsBegin ends.Taken v w = ⊥
-  EndsBegin ends.Again v w = ⊥
   EndsBegin ends.ClockFull v w = (clock : ℕ) × Begins good c n (begins.ClockFull clock) v w
+  EndsBegin e v w = ⊥
 
   -- a call to be irrevocable was refused, and with it the attempt
   abbrev pub EndsPromotion : Ended → CallerState → CallerState → Type 0
-  EndsPromotion ends.Closed v w = ⊥
-  EndsPromotion ends.Held v w = ⊥
-  EndsPromotion ends.Fenced v w = ⊥
   EndsPromotion (ends.Conflict cause) v w = Irrevs good c n (grants.Conflict cause) v w
-  EndsPromotion ends.Full v w = ⊥
-  EndsPromotion ends.Busy v w = ⊥
   EndsPromotion ends.Taken v w = (asked : CallerState) × (gate : ℕ) × Irrevs good c n (grants.Taken gate) v asked × Grows asked w
-  EndsPromotion ends.Again v w = ⊥
   EndsPromotion ends.ClockFull v w = (clock : ℕ) × Irrevs good c n (grants.ClockFull clock) v w
+  EndsPromotion e v w = ⊥
 
   -- a read or a write was
   abbrev pub EndsAccess : Ended → CallerState → CallerState → Type 0
-  EndsAccess ends.Closed v w = ⊥
-  EndsAccess ends.Held v w = ⊥
-  EndsAccess ends.Fenced v w = ⊥
   EndsAccess (ends.Conflict cause) v w = (a : ℕ) × Stops good c n a (stops.Conflict cause) v w
   EndsAccess ends.Full v w = (a : ℕ) × (limit : ℕ) × Stops good c n a (stops.Full limit) v w
-  EndsAccess ends.Busy v w = ⊥
-  EndsAccess ends.Taken v w = ⊥
-  EndsAccess ends.Again v w = ⊥
   EndsAccess ends.ClockFull v w = (a : ℕ) × (clock : ℕ) × Stops good c n a (stops.ClockFull clock) v w
+  EndsAccess e v w = ⊥
 
   -- a commit was
   abbrev pub EndsCommit : Ended → CallerState → CallerState → Type 0
-  EndsCommit ends.Closed v w = ⊥
-  EndsCommit ends.Held v w = ⊥
-  EndsCommit ends.Fenced v w = ⊥
   EndsCommit (ends.Conflict cause) v w = Commits good c n (commits.Conflict cause) v w
-  EndsCommit ends.Full v w = ⊥
-  EndsCommit ends.Busy v w = ⊥
-  EndsCommit ends.Taken v w = ⊥
-  EndsCommit ends.Again v w = ⊥
   EndsCommit ends.ClockFull v w = (clock : ℕ) × Commits good c n (commits.ClockFull clock) v w
+  EndsCommit e v w = ⊥
 
   -- the last call of an attempt that ran: it committed, or it was refused
   abbrev pub EndsRun : Option Ended → CallerState → CallerState → Type 0

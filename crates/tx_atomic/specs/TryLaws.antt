@@ -43,7 +43,8 @@ some-same : {d e : Ended} → Some d ≡ Some e → d ≡ e
 some-same is = cc
 
 -- the count of those that another was in the way of says when the next one is due
-due-full : (s : ℕ) (any : Bool) (k : ℕ) → leb 16 s ≡ (any || leb 16 k) → ((any || leb 16 k) ≡ false → s ≡ k) → (leb 16 (min (s + 1) 4294967295) ≡ (any || leb 16 (1 + k))) × ((any || leb 16 (1 + k)) ≡ false → min (s + 1) 4294967295 ≡ 1 + k)
+due-full : (s : ℕ) (any : Bool) (k : ℕ) → leb 16 s ≡ (any || leb 16 k) → ((any || leb 16 k) ≡ false → s ≡ k)
+    → (leb 16 (min (s + 1) 4294967295) ≡ (any || leb 16 (1 + k))) × ((any || leb 16 (1 + k)) ≡ false → min (s + 1) 4294967295 ≡ 1 + k)
 due-full s true k due low = (grind (arith, nat_tests, due), λ less. absurd cc)
 due-full s false k due low = by (leb 16 k) refl
   where
@@ -103,7 +104,9 @@ module _ (good : List ℕ → Type 0) (c : Config) (n : ℕ) where
   failing-none v s = record { tries = []; were = refl; all = tt; counted = refl; due = refl; low = λ less. refl }
 
   -- one more, which failed
-  pub failing-more : (failed : ℕ) (irrevocable : Bool) (e : Ended) (u v w : CallerState) (r s t : Tally) → e ≢ ends.ClockFull → irrevocable ≡ leb 16 failed → Failing good c n failed u v r s → Tried good c n irrevocable (Some e) v w s t → Failing good c n (failed_next failed e) u w r (noted e t)
+  pub failing-more : (failed : ℕ) (irrevocable : Bool) (e : Ended) (u v w : CallerState) (r s t : Tally) → e ≢ ends.ClockFull
+      → irrevocable ≡ leb 16 failed → Failing good c n failed u v r s → Tried good c n irrevocable (Some e) v w s t
+      → Failing good c n (failed_next failed e) u w r (noted e t)
   failing-more failed irrevocable e u v w r s t apart is h x = record {
     tries = this ∷ h.tries;
     were = (v, h.were, x.was, is ∙ h.due);
@@ -119,7 +122,10 @@ module _ (good : List ℕ → Type 0) (c : Config) (n : ℕ) where
       same : (leb 16 failed ≡ (any_full h.tries || leb 16 (0 + crossed h.tries))) × ((any_full h.tries || leb 16 (0 + crossed h.tries)) ≡ false → failed ≡ 0 + crossed h.tries)
       same = let z : 0 + crossed h.tries ≡ crossed h.tries = omega arith in rw z (h.due, h.low)
 
-      next : (d : Ended) → (leb 16 (failed_next failed d) ≡ ((ran_full (Some d) || any_full h.tries) || leb 16 (was_crossed (Some d) + crossed h.tries))) × (((ran_full (Some d) || any_full h.tries) || leb 16 (was_crossed (Some d) + crossed h.tries)) ≡ false → failed_next failed d ≡ was_crossed (Some d) + crossed h.tries)
+      next : (d : Ended)
+          → (leb 16 (failed_next failed d) ≡ ((ran_full (Some d) || any_full h.tries) || leb 16 (was_crossed (Some d) + crossed h.tries)))
+          × (((ran_full (Some d) || any_full h.tries) || leb 16 (was_crossed (Some d) + crossed h.tries)) ≡ false
+          → failed_next failed d ≡ was_crossed (Some d) + crossed h.tries)
       next ends.Closed = same
       next ends.Held = same
       next ends.Fenced = same
@@ -131,7 +137,8 @@ module _ (good : List ℕ → Type 0) (c : Config) (n : ℕ) where
       next ends.ClockFull = due-full failed (any_full h.tries) (crossed h.tries) h.due h.low
 
   -- the last one
-  pub ran : (failed : ℕ) (irrevocable : Bool) (o : Option Ended) (u v w : CallerState) (r s t : Tally) → irrevocable ≡ leb 16 failed → Failing good c n failed u v r s → Tried good c n irrevocable o v w s t → Ran good c n o u w r (counted_end o t)
+  pub ran : (failed : ℕ) (irrevocable : Bool) (o : Option Ended) (u v w : CallerState) (r s t : Tally) → irrevocable ≡ leb 16 failed
+      → Failing good c n failed u v r s → Tried good c n irrevocable o v w s t → Ran good c n o u w r (counted_end o t)
   ran failed irrevocable o u v w r s t is h x = record {
     tries = this ∷ h.tries;
     were = (v, h.were, x.was, is ∙ h.due);
@@ -156,7 +163,14 @@ module _ (good : List ℕ → Type 0) (c : Config) (n : ℕ) where
 
   -- it was not made irrevocable
   pub tried-asked : (irrevocable : Bool) (e : Ended) (u v w : CallerState) (s t : Tally) → irrevocable ≡ true → HasBegun good c n u v → Asks good c n (Some e) v w s t → Tried good c n irrevocable (Some e) u w s t
-  tried-asked true e u v w s t is b a = record { busy = a.busy; again = 0; was = inr (inl (record { irrevocable = refl; begun = v; begins = b; asked = a.asked; busy = a.waits; again = refl; ended = e; is = refl; last = a.last })); counted = a.counted }
+  tried-asked true e u v w s t is b a =
+      record {
+        busy = a.busy;
+        again = 0;
+        was = inr (inl (record
+            { irrevocable = refl; begun = v; begins = b; asked = a.asked; busy = a.waits; again = refl; ended = e; is = refl; last = a.last }));
+        counted = a.counted;
+      }
   tried-asked false e u v w s t is b a = absurd cc
 
   -- it was
@@ -179,22 +193,43 @@ module _ (good : List ℕ → Type 0) (c : Config) (n : ℕ) where
   runs-finished (Some e) u v w s t grew f = record { acted = v; acts = grew; again = f.again; before = f.before; waits = f.waits; last = inr f.last; counted = f.counted }
 
   -- it ran
-  tried-run : (irrevocable : Bool) (o : Option Ended) (u v w : CallerState) (r s t : Tally) → (irrevocable ≡ true → has_committed o ≡ true) → Opens good c n irrevocable u v r s → Runs good c n o v w s t → Tried good c n irrevocable o u w r t
+  tried-run : (irrevocable : Bool) (o : Option Ended) (u v w : CallerState) (r s t : Tally) → (irrevocable ≡ true → has_committed o ≡ true)
+      → Opens good c n irrevocable u v r s → Runs good c n o v w s t → Tried good c n irrevocable o u w r t
   tried-run irrevocable o u v w r s t stays opens runs = record {
     busy = opens.busy;
     again = runs.again;
-    was = inr (inr (record { begun = opens.begun; begins = opens.begins; opened = v; granted = opens.granted; acted = runs.acted; acts = runs.acts; before = runs.before; again = runs.waits; last = runs.last; irrevocable = stays }));
+    was =
+        inr (inr (record {
+          begun = opens.begun;
+          begins = opens.begins;
+          opened = v;
+          granted = opens.granted;
+          acted = runs.acted;
+          acts = runs.acts;
+          before = runs.before;
+          again = runs.waits;
+          last = runs.last;
+          irrevocable = stays;
+        }));
     counted = runs.counted ∙ ap (noted_times runs.again ends.Again) (opens.counted ∙ promoted irrevocable o stays);
   }
     where
-      promoted : (i : Bool) (p : Option Ended) → (i ≡ true → has_committed p ≡ true) → (if i then with_promotion (noted_times opens.busy ends.Busy r) else noted_times opens.busy ends.Busy r) ≡ (if i && has_committed p then with_promotion (noted_times opens.busy ends.Busy r) else noted_times opens.busy ends.Busy r)
+      promoted : (i : Bool) (p : Option Ended) → (i ≡ true → has_committed p ≡ true)
+          → (if i then with_promotion (noted_times opens.busy ends.Busy r) else noted_times opens.busy ends.Busy r)
+          ≡ (if i && has_committed p then with_promotion (noted_times opens.busy ends.Busy r) else noted_times opens.busy ends.Busy r)
       promoted true p h = rw (h refl) refl
       promoted false p h = refl
 
   -- by what the attempt answered
-  pub tried-ran : {A E : Type 0} (result : Result A E) (irrevocable : Bool) (e : Ended) (u v w : CallerState) (r s t : Tally) → (irrevocable ≡ true → is_irrevocable v ≡ true) → OnErr result (is_irrevocable v ≡ false) → Opens good c n irrevocable u v r s → MatchResult result (λ _. Runs good c n None v w s t) (λ _. Runs good c n (Some e) v w s t) → MatchResult result (λ _. Tried good c n irrevocable None u w r t) (λ _. Tried good c n irrevocable (Some e) u w r t)
+  pub tried-ran : {A E : Type 0} (result : Result A E) (irrevocable : Bool) (e : Ended) (u v w : CallerState) (r s t : Tally)
+      → (irrevocable ≡ true → is_irrevocable v ≡ true) → OnErr result (is_irrevocable v ≡ false) → Opens good c n irrevocable u v r s
+      → MatchResult result (λ _. Runs good c n None v w s t) (λ _. Runs good c n (Some e) v w s t)
+      → MatchResult result (λ _. Tried good c n irrevocable None u w r t) (λ _. Tried good c n irrevocable (Some e) u w r t)
   tried-ran (Ok x) irrevocable e u v w r s t stays unrefused o runs = tried-run irrevocable None u v w r s t (λ is. refl) o runs
-  tried-ran (Err y) irrevocable e u v w r s t stays unrefused o runs = tried-run irrevocable (Some e) u v w r s t (λ is. let yes : is_irrevocable v ≡ true = stays is in let no : is_irrevocable v ≡ false = unrefused in let wrong : true ≡ false = sym yes ∙ no in absurd cc) o runs
+  tried-ran (Err y) irrevocable e u v w r s t stays unrefused o runs =
+      tried-run irrevocable (Some e) u v w r s t (λ is.
+      let yes : is_irrevocable v ≡ true = stays is in
+      let no : is_irrevocable v ≡ false = unrefused in let wrong : true ≡ false = sym yes ∙ no in absurd cc) o runs
 
   -- one call more that left it going, made by the same caller
   pub busy-more : (k m : ℕ) (r : Irrev) (caller status : ℕ) (u v w : CallerState) → m ≡ n → FindsBusy good c n k u v → r ≡ grants.Busy caller status → Irrevs good c m r v w → FindsBusy good c n (suc k) u w

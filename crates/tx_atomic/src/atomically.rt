@@ -38,14 +38,18 @@ pub fn atomically<R: Wait, K: MemRule, T: Transaction<K>, O: Observer>(
     requires precondition { T.precondition transaction.now stm.now.rule stm.now.config.words }
     ensures through { IsThrough desc.old desc.new }
     ensures grew { Grows (known desc.old) (known desc.new) }
-    ensures took { IfSome result (λ r. Took K.good (T.postcondition transaction.now) stm.now desc.old r desc.new) }
+    ensures took { IfSome result (λ r.
+        Took K.good (T.postcondition transaction.now) stm.now desc.old r desc.new) }
     ensures none { IfNone result ((known desc.new).made ≡ (known desc.old).made) }
     ensures counted { IfSome result (λ r. CommitsRise pace.old.tally pace.new.tally) }
     ensures uncounted { IfNone result (CommitsStay pace.old.tally pace.new.tally) }
     ensures full { IfNone result ((clock : ℕ) × FindsFull clock (known desc.old) (known desc.new)) }
     ensures installs { (known desc.new).installs ≡ (known desc.old).installs }
-    ensures ran { IfSome result (λ r. Ran (K.good stm.now.rule) stm.now.config (number desc.old) None (known desc.old) (known desc.new) pace.old.tally pace.new.tally) }
-    ensures gave_up { IfNone result (Ran (K.good stm.now.rule) stm.now.config (number desc.old) (Some ClockFull) (known desc.old) (known desc.new) pace.old.tally pace.new.tally) }
+    ensures ran { IfSome result (λ r.
+        Ran (K.good stm.now.rule) stm.now.config (number desc.old) None (known desc.old)
+        (known desc.new) pace.old.tally pace.new.tally) }
+    ensures gave_up { IfNone result (Ran (K.good stm.now.rule) stm.now.config (number desc.old)
+        (Some ClockFull) (known desc.old) (known desc.new) pace.old.tally pace.new.tally) }
 {
     let mut failed: u32 = 0;
     for _ in rt.forever() {

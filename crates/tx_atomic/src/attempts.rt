@@ -3,7 +3,7 @@ ghost use Rattle.std.specs.Prelude.{◌≡◌, ◌≤◌, true, false, IfOk, OnO
 ghost use Rattle.stm_rule.specs.Callers.{IsOf, IsSameCaller};
 ghost use Rattle.tx_answers.specs.Answers.{KeepsRule, Commits};
 ghost use Rattle.tx_answers.specs.CallerState.{Grows, IsIdle, is_irrevocable};
-ghost use Rattle.stm_tx.specs.Descs.{known, number};
+ghost use Rattle.stm_tx.specs.Descs.{known, number, Serves};
 ghost use Rattle.tx_atomic.specs.Tallies.{CommitsStay};
 ghost use Rattle.tx_atomic.specs.Attempts.{IsFresh, MayCommit, TookEffect};
 ghost use Rattle.tx_atomic.specs.Callers.{IsReady, IsThrough, Took};
@@ -21,7 +21,7 @@ use stm_rule::stm::Stm;
 use stm_tx::calls::{algorithm, cancel, commit, try_begin, try_irrevocable};
 use stm_tx::fencing::fence_seen;
 use stm_tx::live::Live;
-use stm_tx::serving::{Calls, Only};
+use stm_tx::serving::{AnyAlgorithm, Calls, Only};
 use stm_tx::{Cgl, OrecEager, OrecLazy, RingSw, Serial, Tml};
 use tx_answers::answers::{Begin, Commit, Irrev};
 use tx_transaction::transaction::Transaction;
@@ -48,13 +48,19 @@ pub fn attempt<R: Wait, K: MemRule, T: Transaction<K>, O: Observer>(
     ensures through { IsThrough desc.old desc.new }
     ensures grew { Grows (known desc.old) (known desc.new) }
     ensures uncounted { CommitsStay pace.old.tally pace.new.tally }
-    ensures took { IfOk result (λ r. Took K.good (T.postcondition transaction.now) stm.now desc.old r desc.new) }
+    ensures took { IfOk result (λ r.
+        Took K.good (T.postcondition transaction.now) stm.now desc.old r desc.new) }
     ensures none { OnErr result ((known desc.new).made ≡ (known desc.old).made) }
     ensures installs { (known desc.new).installs ≡ (known desc.old).installs }
-    ensures tried { MatchResult result (λ r. Tried (K.good stm.now.rule) stm.now.config (number desc.old) irrevocable None (known desc.old) (known desc.new) pace.old.tally pace.new.tally) (λ e. Tried (K.good stm.now.rule) stm.now.config (number desc.old) irrevocable (Some pace.new.last) (known desc.old) (known desc.new) pace.old.tally pace.new.tally) }
+    ensures tried { MatchResult result
+        (λ r.
+        Tried (K.good stm.now.rule) stm.now.config (number desc.old) irrevocable None
+        (known desc.old) (known desc.new) pace.old.tally pace.new.tally) (λ e.
+        Tried (K.good stm.now.rule) stm.now.config (number desc.old) irrevocable
+        (Some pace.new.last) (known desc.old) (known desc.new) pace.old.tally pace.new.tally) }
 {
     open(rt, desc, stm, pace, irrevocable)?;
-    run(rt, desc, stm, pace, transaction)
+    run(rt, desc, stm, pace, transaction, irrevocable)
 }
 
 /// Begins, and asks to be irrevocable where `irrevocable` says so.
@@ -73,11 +79,17 @@ fn open<R: Wait, K: MemRule, O: Observer>(
     ensures uncounted { CommitsStay pace.old.tally pace.new.tally }
     ensures fresh { OnOk result (IsFresh (known desc.new)) }
     ensures later { OnOk result ((known desc.old).front ≤ (known desc.new).start) }
-    ensures irrevocable { OnOk result (irrevocable ≡ true → is_irrevocable (known desc.new) ≡ true) }
+    ensures irrevocable { OnOk result
+        (irrevocable ≡ true → is_irrevocable (known desc.new) ≡ true) }
+    ensures ungranted { OnOk result (irrevocable ≡ false → (known desc.new).granted ≡ false) }
     ensures over { OnErr result (IsIdle (known desc.new)) }
     ensures installs { (known desc.new).installs ≡ (known desc.old).installs }
-    ensures opens { OnOk result (Opens (K.good stm.now.rule) stm.now.config (number desc.old) irrevocable (known desc.old) (known desc.new) pace.old.tally pace.new.tally) }
-    ensures tried { OnErr result (Tried (K.good stm.now.rule) stm.now.config (number desc.old) irrevocable (Some pace.new.last) (known desc.old) (known desc.new) pace.old.tally pace.new.tally) }
+    ensures opens { OnOk result
+        (Opens (K.good stm.now.rule) stm.now.config (number desc.old) irrevocable (known desc.old)
+        (known desc.new) pace.old.tally pace.new.tally) }
+    ensures tried { OnErr result
+        (Tried (K.good stm.now.rule) stm.now.config (number desc.old) irrevocable
+        (Some pace.new.last) (known desc.old) (known desc.new) pace.old.tally pace.new.tally) }
 {
     begin(desc, stm, pace)?;
     if irrevocable {
@@ -102,8 +114,12 @@ fn begin<K: MemRule, O: Observer>(
     ensures later { OnOk result ((known desc.old).front ≤ (known desc.new).start) }
     ensures over { OnErr result (IsIdle (known desc.new)) }
     ensures installs { (known desc.new).installs ≡ (known desc.old).installs }
-    ensures begins { OnOk result (HasBegun (K.good stm.now.rule) stm.now.config (number desc.old) (known desc.old) (known desc.new)) }
-    ensures refused { OnErr result (EndsBegin (K.good stm.now.rule) stm.now.config (number desc.old) pace.new.last (known desc.old) (known desc.new)) }
+    ensures begins { OnOk result
+        (HasBegun (K.good stm.now.rule) stm.now.config (number desc.old) (known desc.old)
+        (known desc.new)) }
+    ensures refused { OnErr result
+        (EndsBegin (K.good stm.now.rule) stm.now.config (number desc.old) pace.new.last
+        (known desc.old) (known desc.new)) }
 {
     match try_begin(desc, stm) {
         Begin::Begun(_) => {
@@ -125,9 +141,12 @@ fn begin<K: MemRule, O: Observer>(
 fn turn_back<K: MemRule>(desc: &mut Desc<K>, stm: &Stm<K>)
     requires stm { IsOf desc.old stm.now }
     requires running { (known desc.old).running ≡ true }
-    requires keeps { KeepsRule (K.good stm.now.rule) stm.now.config (number desc.old) (known desc.old) }
+    requires keeps { KeepsRule (K.good stm.now.rule) stm.now.config (number desc.old)
+        (known desc.old) }
     ensures same { IsSameCaller desc.old desc.new }
-    ensures commits { (answer : Commit) × Commits (K.good stm.now.rule) stm.now.config (number desc.old) answer (known desc.old) (known desc.new) }
+    ensures commits { (answer : Commit)
+        × Commits (K.good stm.now.rule) stm.now.config (number desc.old) answer (known desc.old)
+        (known desc.new) }
 {
     commit(desc, stm);
 }
@@ -153,7 +172,12 @@ fn promote<R: Wait, K: MemRule, O: Observer>(
     ensures irrevocable { OnOk result (is_irrevocable (known desc.new) ≡ true) }
     ensures over { OnErr result (IsIdle (known desc.new)) }
     ensures installs { (known desc.new).installs ≡ (known desc.old).installs }
-    ensures asks { MatchResult result (λ r. Asks (K.good stm.now.rule) stm.now.config (number desc.old) None (known desc.old) (known desc.new) pace.old.tally pace.new.tally) (λ e. Asks (K.good stm.now.rule) stm.now.config (number desc.old) (Some pace.new.last) (known desc.old) (known desc.new) pace.old.tally pace.new.tally) }
+    ensures asks { MatchResult result
+        (λ r.
+        Asks (K.good stm.now.rule) stm.now.config (number desc.old) None (known desc.old)
+        (known desc.new) pace.old.tally pace.new.tally) (λ e.
+        Asks (K.good stm.now.rule) stm.now.config (number desc.old) (Some pace.new.last)
+        (known desc.old) (known desc.new) pace.old.tally pace.new.tally) }
 {
     for _ in rt.forever() {
         match try_irrevocable(desc, stm) {
@@ -178,7 +202,7 @@ fn promote<R: Wait, K: MemRule, O: Observer>(
 }
 
 /// Does the transaction in a running attempt, and commits it. It is compiled once for each algorithm, so that the algorithm
-/// is looked up once an attempt, and not at each call.
+/// is looked up once an attempt, and not at each call, nor whether the attempt was made irrevocable.
 #[inline(always)]
 fn run<R: Wait, K: MemRule, T: Transaction<K>, O: Observer>(
     rt: &R,
@@ -186,20 +210,33 @@ fn run<R: Wait, K: MemRule, T: Transaction<K>, O: Observer>(
     stm: &Stm<K>,
     pace: &mut Pacing<O>,
     transaction: &T,
+    irrevocable: bool,
 ) -> Result<T::Output, Refused>
     requires stm { IsOf desc.old stm.now }
     requires fresh { IsFresh (known desc.old) }
+    requires ungranted { irrevocable ≡ false → (known desc.old).granted ≡ false }
     requires precondition { T.precondition transaction.now stm.now.rule stm.now.config.words }
     ensures same { IsSameCaller desc.old desc.new }
     ensures idle { IsIdle (known desc.new) }
     ensures grew { Grows (known desc.old) (known desc.new) }
     ensures uncounted { CommitsStay pace.old.tally pace.new.tally }
-    ensures took { IfOk result (λ r. TookEffect (K.good stm.now.rule) stm.now.config (number desc.old) (T.postcondition transaction.now stm.now.rule stm.now.config.words r) (known desc.old).start (known desc.old) (known desc.new)) }
+    ensures took { IfOk result (λ r.
+        TookEffect (K.good stm.now.rule) stm.now.config (number desc.old)
+        (T.postcondition transaction.now stm.now.rule stm.now.config.words r) (known desc.old).start
+        (known desc.old) (known desc.new)) }
     ensures none { OnErr result ((known desc.new).made ≡ (known desc.old).made) }
     ensures installs { (known desc.new).installs ≡ (known desc.old).installs }
-    ensures runs { MatchResult result (λ r. Runs (K.good stm.now.rule) stm.now.config (number desc.old) None (known desc.old) (known desc.new) pace.old.tally pace.new.tally) (λ e. Runs (K.good stm.now.rule) stm.now.config (number desc.old) (Some pace.new.last) (known desc.old) (known desc.new) pace.old.tally pace.new.tally) }
+    ensures runs { MatchResult result
+        (λ r.
+        Runs (K.good stm.now.rule) stm.now.config (number desc.old) None (known desc.old)
+        (known desc.new) pace.old.tally pace.new.tally) (λ e.
+        Runs (K.good stm.now.rule) stm.now.config (number desc.old) (Some pace.new.last)
+        (known desc.old) (known desc.new) pace.old.tally pace.new.tally) }
     ensures unrefused { OnErr result (is_irrevocable (known desc.old) ≡ false) }
 {
+    if irrevocable {
+        return run_by(AnyAlgorithm, rt, desc, stm, pace, transaction);
+    }
     match algorithm(desc) {
         Alg::Cgl => run_by(Only::<Cgl>::new(), rt, desc, stm, pace, transaction),
         Alg::Tml => run_by(Only::<Tml>::new(), rt, desc, stm, pace, transaction),
@@ -222,16 +259,24 @@ fn run_by<R: Wait, K: MemRule, T: Transaction<K>, C: Calls + Drop, O: Observer>(
 ) -> Result<T::Output, Refused>
     requires stm { IsOf desc.old stm.now }
     requires fresh { IsFresh (known desc.old) }
-    requires served { C.acts_as (known desc.old).alg ≡ (known desc.old).alg }
+    requires served { Serves C.acts_as (known desc.old) }
     requires precondition { T.precondition transaction.now stm.now.rule stm.now.config.words }
     ensures same { IsSameCaller desc.old desc.new }
     ensures idle { IsIdle (known desc.new) }
     ensures grew { Grows (known desc.old) (known desc.new) }
     ensures uncounted { CommitsStay pace.old.tally pace.new.tally }
-    ensures took { IfOk result (λ r. TookEffect (K.good stm.now.rule) stm.now.config (number desc.old) (T.postcondition transaction.now stm.now.rule stm.now.config.words r) (known desc.old).start (known desc.old) (known desc.new)) }
+    ensures took { IfOk result (λ r.
+        TookEffect (K.good stm.now.rule) stm.now.config (number desc.old)
+        (T.postcondition transaction.now stm.now.rule stm.now.config.words r) (known desc.old).start
+        (known desc.old) (known desc.new)) }
     ensures none { OnErr result ((known desc.new).made ≡ (known desc.old).made) }
     ensures installs { (known desc.new).installs ≡ (known desc.old).installs }
-    ensures runs { MatchResult result (λ r. Runs (K.good stm.now.rule) stm.now.config (number desc.old) None (known desc.old) (known desc.new) pace.old.tally pace.new.tally) (λ e. Runs (K.good stm.now.rule) stm.now.config (number desc.old) (Some pace.new.last) (known desc.old) (known desc.new) pace.old.tally pace.new.tally) }
+    ensures runs { MatchResult result
+        (λ r.
+        Runs (K.good stm.now.rule) stm.now.config (number desc.old) None (known desc.old)
+        (known desc.new) pace.old.tally pace.new.tally) (λ e.
+        Runs (K.good stm.now.rule) stm.now.config (number desc.old) (Some pace.new.last)
+        (known desc.old) (known desc.new) pace.old.tally pace.new.tally) }
     ensures unrefused { OnErr result (is_irrevocable (known desc.old) ≡ false) }
 {
     let noting = Noting::of(calls);
@@ -251,7 +296,7 @@ fn act<K: MemRule, T: Transaction<K>, C: Calls, O: Observer>(
 ) -> Result<T::Output, Refused>
     requires stm { IsOf desc.old stm.now }
     requires fresh { IsFresh (known desc.old) }
-    requires served { C.acts_as (known desc.old).alg ≡ (known desc.old).alg }
+    requires served { Serves C.acts_as (known desc.old) }
     requires precondition { T.precondition transaction.now stm.now.rule stm.now.config.words }
     ensures same { IsSameCaller desc.old desc.new }
     ensures made { (known desc.new).made ≡ (known desc.old).made }
@@ -259,13 +304,18 @@ fn act<K: MemRule, T: Transaction<K>, C: Calls, O: Observer>(
     ensures uncounted { pace.new.tally ≡ pace.old.tally }
     ensures later { OnOk result ((known desc.old).start ≤ (known desc.new).start) }
     ensures algorithm { OnOk result ((known desc.new).alg ≡ (known desc.old).alg) }
+    ensures granted { OnOk result ((known desc.new).granted ≡ (known desc.old).granted) }
     ensures may { OnOk result (MayCommit (K.good stm.now.rule) stm.now.config (known desc.new)) }
-    ensures postcondition { IfOk result (λ r. T.postcondition transaction.now stm.now.rule stm.now.config.words r (known desc.new).log) }
+    ensures postcondition { IfOk result (λ r.
+        T.postcondition transaction.now stm.now.rule stm.now.config.words r (known desc.new).log) }
     ensures over { OnErr result (IsIdle (known desc.new)) }
     ensures installs { (known desc.new).installs ≡ (known desc.old).installs }
-    ensures stopped { OnErr result (IsStopped (K.good stm.now.rule) stm.now.config (number desc.old) pace.new.last (known desc.old) (known desc.new)) }
+    ensures stopped { OnErr result
+        (IsStopped (K.good stm.now.rule) stm.now.config (number desc.old) pace.new.last
+        (known desc.old) (known desc.new)) }
     ensures unrefused { OnErr result (is_irrevocable (known desc.old) ≡ false) }
-    ensures irrevocable { OnOk result (is_irrevocable (known desc.old) ≡ true → is_irrevocable (known desc.new) ≡ true) }
+    ensures irrevocable { OnOk result
+        (is_irrevocable (known desc.old) ≡ true → is_irrevocable (known desc.new) ≡ true) }
 {
     let mut memory = Live {
         calls,
@@ -289,16 +339,23 @@ fn end<R: Wait, K: MemRule, C: Calls, O: Observer>(
     pace: &mut Pacing<O>,
 ) -> Result<(), Refused>
     requires stm { IsOf desc.old stm.now }
-    requires served { C.acts_as (known desc.old).alg ≡ (known desc.old).alg }
+    requires served { Serves C.acts_as (known desc.old) }
     requires may { MayCommit (K.good stm.now.rule) stm.now.config (known desc.old) }
     ensures same { IsSameCaller desc.old desc.new }
     ensures idle { IsIdle (known desc.new) }
     ensures grew { Grows (known desc.old) (known desc.new) }
     ensures uncounted { CommitsStay pace.old.tally pace.new.tally }
-    ensures took { OnOk result (TookEffect (K.good stm.now.rule) stm.now.config (number desc.old) (λ l. l ≡ (known desc.old).log) (known desc.old).start (known desc.old) (known desc.new)) }
+    ensures took { OnOk result
+        (TookEffect (K.good stm.now.rule) stm.now.config (number desc.old)
+        (λ l. l ≡ (known desc.old).log) (known desc.old).start (known desc.old) (known desc.new)) }
     ensures none { OnErr result ((known desc.new).made ≡ (known desc.old).made) }
     ensures installs { (known desc.new).installs ≡ (known desc.old).installs }
-    ensures finishes { MatchResult result (λ r. Finishes (K.good stm.now.rule) stm.now.config (number desc.old) None (known desc.old) (known desc.new) pace.old.tally pace.new.tally) (λ e. Finishes (K.good stm.now.rule) stm.now.config (number desc.old) (Some pace.new.last) (known desc.old) (known desc.new) pace.old.tally pace.new.tally) }
+    ensures finishes { MatchResult result
+        (λ r.
+        Finishes (K.good stm.now.rule) stm.now.config (number desc.old) None (known desc.old)
+        (known desc.new) pace.old.tally pace.new.tally) (λ e.
+        Finishes (K.good stm.now.rule) stm.now.config (number desc.old) (Some pace.new.last)
+        (known desc.old) (known desc.new) pace.old.tally pace.new.tally) }
     ensures unrefused { OnErr result (is_irrevocable (known desc.old) ≡ false) }
 {
     for _ in rt.forever() {

@@ -9,5 +9,6 @@ use tx_transaction::transaction::Transaction;
 /// is good and explains what the transaction read; and what it wrote, if anything, makes it that of the next moment, and
 /// is its caller's one entry.
 pub fn transactions_have_moments<K: MemRule, T: Transaction<K>>(rule: &K, transaction: &T)
-    ensures { HaveMoments (K.good rule.now) (λ words came log. T.postcondition transaction.now rule.now words came log) }
+    ensures { HaveMoments (K.good rule.now) (λ words came log.
+        T.postcondition transaction.now rule.now words came log) }
 {}

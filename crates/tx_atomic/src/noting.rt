@@ -26,7 +26,7 @@ impl<C: Calls> Noting<C> {
 }
 
 impl<C: Calls> Calls for Noting<C> {
-    ghost acts_as = { λ alg. C.acts_as alg };
+    ghost acts_as = { λ alg granted. C.acts_as alg granted };
 
     #[inline(always)]
     fn read<K: MemRule>(&self, desc: &mut Desc<K>, stm: &Stm<K>, a: usize) -> Read {

@@ -33,7 +33,8 @@ pub fn close_alone<R: Wait, K: MemRule>(rt: &R, desc: &mut Desc<K>, stm: &Stm<K>
     requires ready { IsReady stm.now desc.old }
     ensures same { IsSameCaller desc.old desc.new }
     ensures closing { HoldsClosed (known desc.new) }
-    ensures quiet { SeesQuiet (K.good stm.now.rule) stm.now.config (number desc.new) (known desc.new) }
+    ensures quiet { SeesQuiet (K.good stm.now.rule) stm.now.config (number desc.new)
+        (known desc.new) }
     ensures grew { Grows (known desc.old) (known desc.new) }
     ensures made { (known desc.new).made ≡ (known desc.old).made }
     ensures rises { (known desc.new).rises ≡ (known desc.old).rises }
@@ -55,7 +56,8 @@ fn see_others_leave<R: Wait, K: MemRule>(rt: &R, desc: &mut Desc<K>, stm: &Stm<K
     requires closing { HoldsClosed (known desc.old) }
     ensures same { IsSameCaller desc.old desc.new }
     ensures closing { HoldsClosed (known desc.new) }
-    ensures quiet { SeesQuiet (K.good stm.now.rule) stm.now.config (number desc.new) (known desc.new) }
+    ensures quiet { SeesQuiet (K.good stm.now.rule) stm.now.config (number desc.new)
+        (known desc.new) }
     ensures grew { Grows (known desc.old) (known desc.new) }
     ensures made { (known desc.new).made ≡ (known desc.old).made }
     ensures rises { (known desc.new).rises ≡ (known desc.old).rises }
@@ -80,7 +82,8 @@ pub fn switch_to<R: Wait, K: MemRule>(rt: &R, desc: &mut Desc<K>, stm: &Stm<K>, 
     ensures through { IsThrough desc.old desc.new }
     ensures grew { Grows (known desc.old) (known desc.new) }
     ensures made { (known desc.new).made ≡ (known desc.old).made }
-    ensures rises { ((known desc.old).rises ≤ (known desc.new).rises) × ((known desc.new).rises ≤ (known desc.old).rises + install_rise alg) }
+    ensures rises { ((known desc.old).rises ≤ (known desc.new).rises)
+        × ((known desc.new).rises ≤ (known desc.old).rises + install_rise alg) }
     ensures installs { (known desc.new).installs ≡ (known desc.old).installs ++ alg ∷ [] }
 {
     let looks = close_alone(rt, desc, stm);
@@ -103,11 +106,15 @@ pub fn switch_at_one_look<K: MemRule>(
     ensures through { IsThrough desc.old desc.new }
     ensures grew { Grows (known desc.old) (known desc.new) }
     ensures made { (known desc.new).made ≡ (known desc.old).made }
-    ensures rises { OnOk result (((known desc.old).rises ≤ (known desc.new).rises) × ((known desc.new).rises ≤ (known desc.old).rises + install_rise alg)) }
+    ensures rises { OnOk result (((known desc.old).rises ≤ (known desc.new).rises)
+        × ((known desc.new).rises ≤ (known desc.old).rises + install_rise alg)) }
     ensures still { OnErr result ((known desc.new).rises ≡ (known desc.old).rises) }
-    ensures installs { OnOk result ((known desc.new).installs ≡ (known desc.old).installs ++ alg ∷ []) }
+    ensures installs { OnOk result
+        ((known desc.new).installs ≡ (known desc.old).installs ++ alg ∷ []) }
     ensures none { OnErr result ((known desc.new).installs ≡ (known desc.old).installs) }
-    ensures hindered { IfErr result (λ e. IsHindered (K.good stm.now.rule) stm.now.config (number desc.old) e (known desc.old) (known desc.new)) }
+    ensures hindered { IfErr result (λ e.
+        IsHindered (K.good stm.now.rule) stm.now.config (number desc.old) e (known desc.old)
+        (known desc.new)) }
 {
     match close_gate(desc, stm) {
         CloseGate::Closed => {}

@@ -37,15 +37,21 @@ pub fn until_some<R: Wait, K: MemRule, V: Drop, T: Transaction<K, Output = Optio
 ) -> Option<V>
     requires ready { IsReady stm.now desc.old }
     requires precondition { T.precondition transaction.now stm.now.rule stm.now.config.words }
-    requires waits { (log : Log) → T.postcondition transaction.now stm.now.rule stm.now.config.words None log → log.writes ≡ [] }
+    requires waits { (log : Log)
+        → T.postcondition transaction.now stm.now.rule stm.now.config.words None log
+        → log.writes ≡ [] }
     ensures through { IsThrough desc.old desc.new }
     ensures grew { Grows (known desc.old) (known desc.new) }
-    ensures took { IfSome result (λ v. Took K.good (T.postcondition transaction.now) stm.now desc.old (Some v) desc.new) }
+    ensures took { IfSome result (λ v.
+        Took K.good (T.postcondition transaction.now) stm.now desc.old (Some v) desc.new) }
     ensures none { IfNone result ((known desc.new).made ≡ (known desc.old).made) }
     ensures full { IfNone result ((clock : ℕ) × FindsFull clock (known desc.old) (known desc.new)) }
     ensures installs { (known desc.new).installs ≡ (known desc.old).installs }
-    ensures ran { IfSome result (λ v. RanAgain (K.good stm.now.rule) stm.now.config (number desc.old) None (known desc.old) (known desc.new) pace.old.tally pace.new.tally) }
-    ensures gave_up { IfNone result (RanAgain (K.good stm.now.rule) stm.now.config (number desc.old) (Some ClockFull) (known desc.old) (known desc.new) pace.old.tally pace.new.tally) }
+    ensures ran { IfSome result (λ v.
+        RanAgain (K.good stm.now.rule) stm.now.config (number desc.old) None (known desc.old)
+        (known desc.new) pace.old.tally pace.new.tally) }
+    ensures gave_up { IfNone result (RanAgain (K.good stm.now.rule) stm.now.config (number desc.old)
+        (Some ClockFull) (known desc.old) (known desc.new) pace.old.tally pace.new.tally) }
 {
     let mut backoff = Backoff::new();
     for _ in rt.forever() {

@@ -32,7 +32,8 @@ module _ (r : Chains) (m : List ℕ) (key : ℕ) (w : IsChains r m) (some : 0 < 
   no-room s e t f = let u : (position_of r m key).tag ≢ suc key = λ x. t (ap (λ y. y.tag) e ∙ (x ∙ (omega arith))) in
       let h = there false (grind (arith, nat_tests)) in rw (h, ← f) refl
 
-  pub added : (s : Position) (c : ℕ) → s ≡ position_of r m key → s.tag ≢ key + 1 → Some c ≡ free_from (tag r m) 0 r.cells → inserted_in r key m ≡ changed Added (set (set (set m (tag_at r c) (key + 1)) (next_at r c) s.next) s.link (c + 1))
+  pub added : (s : Position) (c : ℕ) → s ≡ position_of r m key → s.tag ≢ key + 1 → Some c ≡ free_from (tag r m) 0 r.cells
+      → inserted_in r key m ≡ changed Added (set (set (set m (tag_at r c) (key + 1)) (next_at r c) s.next) s.link (c + 1))
   added s c e t f = let k : key + 1 ≡ suc key = omega arith in let d : c + 1 ≡ suc c = omega arith in let u : (position_of r m key).tag ≢ suc key = λ x. t (ap (λ y. y.tag) e ∙ (x ∙ (omega arith))) in
       let h = there false (grind (arith, nat_tests)) in rw (h, ← f, e, k, d) refl
 

@@ -1,7 +1,7 @@
 //! Sorted chains of cells in one pool, over any access.
 ghost use Rattle.std.specs.Prelude.{◌≡◌, ◌<◌, ◌≤◌, None, Some, IfOk, OnOk, IfErr};
-ghost use Rattle.stm_model.specs.Logs.{SameMemories, IsExplained, IsReadStop};
-ghost use Rattle.tx_effects.specs.Effects.{DoesOver, Under, Shows};
+ghost use Rattle.stm_model.specs.Logs.{SameMemories, IsReadStop};
+ghost use Rattle.tx_effects.specs.Accesses.{DoesFor, ExplainedFor, HoldsFor, ShowsFor};
 ghost use Rattle.tx_cells.specs.Chains.{ChainsFit, IsChains, head_of, find, contained_in, inserted_in, removed_in, counted_in};
 
 use stm_model::access::Access;
@@ -29,11 +29,13 @@ impl Chains {
     fn find<A: Access>(&self, acc: &mut A, key: u32) -> Result<Position, Stop>
         requires going { A.stopped acc.old ≡ None }
         requires within { ChainsFit self.now (A.words acc.old) }
-        requires well { Under (A.good acc.old) (A.words acc.old) (A.log acc.old) (IsChains self.now) }
-        ensures finds { IfOk result (λ s. Shows (A.good acc.old) (A.words acc.old) (A.log acc.old) (A.log acc.new) (λ m. s ≡ find self.now m key self.now.cells (head_of self.now key))) }
-        ensures inside { IfOk result (λ s. (s.link < A.words acc.old) × (s.next ≤ self.now.cells) × (s.next ≡ 0 → s.tag ≡ 0)) }
+        requires well { HoldsFor A.Access acc.old (IsChains self.now) }
+        ensures finds { IfOk result (ShowsFor A.Access acc.old acc.new (λ m.
+            find self.now m key self.now.cells (head_of self.now key))) }
+        ensures inside { IfOk result (λ s.
+            (s.link < A.words acc.old) × (s.next ≤ self.now.cells) × (s.next ≡ 0 → s.tag ≡ 0)) }
         ensures writes { OnOk result ((A.log acc.new).writes ≡ (A.log acc.old).writes) }
-        ensures explained { OnOk result (IsExplained (A.good acc.new) (A.words acc.new) (A.log acc.new)) }
+        ensures explained { OnOk result (ExplainedFor A.Access acc.new) }
         ensures goes { OnOk result (A.stopped acc.new ≡ None) }
         ensures stops { IfErr result (λ s. A.stopped acc.new ≡ Some s) }
         ensures cause { IfErr result IsReadStop }
@@ -70,10 +72,10 @@ impl Chains {
     pub fn contains<A: Access>(&self, acc: &mut A, key: u32) -> Result<bool, Stop>
         requires going { A.stopped acc.old ≡ None }
         requires within { ChainsFit self.now (A.words acc.old) }
-        requires well { Under (A.good acc.old) (A.words acc.old) (A.log acc.old) (IsChains self.now) }
-        ensures reply { IfOk result (λ b. DoesOver (A.good acc.old) (A.words acc.old) (contained_in self.now key) (A.log acc.old) b (A.log acc.new)) }
-        ensures well { OnOk result (Under (A.good acc.new) (A.words acc.new) (A.log acc.new) (IsChains self.now)) }
-        ensures explained { OnOk result (IsExplained (A.good acc.new) (A.words acc.new) (A.log acc.new)) }
+        requires well { HoldsFor A.Access acc.old (IsChains self.now) }
+        ensures reply { IfOk result (DoesFor A.Access acc.old acc.new (contained_in self.now key)) }
+        ensures well { OnOk result (HoldsFor A.Access acc.new (IsChains self.now)) }
+        ensures explained { OnOk result (ExplainedFor A.Access acc.new) }
         ensures cause { IfErr result IsReadStop }
         ensures goes { OnOk result (A.stopped acc.new ≡ None) }
         ensures stops { IfErr result (λ s. A.stopped acc.new ≡ Some s) }
@@ -93,10 +95,10 @@ impl Chains {
     pub fn insert<A: Access>(&self, acc: &mut A, key: u32) -> Result<Insert, Stop>
         requires going { A.stopped acc.old ≡ None }
         requires within { ChainsFit self.now (A.words acc.old) }
-        requires well { Under (A.good acc.old) (A.words acc.old) (A.log acc.old) (IsChains self.now) }
-        ensures reply { IfOk result (λ r. DoesOver (A.good acc.old) (A.words acc.old) (inserted_in self.now key) (A.log acc.old) r (A.log acc.new)) }
-        ensures well { OnOk result (Under (A.good acc.new) (A.words acc.new) (A.log acc.new) (IsChains self.now)) }
-        ensures explained { OnOk result (IsExplained (A.good acc.new) (A.words acc.new) (A.log acc.new)) }
+        requires well { HoldsFor A.Access acc.old (IsChains self.now) }
+        ensures reply { IfOk result (DoesFor A.Access acc.old acc.new (inserted_in self.now key)) }
+        ensures well { OnOk result (HoldsFor A.Access acc.new (IsChains self.now)) }
+        ensures explained { OnOk result (ExplainedFor A.Access acc.new) }
         ensures goes { OnOk result (A.stopped acc.new ≡ None) }
         ensures stops { IfErr result (λ s. A.stopped acc.new ≡ Some s) }
         ensures good { SameMemories (A.good acc.old) (A.good acc.new) }
@@ -133,10 +135,10 @@ impl Chains {
     pub fn remove<A: Access>(&self, acc: &mut A, key: u32) -> Result<bool, Stop>
         requires going { A.stopped acc.old ≡ None }
         requires within { ChainsFit self.now (A.words acc.old) }
-        requires well { Under (A.good acc.old) (A.words acc.old) (A.log acc.old) (IsChains self.now) }
-        ensures reply { IfOk result (λ b. DoesOver (A.good acc.old) (A.words acc.old) (removed_in self.now key) (A.log acc.old) b (A.log acc.new)) }
-        ensures well { OnOk result (Under (A.good acc.new) (A.words acc.new) (A.log acc.new) (IsChains self.now)) }
-        ensures explained { OnOk result (IsExplained (A.good acc.new) (A.words acc.new) (A.log acc.new)) }
+        requires well { HoldsFor A.Access acc.old (IsChains self.now) }
+        ensures reply { IfOk result (DoesFor A.Access acc.old acc.new (removed_in self.now key)) }
+        ensures well { OnOk result (HoldsFor A.Access acc.new (IsChains self.now)) }
+        ensures explained { OnOk result (ExplainedFor A.Access acc.new) }
         ensures goes { OnOk result (A.stopped acc.new ≡ None) }
         ensures stops { IfErr result (λ s. A.stopped acc.new ≡ Some s) }
         ensures good { SameMemories (A.good acc.old) (A.good acc.new) }
@@ -163,10 +165,10 @@ impl Chains {
         requires going { A.stopped acc.old ≡ None }
         requires one { self.now.heads ≡ 1 }
         requires within { ChainsFit self.now (A.words acc.old) }
-        requires well { Under (A.good acc.old) (A.words acc.old) (A.log acc.old) (IsChains self.now) }
-        ensures reply { IfOk result (λ r. DoesOver (A.good acc.old) (A.words acc.old) (counted_in self.now) (A.log acc.old) r (A.log acc.new)) }
-        ensures well { OnOk result (Under (A.good acc.new) (A.words acc.new) (A.log acc.new) (IsChains self.now)) }
-        ensures explained { OnOk result (IsExplained (A.good acc.new) (A.words acc.new) (A.log acc.new)) }
+        requires well { HoldsFor A.Access acc.old (IsChains self.now) }
+        ensures reply { IfOk result (DoesFor A.Access acc.old acc.new (counted_in self.now)) }
+        ensures well { OnOk result (HoldsFor A.Access acc.new (IsChains self.now)) }
+        ensures explained { OnOk result (ExplainedFor A.Access acc.new) }
         ensures cause { IfErr result IsReadStop }
         ensures goes { OnOk result (A.stopped acc.new ≡ None) }
         ensures stops { IfErr result (λ s. A.stopped acc.new ≡ Some s) }

@@ -1,7 +1,7 @@
 //! A counter in stripes, over any access.
-ghost use Rattle.std.specs.Prelude.{◌≡◌, ◌<◌, ◌≤◌, ◌+◌, ◌^◌, None, Some, IfOk, OnOk, IfErr};
-ghost use Rattle.stm_model.specs.Logs.{SameMemories, IsExplained, IsReadStop};
-ghost use Rattle.tx_effects.specs.Effects.{DoesOver};
+ghost use Rattle.std.specs.Prelude.{◌≡◌, ◌<◌, ◌+◌, ◌^◌, None, Some, IfOk, OnOk, IfErr};
+ghost use Rattle.stm_model.specs.Logs.{SameMemories, IsReadStop};
+ghost use Rattle.tx_effects.specs.Accesses.{DoesFor, ExplainedFor};
 ghost use Rattle.tx_cells.specs.Counters.{StripesFit, added_in, total_in};
 
 use stm_model::access::Access;
@@ -31,9 +31,10 @@ impl Counter {
         requires going { A.stopped acc.old ≡ None }
         requires within { StripesFit self.now (A.words acc.old) }
         requires stripe { stripe < self.now.stripes }
-        ensures reply { IfOk result (λ r. DoesOver (A.good acc.old) (A.words acc.old) (added_in self.now stripe amount) (A.log acc.old) r (A.log acc.new)) }
+        ensures reply { IfOk result
+            (DoesFor A.Access acc.old acc.new (added_in self.now stripe amount)) }
         ensures range { IfOk result (λ r. r < 2 ^ 64) }
-        ensures explained { OnOk result (IsExplained (A.good acc.new) (A.words acc.new) (A.log acc.new)) }
+        ensures explained { OnOk result (ExplainedFor A.Access acc.new) }
         ensures goes { OnOk result (A.stopped acc.new ≡ None) }
         ensures stops { IfErr result (λ s. A.stopped acc.new ≡ Some s) }
         ensures good { SameMemories (A.good acc.old) (A.good acc.new) }
@@ -55,9 +56,9 @@ impl Counter {
         requires going { A.stopped acc.old ≡ None }
         requires within { StripesFit self.now (A.words acc.old) }
         requires some { 0 < self.now.stripes }
-        ensures reply { IfOk result (λ r. DoesOver (A.good acc.old) (A.words acc.old) (total_in self.now) (A.log acc.old) r (A.log acc.new)) }
+        ensures reply { IfOk result (DoesFor A.Access acc.old acc.new (total_in self.now)) }
         ensures range { IfOk result (λ r. r < 2 ^ 64) }
-        ensures explained { OnOk result (IsExplained (A.good acc.new) (A.words acc.new) (A.log acc.new)) }
+        ensures explained { OnOk result (ExplainedFor A.Access acc.new) }
         ensures goes { OnOk result (A.stopped acc.new ≡ None) }
         ensures stops { IfErr result (λ s. A.stopped acc.new ≡ Some s) }
         ensures cause { IfErr result IsReadStop }

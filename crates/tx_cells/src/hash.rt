@@ -1,7 +1,7 @@
 //! A hash set of keys, over any access.
-ghost use Rattle.std.specs.Prelude.{◌≡◌, ◌<◌, ◌≤◌, ◌+◌, ◌*◌, ◌^◌, None, Some, IfOk, OnOk, IfErr};
-ghost use Rattle.stm_model.specs.Logs.{SameMemories, IsExplained, IsReadStop};
-ghost use Rattle.tx_effects.specs.Effects.{DoesOver, Under};
+ghost use Rattle.std.specs.Prelude.{◌≡◌, ◌<◌, None, Some, IfOk, OnOk, IfErr};
+ghost use Rattle.stm_model.specs.Logs.{SameMemories, IsReadStop};
+ghost use Rattle.tx_effects.specs.Accesses.{DoesFor, ExplainedFor, HoldsFor};
 ghost use Rattle.tx_cells.specs.Chains.{ChainsFit, IsChains, contained_in, inserted_in, removed_in};
 ghost use Rattle.tx_cells.specs.Structures.{hash_of};
 
@@ -46,10 +46,11 @@ impl Hash {
     pub fn contains<A: Access>(&self, acc: &mut A, key: u32) -> Result<bool, Stop>
         requires going { A.stopped acc.old ≡ None }
         requires within { ChainsFit (hash_of self.now) (A.words acc.old) }
-        requires well { Under (A.good acc.old) (A.words acc.old) (A.log acc.old) (IsChains (hash_of self.now)) }
-        ensures reply { IfOk result (λ r. DoesOver (A.good acc.old) (A.words acc.old) (contained_in (hash_of self.now) key) (A.log acc.old) r (A.log acc.new)) }
-        ensures well { OnOk result (Under (A.good acc.new) (A.words acc.new) (A.log acc.new) (IsChains (hash_of self.now))) }
-        ensures explained { OnOk result (IsExplained (A.good acc.new) (A.words acc.new) (A.log acc.new)) }
+        requires well { HoldsFor A.Access acc.old (IsChains (hash_of self.now)) }
+        ensures reply { IfOk result
+            (DoesFor A.Access acc.old acc.new (contained_in (hash_of self.now) key)) }
+        ensures well { OnOk result (HoldsFor A.Access acc.new (IsChains (hash_of self.now))) }
+        ensures explained { OnOk result (ExplainedFor A.Access acc.new) }
         ensures cause { IfErr result IsReadStop }
         ensures goes { OnOk result (A.stopped acc.new ≡ None) }
         ensures stops { IfErr result (λ s. A.stopped acc.new ≡ Some s) }
@@ -68,10 +69,11 @@ impl Hash {
     pub fn insert<A: Access>(&self, acc: &mut A, key: u32) -> Result<Insert, Stop>
         requires going { A.stopped acc.old ≡ None }
         requires within { ChainsFit (hash_of self.now) (A.words acc.old) }
-        requires well { Under (A.good acc.old) (A.words acc.old) (A.log acc.old) (IsChains (hash_of self.now)) }
-        ensures reply { IfOk result (λ r. DoesOver (A.good acc.old) (A.words acc.old) (inserted_in (hash_of self.now) key) (A.log acc.old) r (A.log acc.new)) }
-        ensures well { OnOk result (Under (A.good acc.new) (A.words acc.new) (A.log acc.new) (IsChains (hash_of self.now))) }
-        ensures explained { OnOk result (IsExplained (A.good acc.new) (A.words acc.new) (A.log acc.new)) }
+        requires well { HoldsFor A.Access acc.old (IsChains (hash_of self.now)) }
+        ensures reply { IfOk result
+            (DoesFor A.Access acc.old acc.new (inserted_in (hash_of self.now) key)) }
+        ensures well { OnOk result (HoldsFor A.Access acc.new (IsChains (hash_of self.now))) }
+        ensures explained { OnOk result (ExplainedFor A.Access acc.new) }
         ensures goes { OnOk result (A.stopped acc.new ≡ None) }
         ensures stops { IfErr result (λ s. A.stopped acc.new ≡ Some s) }
         ensures good { SameMemories (A.good acc.old) (A.good acc.new) }
@@ -89,10 +91,11 @@ impl Hash {
     pub fn remove<A: Access>(&self, acc: &mut A, key: u32) -> Result<bool, Stop>
         requires going { A.stopped acc.old ≡ None }
         requires within { ChainsFit (hash_of self.now) (A.words acc.old) }
-        requires well { Under (A.good acc.old) (A.words acc.old) (A.log acc.old) (IsChains (hash_of self.now)) }
-        ensures reply { IfOk result (λ r. DoesOver (A.good acc.old) (A.words acc.old) (removed_in (hash_of self.now) key) (A.log acc.old) r (A.log acc.new)) }
-        ensures well { OnOk result (Under (A.good acc.new) (A.words acc.new) (A.log acc.new) (IsChains (hash_of self.now))) }
-        ensures explained { OnOk result (IsExplained (A.good acc.new) (A.words acc.new) (A.log acc.new)) }
+        requires well { HoldsFor A.Access acc.old (IsChains (hash_of self.now)) }
+        ensures reply { IfOk result
+            (DoesFor A.Access acc.old acc.new (removed_in (hash_of self.now) key)) }
+        ensures well { OnOk result (HoldsFor A.Access acc.new (IsChains (hash_of self.now))) }
+        ensures explained { OnOk result (ExplainedFor A.Access acc.new) }
         ensures goes { OnOk result (A.stopped acc.new ≡ None) }
         ensures stops { IfErr result (λ s. A.stopped acc.new ≡ Some s) }
         ensures good { SameMemories (A.good acc.old) (A.good acc.new) }

@@ -9,4 +9,11 @@ pub no-range : (words : ℕ) (f : Fenced) → HasRange None words f
 no-range words f r e = absurd (let no : None ≡ Some r = e in cc)
 
 pub idle-in_phase : (v : CallerState) → IsIdle v → IsInPhase Idle v
-idle-in_phase v h = (λ e. h, λ e. absurd (let no : Idle ≡ Running = e in cc), λ e. absurd (let no : Idle ≡ Beside = e in cc), λ e. absurd (let no : Idle ≡ Committing = e in cc), λ x e. absurd (let no : Idle ≡ Closing x = e in cc))
+idle-in_phase v h = (
+  λ e.
+      h,
+  λ e. absurd (let no : Idle ≡ Running = e in cc),
+  λ e. absurd (let no : Idle ≡ Beside = e in cc),
+  λ e. absurd (let no : Idle ≡ Committing = e in cc),
+  λ x e. absurd (let no : Idle ≡ Closing x = e in cc),
+)

@@ -57,10 +57,20 @@ same key s id k v kept at =
 pub opened : (key : Handle AnyMem) (slots id k old : ℕ) (me : Hand) → old ≢ 1 → k < slots
     → Allows (Kept key) slots id me k (λ n. either (eqb n old) 1 n) (Opened (step slots k old 1 none) me)
 opened key slots id k old me shut low s kept len at small =
-    exchanged (slice_index s.words k) old 1 (λ f. (w : Handle AnyMem) × (a : Act Slot) × Valid s.homes me.1 a × Kept key (stepped s k f id me.1 w a) × Opened (step slots k old 1 none) me (slice_index s.words k) (w, carried_after me.1 a))
+    exchanged (slice_index s.words k) old 1 (λ f.
+    (w : Handle AnyMem) × (a : Act Slot) × Valid s.homes me.1 a × Kept key (stepped s k f id me.1 w a)
+    × Opened (step slots k old 1 none) me (slice_index s.words k) (w, carried_after me.1 a))
     (λ (e : slice_index s.words k ≡ old).
-    let there = kept.home k (omega (arith, len)) (λ q. shut (sym e ∙ q)) in
-    (me.0, takes k there.0, there.1, changed key s id k 1 me.0 none kept at (omega (arith, len)) (λ x q. absurd (some-ne-none x (sym q))) (λ q. absurd (q refl)), (refl, λ f. (there.0, refl, subst (λ (u : Handle AnyMem). IsOurs u there.0) (sym (kept.views id me.0 at)) (kept.ours k there.0 there.1)))))
+    let there = kept.home k (omega (arith, len)) (λ q. shut (sym e ∙ q)) in (
+      me.0,
+      takes k there.0,
+      there.1,
+      changed key s id k 1 me.0 none kept at (omega (arith, len)) (λ x q. absurd (some-ne-none x (sym q))) (λ q. absurd (q refl)),
+      (
+        refl,
+        λ f. (there.0, refl, subst (λ (u : Handle AnyMem). IsOurs u there.0) (sym (kept.views id me.0 at)) (kept.ours k there.0 there.1)),
+      ),
+    ))
     (λ (ne : slice_index s.words k ≢ old).
     (me.0, keeps, tt, same key s id k me.0 kept at, (refl, λ e. absurd (ne e))))
 

@@ -17,7 +17,14 @@ use Rattle.tx_checked.specs.Phases.{Any, IsInPhase}
 use Rattle.tx_checked.proofs.Held.{idle-in_phase}
 
 pub closing-in_phase : (errand : Errand) (v : CallerState) → HoldsClosed v → IsInPhase (Closing errand) v
-closing-in_phase errand v h = (λ e. absurd (let no : Closing errand ≡ Idle = e in cc), λ e. absurd (let no : Closing errand ≡ Running = e in cc), λ e. absurd (let no : Closing errand ≡ Beside = e in cc), λ e. absurd (let no : Closing errand ≡ Committing = e in cc), λ x e. h)
+closing-in_phase errand v h = (
+  λ e.
+      absurd (let no : Closing errand ≡ Idle = e in cc),
+  λ e. absurd (let no : Closing errand ≡ Running = e in cc),
+  λ e. absurd (let no : Closing errand ≡ Beside = e in cc),
+  λ e. absurd (let no : Closing errand ≡ Committing = e in cc),
+  λ x e. h,
+)
 
 module _ (c : Config) (n : ℕ) (closing : Bool) where
   pub held-in_phase : (errand : Errand) (e : Refusal) (v w : CallerState) → IsHeldUp c n closing e v w → IsInPhase (phase_after errand e) w

@@ -28,16 +28,9 @@ module _ (c : Config) (n : ℕ) (closing : Bool) where
 
   -- another caller had the gate; or it was closed, and a look, which went on where the last one stopped, found another caller in an attempt
   abbrev pub IsHeldUp : Refusal → CallerState → CallerState → Type 0
-  IsHeldUp (refusals.Conflict cause) v w = ⊥
   IsHeldUp (refusals.GateClosed gate) v w = (closing ≡ false) × Closes Any c n (gates.Taken gate) v w
-  IsHeldUp (refusals.Held word) v w = ⊥
   IsHeldUp (refusals.Busy caller status) v w = (closed : CallerState) × HasClosedBy c n closing v closed × Looks Any c n (looks.Busy caller status) closed w
-  IsHeldUp (refusals.Again word had now) v w = ⊥
-  IsHeldUp (refusals.LogFull limit) v w = ⊥
-  IsHeldUp (refusals.ClockFull clock) v w = ⊥
-  IsHeldUp refusals.Irrevocable v w = ⊥
-  IsHeldUp (refusals.Deep limit) v w = ⊥
-  IsHeldUp (refusals.RangeTaken gate) v w = ⊥
+  IsHeldUp refusal v w = ⊥
 
   -- it was alone, a range was out already, and the gate was reopened
   abbrev pub FindsTaken : ℕ → ℕ → ℕ → CallerState → CallerState → Type 0
@@ -45,16 +38,10 @@ module _ (c : Config) (n : ℕ) (closing : Bool) where
 
   -- the same of the call that takes words
   abbrev pub IsTakeRefused : ℕ → ℕ → Refusal → CallerState → CallerState → Type 0
-  IsTakeRefused from count (refusals.Conflict cause) v w = ⊥
   IsTakeRefused from count (refusals.GateClosed gate) v w = IsHeldUp (refusals.GateClosed gate) v w
-  IsTakeRefused from count (refusals.Held word) v w = ⊥
   IsTakeRefused from count (refusals.Busy caller status) v w = IsHeldUp (refusals.Busy caller status) v w
-  IsTakeRefused from count (refusals.Again word had now) v w = ⊥
-  IsTakeRefused from count (refusals.LogFull limit) v w = ⊥
-  IsTakeRefused from count (refusals.ClockFull clock) v w = ⊥
-  IsTakeRefused from count refusals.Irrevocable v w = ⊥
-  IsTakeRefused from count (refusals.Deep limit) v w = ⊥
   IsTakeRefused from count (refusals.RangeTaken gate) v w = FindsTaken from count gate v w
+  IsTakeRefused from count refusal v w = ⊥
 
   -- it was alone, the clock was found at its limit, and the gate was reopened
   abbrev pub FindsClockFull : ℕ → CallerState → CallerState → Type 0

@@ -1,9 +1,10 @@
 -- What contracts say of a caller with its memory.
-use Rattle.std.specs.Prelude.{ℕ, Bool, not, ◌≡◌, ◌==◌, ◌&&◌}
+use Rattle.std.specs.Prelude.{ℕ, Bool, true, not, ◌≡◌, ◌==◌, ◌&&◌}
 use Rattle.std.specs.Arc.{arc_value}
+use Rattle.stm_model.specs.declared.alg.Alg.{Alg}
 use Rattle.stm_model.specs.declared.config.Config.{Config}
 use Rattle.stm_rule.specs.Callers.{IsSameCaller}
-use Rattle.stm_tx.specs.Descs.{known, number}
+use Rattle.stm_tx.specs.Descs.{Serves, known, number}
 use Rattle.tx_answers.specs.CallerState.{CallerState}
 use Rattle.tx_checked.specs.declared.checked_caller.CheckedCaller.{CheckedCaller}
 
@@ -19,6 +20,10 @@ known_to m = known m.desc
 -- a range was out of the transactions as its attempt began
 abbrev pub is_beside : CallerState → Bool
 is_beside v = v.running && not (v.fence == 0)
+
+-- who takes attempts for such ones serves its attempt, if it is in one
+abbrev pub IsServed : (Alg → Bool → Alg × Bool) → CallerState → Type 0
+IsServed acts_as v = v.running ≡ true → Serves acts_as v
 
 -- the same caller of the same memory
 pub record IsSameCheckedCaller (m n : CheckedCaller) : Type 0 where

@@ -36,15 +36,12 @@ after_wait c = record c { waits = next c.waits }
 -- a full clock, marks that stand, and what can't be taken back or is out are not counted
 abbrev pub after_refusal : Refusal → Counts → Counts
 after_refusal (refusals.Conflict cause) c = after_conflict cause c
-after_refusal (refusals.GateClosed gate) c = after_wait c
-after_refusal (refusals.Held word) c = after_wait c
-after_refusal (refusals.Busy caller status) c = after_wait c
-after_refusal (refusals.Again word had now) c = after_wait c
 after_refusal (refusals.LogFull limit) c = record c { full_logs = next c.full_logs }
 after_refusal (refusals.ClockFull clock) c = c
 after_refusal refusals.Irrevocable c = c
 after_refusal (refusals.Deep limit) c = c
 after_refusal (refusals.RangeTaken gate) c = c
+after_refusal refusal c = after_wait c
 
 abbrev pub after_begin : Begin → Counts → Counts
 after_begin (begins.Begun alg) c = record c { begun = next c.begun }

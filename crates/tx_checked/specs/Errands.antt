@@ -36,13 +36,5 @@ is_closing (Closing errand) = true
 
 -- where a caller stands whose call was refused so: only at Busy it keeps the gate closed
 abbrev pub phase_after : Errand → Refusal → CallerPhase
-phase_after errand (refusals.Conflict cause) = Idle
-phase_after errand (refusals.GateClosed gate) = Idle
-phase_after errand (refusals.Held word) = Idle
 phase_after errand (refusals.Busy caller status) = Closing errand
-phase_after errand (refusals.Again word had now) = Idle
-phase_after errand (refusals.LogFull limit) = Idle
-phase_after errand (refusals.ClockFull clock) = Idle
-phase_after errand refusals.Irrevocable = Idle
-phase_after errand (refusals.Deep limit) = Idle
-phase_after errand (refusals.RangeTaken gate) = Idle
+phase_after errand refusal = Idle

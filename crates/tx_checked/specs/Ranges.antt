@@ -65,7 +65,10 @@ pub record IsLeft (e : Refusal) (s : CallerPhase) (m n : CheckedCaller) : Type 0
   pub counts : n.counts ≡ after_refusal e m.counts
 
 abbrev pub HasTaken : ℕ → ℕ → CheckedCaller → CheckedCaller → Result (Unit {0}) Refusal → Type 0
-HasTaken from count m n (Ok r) = TakesOut (config_of m) from count (known_to m) (known_to n) × GrowsBeside (known_to m) (known_to n) × ((known_to n).made ≡ (known_to m).made) × (n.phase ≡ Idle) × (n.range ≡ Some (record { from = from; count = count })) × (n.refusal ≡ m.refusal) × (n.counts ≡ m.counts)
+HasTaken from count m n (Ok r) =
+    TakesOut (config_of m) from count (known_to m) (known_to n) × GrowsBeside (known_to m) (known_to n)
+    × ((known_to n).made ≡ (known_to m).made) × (n.phase ≡ Idle) × (n.range ≡ Some (record { from = from; count = count }))
+    × (n.refusal ≡ m.refusal) × (n.counts ≡ m.counts)
 HasTaken from count m n (Err e) = IsLeft e (phase_after (errands.Take from count) e) m n × IsTakeRefused (config_of m) (number_of m) (is_closing m.phase) from count e (known_to m) (known_to n)
 
 abbrev pub range_after : Give → Option Range → Option Range
@@ -79,7 +82,10 @@ give_refusal gives.Unchanged old = old
 give_refusal (gives.ClockFull clock) old = Some (refusals.ClockFull clock)
 
 abbrev pub HasGiven : CheckedCaller → CheckedCaller → Result Give Refusal → Type 0
-HasGiven m n (Ok r) = GivesBack (config_of m) (number_of m) r (known_to m) (known_to n) × FindsFullAt (config_of m) (number_of m) (is_closing m.phase) r (known_to m) (known_to n) × GrowsBeside (known_to m) (known_to n) × (n.phase ≡ Idle) × (n.range ≡ range_after r m.range) × (n.refusal ≡ give_refusal r m.refusal) × (n.counts ≡ m.counts)
+HasGiven m n (Ok r) =
+    GivesBack (config_of m) (number_of m) r (known_to m) (known_to n)
+    × FindsFullAt (config_of m) (number_of m) (is_closing m.phase) r (known_to m) (known_to n) × GrowsBeside (known_to m) (known_to n)
+    × (n.phase ≡ Idle) × (n.range ≡ range_after r m.range) × (n.refusal ≡ give_refusal r m.refusal) × (n.counts ≡ m.counts)
 HasGiven m n (Err e) = IsLeft e (phase_after errands.Give e) m n × IsHeldUp (config_of m) (number_of m) (is_closing m.phase) e (known_to m) (known_to n)
 
 abbrev pub HasReadDirect : ℕ → CheckedCaller → CheckedCaller → ℕ → Type 0

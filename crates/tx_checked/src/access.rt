@@ -1,5 +1,6 @@
 //! The reads and writes of an attempt, for a caller with its memory.
 ghost use Rattle.std.specs.Prelude.{◌≡◌};
+ghost use Rattle.tx_checked.specs.CheckedCallers.{IsServed, known_to};
 ghost use Rattle.tx_checked.specs.Misuses.{access};
 ghost use Rattle.tx_checked.specs.Tells.{Tells, HasReadWord, HasWrittenWord};
 
@@ -8,16 +9,28 @@ use crate::misuse::Misuse;
 use crate::phase::CallerPhase;
 use crate::refusal::Refusal;
 use stm_tx::calls;
+use stm_tx::serving::{AnyAlgorithm, Calls};
 use tx_answers::answers::{Read, Write};
 
 impl CheckedCaller {
     /// Reads the word at `a`, as `stm_tx::calls::read` does.
     #[inline(always)]
     pub fn read(&mut self, a: usize) -> Result<Read, Misuse>
-        ensures { Tells (access a self.old) (HasReadWord a self.old self.new) self.old self.new result }
+        ensures { Tells (access a self.old) (HasReadWord a self.old self.new) self.old self.new
+            result }
+    {
+        self.read_by(&AnyAlgorithm, a)
+    }
+
+    /// The same by calls that serve the attempt's algorithm.
+    #[inline(always)]
+    pub fn read_by<C: Calls>(&mut self, calls: &C, a: usize) -> Result<Read, Misuse>
+        requires served { IsServed C.acts_as (known_to self.old) }
+        ensures { Tells (access a self.old) (HasReadWord a self.old self.new) self.old self.new
+            result }
     {
         self.may_access(a)?;
-        match calls::read(&mut self.desc, &self.stm, a) {
+        match calls.read(&mut self.desc, &self.stm, a) {
             Read::Value(word) => Ok(Read::Value(word)),
             Read::Conflict(cause) => {
                 self.phase = CallerPhase::Idle;
@@ -39,7 +52,8 @@ impl CheckedCaller {
     /// Writes `x` to the word at `a`, as `stm_tx::calls::write` does.
     #[inline(always)]
     pub fn write(&mut self, a: usize, x: u64) -> Result<Write, Misuse>
-        ensures { Tells (access a self.old) (HasWrittenWord a x self.old self.new) self.old self.new result }
+        ensures { Tells (access a self.old) (HasWrittenWord a x self.old self.new) self.old self.new
+            result }
     {
         self.may_access(a)?;
         match calls::write(&mut self.desc, &self.stm, a, x) {

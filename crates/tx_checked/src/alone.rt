@@ -35,8 +35,10 @@ pub(crate) fn close_alone(
     ensures installs { (known desc.new).installs ≡ (known desc.old).installs }
     ensures closed { OnOk result (HoldsClosed (known desc.new)) }
     ensures quiet { OnOk result (SeesQuiet Any stm.now.config (number desc.old) (known desc.new)) }
-    ensures alone { OnOk result (IsAlone stm.now.config (number desc.old) closing (known desc.old) (known desc.new)) }
-    ensures held_up { IfErr result (λ e. IsHeldUp stm.now.config (number desc.old) closing e (known desc.old) (known desc.new)) }
+    ensures alone { OnOk result
+        (IsAlone stm.now.config (number desc.old) closing (known desc.old) (known desc.new)) }
+    ensures held_up { IfErr result (λ e.
+        IsHeldUp stm.now.config (number desc.old) closing e (known desc.old) (known desc.new)) }
 {
     close(desc, stm, closing)?;
     match look(desc, stm) {
@@ -56,8 +58,10 @@ fn close(desc: &mut Desc<AnyMem>, stm: &Stm<AnyMem>, closing: bool) -> Result<()
     ensures rises { (known desc.new).rises ≡ (known desc.old).rises }
     ensures installs { (known desc.new).installs ≡ (known desc.old).installs }
     ensures closed { OnOk result (HoldsClosed (known desc.new)) }
-    ensures by { OnOk result (HasClosedBy stm.now.config (number desc.old) closing (known desc.old) (known desc.new)) }
-    ensures held_up { IfErr result (λ e. IsHeldUp stm.now.config (number desc.old) closing e (known desc.old) (known desc.new)) }
+    ensures by { OnOk result
+        (HasClosedBy stm.now.config (number desc.old) closing (known desc.old) (known desc.new)) }
+    ensures held_up { IfErr result (λ e.
+        IsHeldUp stm.now.config (number desc.old) closing e (known desc.old) (known desc.new)) }
 {
     if closing {
         return Ok(());

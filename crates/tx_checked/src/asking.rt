@@ -1,5 +1,5 @@
 //! What a caller with its memory is asked, and how its logs are made longer.
-ghost use Rattle.std.specs.Prelude.{◌≡◌, ◌&&◌};
+ghost use Rattle.std.specs.Prelude.{◌≡◌, ◌&&◌, true};
 ghost use Rattle.tx_answers.specs.CallerState.{is_irrevocable, state_of};
 ghost use Rattle.tx_checked.specs.CheckedCallers.{is_beside, known_to};
 ghost use Rattle.tx_checked.specs.Misuses.{reserving};
@@ -8,6 +8,7 @@ ghost use Rattle.tx_checked.specs.Tells.{Tells, HasReserved};
 use crate::checked_caller::CheckedCaller;
 use crate::misuse::Misuse;
 use std::alloc::Global;
+use stm_model::alg::Alg;
 use stm_model::config::MAX_LOG;
 use stm_model::memory::Memory;
 use stm_tx::calls;
@@ -20,6 +21,14 @@ impl CheckedCaller {
         ensures { result ≡ state_of (known_to self.now) }
     {
         calls::state(&self.desc)
+    }
+
+    /// The algorithm of its attempt. Where it is in none, that of its last.
+    #[inline]
+    pub fn algorithm(&self) -> Alg
+        ensures { (known_to self.now).running ≡ true → (known_to self.now).alg ≡ result }
+    {
+        self.desc.local.algorithm
     }
 
     /// Whether its attempt can only be committed.
@@ -46,7 +55,8 @@ impl CheckedCaller {
         reads: usize,
         writes: usize,
     ) -> Result<Result<(), Memory>, Misuse>
-        ensures { Tells (reserving reads writes self.old) (HasReserved reads writes self.old self.new) self.old self.new result }
+        ensures { Tells (reserving reads writes self.old)
+            (HasReserved reads writes self.old self.new) self.old self.new result }
     {
         self.is_outside()?;
         if reads < 1 || reads > MAX_LOG || writes < 1 || writes > MAX_LOG {

@@ -3,10 +3,10 @@ ghost use Rattle.std.specs.Prelude.{◌≡◌, true, false, OnOk, OnErr, IfErr};
 ghost use Rattle.stm_rule.specs.Callers.{IsOf, IsSameCaller};
 ghost use Rattle.stm_tx.specs.Descs.{known, number};
 ghost use Rattle.tx_answers.specs.Answers.{HoldsClosed};
-ghost use Rattle.tx_answers.specs.CallerState.{Grows, IsIdle, IsRunning};
+ghost use Rattle.tx_answers.specs.CallerState.{Grows, IsIdle};
 ghost use Rattle.tx_checked.specs.Alone.{IsHeldUp};
 ghost use Rattle.tx_checked.specs.declared.errand.Errand.TheVariants.{Switch};
-ghost use Rattle.tx_checked.specs.Phases.{IsInPhase};
+ghost use Rattle.tx_checked.specs.CheckedCallers.{IsServed, known_to};
 ghost use Rattle.tx_checked.specs.Misuses.{outside, doing, reopening, inside, running};
 ghost use Rattle.tx_checked.specs.Tells.{Tells, HasBegun, HasCommitted, HasCancelled, IsIrrevocable, Switches, HasSwitched, HasReopened};
 
@@ -23,18 +23,8 @@ use stm_rule::stm::Stm;
 use stm_tx::calls;
 use stm_tx::fencing::fence_seen;
 use stm_tx::gate::{install, reopen};
+use stm_tx::serving::{AnyAlgorithm, Calls};
 use tx_answers::answers::{Begin, Cancel, Commit, Irrev};
-
-/// Where a caller stands whose attempt has begun.
-fn phase_of(desc: &Desc<AnyMem>) -> CallerPhase
-    requires runs { IsRunning (known desc.now) }
-    ensures { IsInPhase result (known desc.now) }
-{
-    match fence_seen(desc) {
-        None => CallerPhase::Running,
-        Some(_) => CallerPhase::Beside,
-    }
-}
 
 impl CheckedCaller {
     /// Tries to begin an attempt, as `stm_tx::calls::try_begin` does.
@@ -44,9 +34,17 @@ impl CheckedCaller {
         self.is_outside()?;
         match calls::try_begin(&mut self.desc, &self.stm) {
             Begin::Begun(alg) => {
-                self.phase = phase_of(&self.desc);
-                self.reach = self.phase.reach(self.stm.config.words);
                 self.counts.begun = self.counts.begun.wrapping_add(1);
+                match fence_seen(&self.desc) {
+                    None => {
+                        self.phase = CallerPhase::Running;
+                        self.reach = self.stm.config.words;
+                    }
+                    Some(_) => {
+                        self.phase = CallerPhase::Beside;
+                        self.reach = 0;
+                    }
+                }
                 Ok(Begin::Begun(alg))
             }
             Begin::Closed { gate } => {
@@ -68,10 +66,21 @@ impl CheckedCaller {
 
     /// Commits the attempt, as `stm_tx::calls::commit` does.
     pub fn commit(&mut self) -> Result<Commit, Misuse>
-        ensures { Tells (inside self.old) (HasCommitted self.old self.new) self.old self.new result }
+        ensures { Tells (inside self.old) (HasCommitted self.old self.new) self.old self.new
+            result }
+    {
+        self.commit_by(&AnyAlgorithm)
+    }
+
+    /// The same by calls that serve the attempt's algorithm.
+    #[inline(always)]
+    pub fn commit_by<C: Calls>(&mut self, calls: &C) -> Result<Commit, Misuse>
+        requires served { IsServed C.acts_as (known_to self.old) }
+        ensures { Tells (inside self.old) (HasCommitted self.old self.new) self.old self.new
+            result }
     {
         self.is_inside()?;
-        match calls::commit(&mut self.desc, &self.stm) {
+        match calls.commit(&mut self.desc, &self.stm) {
             Commit::Committed { time } => {
                 self.phase = CallerPhase::Idle;
                 self.reach = 0;
@@ -109,7 +118,8 @@ impl CheckedCaller {
 
     /// Cancels the attempt, as `stm_tx::calls::cancel` does.
     pub fn cancel(&mut self) -> Result<Cancel, Misuse>
-        ensures { Tells (inside self.old) (HasCancelled self.old self.new) self.old self.new result }
+        ensures { Tells (inside self.old) (HasCancelled self.old self.new) self.old self.new
+            result }
     {
         self.is_inside()?;
         match calls::cancel(&mut self.desc, &self.stm) {
@@ -127,7 +137,8 @@ impl CheckedCaller {
 
     /// Tries to make the attempt irrevocable, as `stm_tx::calls::try_irrevocable` does.
     pub fn try_irrevocable(&mut self) -> Result<Irrev, Misuse>
-        ensures { Tells (running self.old) (IsIrrevocable self.old self.new) self.old self.new result }
+        ensures { Tells (running self.old) (IsIrrevocable self.old self.new) self.old self.new
+            result }
     {
         self.is_running()?;
         match calls::try_irrevocable(&mut self.desc, &self.stm) {
@@ -164,7 +175,8 @@ impl CheckedCaller {
     /// Installs an algorithm, once no other caller is in an attempt. `Busy` leaves the gate closed: the same call goes on
     /// from there, and `reopen` gives it up.
     pub fn switch(&mut self, alg: Alg) -> Result<Result<(), Refusal>, Misuse>
-        ensures { Tells (doing (Switch alg) self.old) (HasSwitched alg self.old self.new) self.old self.new result }
+        ensures { Tells (doing (Switch alg) self.old) (HasSwitched alg self.old self.new) self.old
+            self.new result }
     {
         let closing = self.may_do(Errand::Switch(alg))?;
         match install_alone(&mut self.desc, &self.stm, closing, alg) {
@@ -185,7 +197,8 @@ impl CheckedCaller {
 
     /// Gives up the call for which the caller has closed the gate: the gate is open again.
     pub fn reopen(&mut self) -> Result<(), Misuse>
-        ensures { Tells (reopening self.old) (HasReopened self.old self.new) self.old self.new result }
+        ensures { Tells (reopening self.old) (HasReopened self.old self.new) self.old self.new
+            result }
     {
         self.is_closing()?;
         reopen(&mut self.desc, &self.stm);
@@ -212,7 +225,8 @@ fn install_alone(
     ensures made { (known desc.new).made ≡ (known desc.old).made }
     ensures rises { OnErr result ((known desc.new).rises ≡ (known desc.old).rises) }
     ensures installs { OnErr result ((known desc.new).installs ≡ (known desc.old).installs) }
-    ensures held_up { IfErr result (λ e. IsHeldUp stm.now.config (number desc.old) closing e (known desc.old) (known desc.new)) }
+    ensures held_up { IfErr result (λ e.
+        IsHeldUp stm.now.config (number desc.old) closing e (known desc.old) (known desc.new)) }
 {
     close_alone(desc, stm, closing)?;
     install(desc, stm, alg);

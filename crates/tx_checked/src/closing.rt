@@ -29,7 +29,8 @@ fn copy_out(desc: &mut Desc<AnyMem>, stm: &Stm<AnyMem>, words: &mut [u64])
     requires stm { IsOf desc.old stm.now }
     requires idle { IsIdle (known desc.old) }
     requires held { (known desc.old).fenced.held ≡ true }
-    requires all { (a : ℕ) → a < stm.now.config.words → fenced (known desc.old).fenced.number a ≡ true }
+    requires all { (a : ℕ) → a < stm.now.config.words
+        → fenced (known desc.old).fenced.number a ≡ true }
     requires unchanged { (known desc.old).fenced.log.writes ≡ [] }
     requires room { stm.now.config.words ≤ length words.old }
     ensures same { IsSameCaller desc.old desc.new }
@@ -38,8 +39,11 @@ fn copy_out(desc: &mut Desc<AnyMem>, stm: &Stm<AnyMem>, words: &mut [u64])
     ensures seen { (known desc.new).fenced.seen ≡ (known desc.old).fenced.seen }
     ensures grew { GrowsBeside (known desc.old) (known desc.new) }
     ensures made { (known desc.new).made ≡ (known desc.old).made }
-    ensures beyond { (a : ℕ) → stm.now.config.words ≤ a → slice_index words.new a ≡ slice_index words.old a }
-    ensures words { (a : ℕ) → a < stm.now.config.words → slice_index words.new a ≡ slice_index (memory_after (known desc.old).fenced.seen (zeros stm.now.config.words)) a }
+    ensures beyond { (a : ℕ) → stm.now.config.words ≤ a
+        → slice_index words.new a ≡ slice_index words.old a }
+    ensures words { (a : ℕ) → a < stm.now.config.words
+        → slice_index words.new a
+        ≡ slice_index (memory_after (known desc.old).fenced.seen (zeros stm.now.config.words)) a }
 {
     for a in 0..stm.config.words {
         words[a] = direct_read(desc, stm, a);
@@ -51,7 +55,8 @@ impl CheckedCaller {
     /// and hands them out: they are the memory after all that was committed. No attempt reads or writes a word from then
     /// on. `Busy` leaves the gate closed: the call goes on from there, and `reopen` gives it up.
     pub fn end(&mut self, words: &mut [u64]) -> Result<Result<(), Refusal>, Misuse>
-        ensures tells { Tells (ending (length words.old) self.old) (HasEnded self.old self.new words.old words.new) self.old self.new result }
+        ensures tells { Tells (ending (length words.old) self.old)
+            (HasEnded self.old self.new words.old words.new) self.old self.new result }
         ensures misuse { IfErr result (λ _. words.new ≡ words.old) }
     {
         let closing = self.may_end(words.len())?;

@@ -12,7 +12,8 @@ impl CheckedCaller {
     /// its own. What it finds there is a note of its memory. Where it finds none, the answer is `Misuse::Stranger`: the
     /// two are not of one memory.
     pub fn learn(&mut self, from: &mut CheckedCaller) -> Result<(), Misuse>
-        ensures tells { TellsSameMemory (meeting self.old from.old) (HasLearned self.old self.new) self.old self.new result }
+        ensures tells { TellsSameMemory (meeting self.old from.old) (HasLearned self.old self.new)
+            self.old self.new result }
         ensures from { IsAsked (meeting self.old from.old) from.old from.new }
     {
         self.is_outside()?;

@@ -43,7 +43,8 @@ impl CheckedCaller {
 
     /// Rolls the attempt back to mark `depth`, as `stm_tx::nesting::roll_to` does.
     pub fn roll_to(&mut self, depth: usize) -> Result<Roll, Misuse>
-        ensures { Tells (at_mark depth self.old) (HasRolled depth self.old self.new) self.old self.new result }
+        ensures { Tells (at_mark depth self.old) (HasRolled depth self.old self.new) self.old
+            self.new result }
     {
         self.is_at_mark(depth)?;
         match nesting::roll_to(&mut self.desc, &self.stm, depth) {
@@ -57,7 +58,8 @@ impl CheckedCaller {
 
     /// Drops the marks from `depth` on, as `stm_tx::nesting::release` does.
     pub fn drop_marks(&mut self, depth: usize) -> Result<(), Misuse>
-        ensures { Tells (at_mark depth self.old) (HasDropped depth self.old self.new) self.old self.new result }
+        ensures { Tells (at_mark depth self.old) (HasDropped depth self.old self.new) self.old
+            self.new result }
     {
         self.is_at_mark(depth)?;
         nesting::release(&mut self.desc, depth);

@@ -90,7 +90,8 @@ impl NoteExchange {
         requires wanted { wanted ≢ 1 }
         ensures table { IfSome result (λ s. s.table_id ≡ self.now.table.shared.table_id) }
         ensures key { IfSome result (λ s. s.me.0 ≡ self.now.table.shared.key) }
-        ensures out { IfSome result (λ s. (x : Option (Handle AnyMem)) × (s.me.1 ≡ (place, x) ∷ []) × IsOurs s.me.0 x) }
+        ensures out { IfSome result (λ s.
+            (x : Option (Handle AnyMem)) × (s.me.1 ≡ (place, x) ∷ []) × IsOurs s.me.0 x) }
     {
         let (_, mut seat) = self.table.shared.load_new_seat::<Enter>(place);
         let found = self

@@ -75,7 +75,8 @@ fn install_first(
     requires opened { AllOpened stm.now 0 descs.old.items }
     requires some { 0 < length descs.old.items }
     ensures fresh { OnOk result (AreFresh stm.now alg descs.new.items) }
-    ensures hindered { IfErr result (λ e. (1 < stm.now.config.callers) × IsOpenHindered stm.now.config e) }
+    ensures hindered { IfErr result (λ e.
+        (1 < stm.now.config.callers) × IsOpenHindered stm.now.config e) }
     ensures count { length descs.new.items ≡ length descs.old.items }
 {
     switch_at_one_look(&mut descs[0], stm, alg)
@@ -88,10 +89,12 @@ fn enlist(
     note_exchange: &Arc<NoteExchange, Global>,
     descs: Vec<Desc<AnyMem>>,
 ) -> Result<Vec<CheckedCaller>, Memory>
-    requires note_exchange { IsOf (arc_value note_exchange.now).table.shared.key (arc_value stm.now) }
+    requires note_exchange { IsOf (arc_value note_exchange.now).table.shared.key
+        (arc_value stm.now) }
     requires ready { All (IsReady (arc_value stm.now)) descs.items }
     ensures descs { IfOk result (λ checked_callers. descs_in checked_callers.items ≡ descs.items) }
-    ensures unused { IfOk result (λ checked_callers. All (IsUnused (arc_value stm.now).config) checked_callers.items) }
+    ensures unused { IfOk result (λ checked_callers.
+        All (IsUnused (arc_value stm.now).config) checked_callers.items) }
 {
     let mut checked_callers = Vec::with_capacity(alloc, descs.len())?;
     for desc in descs {

@@ -45,11 +45,14 @@ pub(crate) fn take_out(
     ensures idle { OnOk result (IsIdle (known desc.new)) }
     ensures grew { OnOk result (GrowsBeside (known desc.old) (known desc.new)) }
     ensures made { (known desc.new).made ≡ (known desc.old).made }
-    ensures taken { OnOk result (TakesOut stm.now.config from count (known desc.old) (known desc.new)) }
+    ensures taken { OnOk result
+        (TakesOut stm.now.config from count (known desc.old) (known desc.new)) }
     ensures kept { OnErr result (Grows (known desc.old) (known desc.new)) }
     ensures rises { OnErr result ((known desc.new).rises ≡ (known desc.old).rises) }
     ensures installs { OnErr result ((known desc.new).installs ≡ (known desc.old).installs) }
-    ensures refused { IfErr result (λ e. IsTakeRefused stm.now.config (number desc.old) closing from count e (known desc.old) (known desc.new)) }
+    ensures refused { IfErr result (λ e.
+        IsTakeRefused stm.now.config (number desc.old) closing from count e (known desc.old)
+        (known desc.new)) }
 {
     close_alone(desc, stm, closing)?;
     let answer = fencing::fence(desc, stm, from, count);
@@ -65,7 +68,8 @@ impl CheckedCaller {
     /// attempt and where no range is out. `Busy` leaves the gate closed: the same call goes on from there, and `reopen`
     /// gives it up.
     pub fn fence(&mut self, from: usize, count: usize) -> Result<Result<(), Refusal>, Misuse>
-        ensures { Tells (taking from count self.old) (HasTaken from count self.old self.new) self.old self.new result }
+        ensures { Tells (taking from count self.old) (HasTaken from count self.old self.new)
+            self.old self.new result }
     {
         let errand = Errand::Take { from, count };
         let closing = self.may_take(errand, from, count)?;
@@ -148,7 +152,8 @@ impl CheckedCaller {
 
     /// Reads the word at `a` of its range, as `stm_tx::fencing::direct_read` does.
     pub fn direct_read(&mut self, a: usize) -> Result<u64, Misuse>
-        ensures { Tells (in_range a self.old) (HasReadDirect a self.old self.new) self.old self.new result }
+        ensures { Tells (in_range a self.old) (HasReadDirect a self.old self.new) self.old self.new
+            result }
     {
         self.range_of(a)?;
         Ok(fencing::direct_read(&mut self.desc, &self.stm, a))
@@ -156,7 +161,8 @@ impl CheckedCaller {
 
     /// Writes `x` to the word at `a` of its range, as `stm_tx::fencing::direct_write` does.
     pub fn direct_write(&mut self, a: usize, x: u64) -> Result<(), Misuse>
-        ensures { Tells (in_range a self.old) (HasWrittenDirect a x self.old self.new) self.old self.new result }
+        ensures { Tells (in_range a self.old) (HasWrittenDirect a x self.old self.new) self.old
+            self.new result }
     {
         self.range_of(a)?;
         fencing::direct_write(&mut self.desc, &self.stm, a, x);
@@ -210,13 +216,16 @@ fn put_back(desc: &mut Desc<AnyMem>, stm: &Stm<AnyMem>, closing: bool) -> Result
     ensures same { IsSameCaller desc.old desc.new }
     ensures idle { OnOk result (IsIdle (known desc.new)) }
     ensures grew { OnOk result (GrowsBeside (known desc.old) (known desc.new)) }
-    ensures given { IfOk result (λ r. GivesBack stm.now.config (number desc.old) r (known desc.old) (known desc.new)) }
-    ensures full { IfOk result (λ r. FindsFullAt stm.now.config (number desc.old) closing r (known desc.old) (known desc.new)) }
+    ensures given { IfOk result (λ r.
+        GivesBack stm.now.config (number desc.old) r (known desc.old) (known desc.new)) }
+    ensures full { IfOk result (λ r.
+        FindsFullAt stm.now.config (number desc.old) closing r (known desc.old) (known desc.new)) }
     ensures kept { OnErr result (Grows (known desc.old) (known desc.new)) }
     ensures made { OnErr result ((known desc.new).made ≡ (known desc.old).made) }
     ensures rises { OnErr result ((known desc.new).rises ≡ (known desc.old).rises) }
     ensures installs { OnErr result ((known desc.new).installs ≡ (known desc.old).installs) }
-    ensures held_up { IfErr result (λ e. IsHeldUp stm.now.config (number desc.old) closing e (known desc.old) (known desc.new)) }
+    ensures held_up { IfErr result (λ e.
+        IsHeldUp stm.now.config (number desc.old) closing e (known desc.old) (known desc.new)) }
 {
     close_alone(desc, stm, closing)?;
     let answer = fencing::give_back(desc, stm);

@@ -74,7 +74,8 @@ module _ (good : List ℕ → Type 0) (words : ℕ) (l : Log) where
       }
 
   -- what is true of the memory after the effect holds under the log after it
-  pub under-after : {A : Type 0} (effect : List ℕ → Effect A) (k : Log) (good' : List ℕ → Type 0) (words' : ℕ) (v : A) (P R : List ℕ → Type 0) → DoesOver good words effect l v k → Under good words l P → SameMemories good good' → words' ≡ words
+  pub under-after : {A : Type 0} (effect : List ℕ → Effect A) (k : Log) (good' : List ℕ → Type 0) (words' : ℕ) (v : A)
+      (P R : List ℕ → Type 0) → DoesOver good words effect l v k → Under good words l P → SameMemories good good' → words' ≡ words
       → ((m : List ℕ) → length m ≡ words → P m → R (effect m).memory) → Under good' words' k R
   under-after effect k good' words' v P R does under same w then = λ m g len ex.
       let fine = (same m).1 g in
@@ -101,7 +102,8 @@ turns-then l k j f g s t = record {
 }
 
 -- what was shown so far, as a fact about the log now
-pub under-now : (good : List ℕ → Type 0) (words : ℕ) (l k : Log) (good' : List ℕ → Type 0) (words' : ℕ) (P Q : List ℕ → Type 0) → Under good words l P → Shows good words l k Q → k.writes ≡ l.writes → SameMemories good good' → words' ≡ words
+pub under-now : (good : List ℕ → Type 0) (words : ℕ) (l k : Log) (good' : List ℕ → Type 0) (words' : ℕ) (P Q : List ℕ → Type 0)
+    → Under good words l P → Shows good words l k Q → k.writes ≡ l.writes → SameMemories good good' → words' ≡ words
     → Under good' words' k (λ m. P m × Q m)
 under-now good words l k good' words' P Q u h ws same w = λ m g len ex.
     let s = h m ((same m).1 g) (len ∙ w) ex in

@@ -1,5 +1,5 @@
 -- Laws for who writes a transaction under a rule: from what an attempt's log shows to what the transaction promises.
-use Rattle.std.proofs.Common.{ℕ, ◌≡◌, ◌∙◌, List, [], length, refl, sym, ap, subst}
+use Rattle.std.proofs.Common.{ℕ, ◌≡◌, List, [], length, sym, ap, subst}
 use Rattle.stm_model.specs.Logs.{Log, SameMemories, Keeps}
 use Rattle.stm_model.specs.Memories.{AreWords, overlay}
 use Rattle.tx_effects.specs.Effects.{Effect, DoesOver, Under}
@@ -13,7 +13,9 @@ abbrev pub IsSound : (List ℕ → Type 0) → ℕ → List ℕ → Type 0
 IsSound rule words m = rule m × (length m ≡ words)
 
 -- an effect that leads from memories of words under the rule to memories under the rule keeps it
-pub keeps-by : {A : Type 0} (rule : List ℕ → Type 0) (words : ℕ) (effect : List ℕ → Effect A) (reply : A) (k : Log) → DoesOver rule words effect nothing reply k → ((m : List ℕ) → IsSound rule words m → AreWords m → rule (effect m).memory) → Keeps rule words k
+pub keeps-by : {A : Type 0} (rule : List ℕ → Type 0) (words : ℕ) (effect : List ℕ → Effect A) (reply : A) (k : Log)
+    → DoesOver rule words effect nothing reply k → ((m : List ℕ) → IsSound rule words m → AreWords m → rule (effect m).memory)
+    → Keeps rule words k
 keeps-by rule words effect reply k does keeps = λ m g len ex small. subst rule (sym (does m g len ex).left) (keeps m (g, len) small)
 
 -- an attempt that only read keeps every rule

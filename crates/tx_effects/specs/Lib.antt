@@ -1,4 +1,5 @@
 pub mod Effects
+pub mod Accesses
 pub mod EffectLaws
 pub mod FreshLaws
 pub mod Keys

@@ -1,7 +1,7 @@
 //! The free one among cells of words, over any access.
 ghost use Rattle.std.specs.Prelude.{◌≡◌, ◌<◌, None, Some, IfOk, OnOk, IfErr, IfSome};
-ghost use Rattle.stm_model.specs.Logs.{SameMemories, IsExplained, IsReadStop};
-ghost use Rattle.tx_effects.specs.Effects.{Shows};
+ghost use Rattle.stm_model.specs.Logs.{SameMemories, IsReadStop};
+ghost use Rattle.tx_effects.specs.Accesses.{ExplainedFor, ShowsFor};
 ghost use Rattle.tx_effects.specs.Keys.{free_from};
 ghost use Rattle.tx_effects.specs.Tags.{CellsFit, tag};
 
@@ -25,11 +25,12 @@ impl Cells {
     pub fn free_cell<A: Access>(&self, acc: &mut A) -> Result<Option<usize>, Stop>
         requires going { A.stopped acc.old ≡ None }
         requires within { CellsFit self.now (A.words acc.old) }
-        requires explained { IsExplained (A.good acc.old) (A.words acc.old) (A.log acc.old) }
-        ensures frees { IfOk result (λ o. Shows (A.good acc.old) (A.words acc.old) (A.log acc.old) (A.log acc.new) (λ m. o ≡ free_from (tag self.now m) 0 self.now.count)) }
+        requires explained { ExplainedFor A.Access acc.old }
+        ensures frees { IfOk result
+            (ShowsFor A.Access acc.old acc.new (λ m. free_from (tag self.now m) 0 self.now.count)) }
         ensures inside { IfOk result (λ o. IfSome o (λ c. c < self.now.count)) }
         ensures writes { OnOk result ((A.log acc.new).writes ≡ (A.log acc.old).writes) }
-        ensures explained { OnOk result (IsExplained (A.good acc.new) (A.words acc.new) (A.log acc.new)) }
+        ensures explained { OnOk result (ExplainedFor A.Access acc.new) }
         ensures goes { OnOk result (A.stopped acc.new ≡ None) }
         ensures stops { IfErr result (λ s. A.stopped acc.new ≡ Some s) }
         ensures cause { IfErr result IsReadStop }

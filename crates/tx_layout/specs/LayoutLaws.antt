@@ -1,7 +1,6 @@
 -- Laws of what a layout handed out.
-use Rattle.std.proofs.Common.{ℕ, zero, suc, ◌≡◌, ◌<◌, ◌≤◌, ◌+◌, List, [], ◌∷◌, length, arith}
-use Rattle.std.specs.Prelude.{slice_index_or}
-use Rattle.tx_layout.specs.Layouts.{Gives, AllGiven, given_at, AreApart, HandsOutApart}
+use Rattle.std.proofs.Common.{ℕ, zero, suc, ◌<◌, ◌≤◌, ◌+◌, List, [], ◌∷◌, length, arith}
+use Rattle.tx_layout.specs.Layouts.{AllGiven, given_at, AreApart, HandsOutApart}
 
 -- what is given later begins no earlier
 from-before : (before : ℕ) (ss : List (ℕ × ℕ)) (after i : ℕ) → AllGiven before ss after → i < length ss → before ≤ (given_at ss i).0
@@ -14,7 +13,9 @@ rises before [] after given = omega (arith, given)
 rises before (s ∷ ss) after given = let g = given.1 in let more = rises given.0 ss after given.2 in omega (arith, g, more)
 
 -- one more in front
-later : (s : ℕ × ℕ) (ss : List (ℕ × ℕ)) (i : ℕ) → ((j : ℕ) → i < j → j < length ss → (given_at ss i).0 + (given_at ss i).1 ≤ (given_at ss j).0) → (j : ℕ) → suc i < j → j < length (s ∷ ss) → (given_at ss i).0 + (given_at ss i).1 ≤ (given_at (s ∷ ss) j).0
+later : (s : ℕ × ℕ) (ss : List (ℕ × ℕ)) (i : ℕ)
+    → ((j : ℕ) → i < j → j < length ss → (given_at ss i).0 + (given_at ss i).1 ≤ (given_at ss j).0) → (j : ℕ) → suc i < j
+    → j < length (s ∷ ss) → (given_at ss i).0 + (given_at ss i).1 ≤ (given_at (s ∷ ss) j).0
 later s ss i h zero less within = absurd (omega (arith, less))
 later s ss i h (suc j) less within = h j (omega (arith, less)) (omega (arith, within))
 

@@ -27,7 +27,8 @@ impl Records {
         requires within { index < self.now.count }
         requires fits { self.now.first + self.now.count * self.now.words < 2 ^ 64 }
         ensures first { result ≡ self.now.first + index * self.now.words }
-        ensures within { result + self.now.words ≤ self.now.first + self.now.count * self.now.words }
+        ensures within { result + self.now.words
+            ≤ self.now.first + self.now.count * self.now.words }
     {
         Layout::from(self.first + index * self.words)
     }

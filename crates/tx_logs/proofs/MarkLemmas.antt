@@ -31,11 +31,13 @@ item-keep a v b (w ∷ ws) = by (w.0 == a) refl (item-keep a v b ws)
     first true e s = rw e refl
     first false e s = let f : (a == b) ≡ false = ap (λ (x : ℕ). x == b) (sym s) ∙ e in rw (e, f) (sym (or_none (item_at b ws)))
 
-    other : (t : Bool) → (w.0 == b) ≡ t → item_at b (keep a v ws) ≡ or_some (item_at b ws) (one_at a v b) → (if w.0 == b then Some w.1 else item_at b (keep a v ws)) ≡ or_some (if w.0 == b then Some w.1 else item_at b ws) (one_at a v b)
+    other : (t : Bool) → (w.0 == b) ≡ t → item_at b (keep a v ws) ≡ or_some (item_at b ws) (one_at a v b)
+        → (if w.0 == b then Some w.1 else item_at b (keep a v ws)) ≡ or_some (if w.0 == b then Some w.1 else item_at b ws) (one_at a v b)
     other true e r = rw e refl
     other false e r = rw e r
 
-    by : (t : Bool) → (w.0 == a) ≡ t → item_at b (keep a v ws) ≡ or_some (item_at b ws) (one_at a v b) → item_at b (if t then w ∷ ws else w ∷ keep a v ws) ≡ or_some (if w.0 == b then Some w.1 else item_at b ws) (one_at a v b)
+    by : (t : Bool) → (w.0 == a) ≡ t → item_at b (keep a v ws) ≡ or_some (item_at b ws) (one_at a v b)
+        → item_at b (if t then w ∷ ws else w ∷ keep a v ws) ≡ or_some (if w.0 == b then Some w.1 else item_at b ws) (one_at a v b)
     by true e r = first (w.0 == b) refl (grind (arith, nat_tests))
     by false e r = other (w.0 == b) refl r
 
@@ -73,7 +75,8 @@ at-merged lower upper ws l =
     let lo = lower.olds.items in
     let up = upper.olds.items in
     let k = lower.count in
-    let twice : map (old_or lo) (map (old_or up) ws) ≡ map (old_or (keep_all up lo)) ws = map-twice (old_or lo) (old_or up) ws ∙ map-same (λ (w : ℕ × ℕ). old_or lo (old_or up w)) (old_or (keep_all up lo)) ws (old-twice lo up) in
+    let twice : map (old_or lo) (map (old_or up) ws) ≡ map (old_or (keep_all up lo)) ws = map-twice (old_or lo) (old_or up) ws ∙ map-same
+    (λ (w : ℕ × ℕ). old_or lo (old_or up w)) (old_or (keep_all up lo)) ws (old-twice lo up) in
     sym (take-map (old_or lo) k (take upper.count (map (old_or up) ws)) ∙ (ap (map (old_or lo)) (take-take k upper.count (map (old_or up) ws) l) ∙ (sym (take-map (old_or lo) k (map (old_or up) ws)) ∙ ap (take k) twice)))
 
 -- an old value of another address changes no item
@@ -101,7 +104,9 @@ old-kept a x v olds (w ∷ ws) o h = by (w.0 == a) refl h (old-kept a x v olds w
     or_here None y = refl
     or_here (Some z) y = refl
 
-    by : (t : Bool) → (w.0 == a) ≡ t → (if t then Some w.1 else item_at a ws) ≡ Some v → (item_at a ws ≡ Some v → map (old_or (keep a v olds)) (put a x ws) ≡ map (old_or olds) ws) → map (old_or (keep a v olds)) (if t then (a, x) ∷ ws else w ∷ put a x ws) ≡ map (old_or olds) (w ∷ ws)
+    by : (t : Bool) → (w.0 == a) ≡ t → (if t then Some w.1 else item_at a ws) ≡ Some v
+        → (item_at a ws ≡ Some v → map (old_or (keep a v olds)) (put a x ws) ≡ map (old_or olds) ws)
+        → map (old_or (keep a v olds)) (if t then (a, x) ∷ ws else w ∷ put a x ws) ≡ map (old_or olds) (w ∷ ws)
     by true e f rec =
         let s : w.0 ≡ a = grind (arith, nat_tests) in
         let y : w.1 ≡ v = cc in
@@ -141,7 +146,9 @@ at-saved a x m ws o l = by (item_at a ws) refl
     by : (s : Option ℕ) → item_at a ws ≡ s → take m.count (map (old_or (keep_some s a m.olds.items)) (put a x ws)) ≡ take m.count (map (old_or m.olds.items) ws)
     by None e =
         let olds = m.olds.items in
-        ap (λ (ys : List (ℕ × ℕ)). take m.count (map (old_or olds) ys)) (put-new ws a x e) ∙ (ap (take m.count) (map-append (old_or olds) ws ((a, x) ∷ [])) ∙ take-append-le m.count (map (old_or olds) ws) (old_or olds (a, x) ∷ []) (omega (arith, length-map ws (old_or olds))))
+        ap (λ (ys : List (ℕ × ℕ)). take m.count (map (old_or olds) ys)) (put-new ws a x e)
+        ∙ (ap (take m.count) (map-append (old_or olds) ws ((a, x) ∷ []))
+        ∙ take-append-le m.count (map (old_or olds) ws) (old_or olds (a, x) ∷ []) (omega (arith, length-map ws (old_or olds))))
     by (Some v) e = ap (take m.count) (old-kept a x v m.olds.items ws o e)
 
 keep-same : (a v : ℕ) (ys : List (ℕ × ℕ)) → IsSome (item_at a ys) → keep a v ys ≡ ys
@@ -160,13 +167,16 @@ once-keep a v ys o = by (item_at a ys) refl
     by (Some x) e = subst Once (sym (keep-same a v ys (ap (λ (m : Option ℕ). is_some m) e))) o
 
 -- what is found after a value was kept was there, or is that value's
-pub some-keep : (a v b : ℕ) (ys : List (ℕ × ℕ)) (P : Option ℕ → Type 0) → IsSome (item_at b (keep a v ys)) → (IsSome (item_at b ys) → P (item_at b (keep a v ys))) → (a ≡ b → P (item_at b (keep a v ys))) → P (item_at b (keep a v ys))
+pub some-keep : (a v b : ℕ) (ys : List (ℕ × ℕ)) (P : Option ℕ → Type 0) → IsSome (item_at b (keep a v ys))
+    → (IsSome (item_at b ys) → P (item_at b (keep a v ys))) → (a ≡ b → P (item_at b (keep a v ys))) → P (item_at b (keep a v ys))
 some-keep a v b ys P h old new = by (item_at b ys) refl (a == b) refl
   where
     by : (m : Option ℕ) → item_at b ys ≡ m → (t : Bool) → (a == b) ≡ t → P (item_at b (keep a v ys))
     by (Some x) e t f = old (ap (λ (m : Option ℕ). is_some m) e)
     by None e true f = new (grind (arith, nat_tests))
-    by None e false f = absurd (let k : item_at b (keep a v ys) ≡ None = item-keep a v b ys ∙ (λ i. or_some (e i) (if f i then Some v else None)) in let n : is_some (item_at b (keep a v ys)) ≡ false = ap (λ (m : Option ℕ). is_some m) k in let z : true ≡ false = sym h ∙ n in cc)
+    by None e false f =
+        absurd (let k : item_at b (keep a v ys) ≡ None = item-keep a v b ys ∙ (λ i. or_some (e i) (if f i then Some v else None)) in
+        let n : is_some (item_at b (keep a v ys)) ≡ false = ap (λ (m : Option ℕ). is_some m) k in let z : true ≡ false = sym h ∙ n in cc)
 
 pub covers-keep : (a v : ℕ) (ws ys : List (ℕ × ℕ)) → Covers ws ys → IsSome (item_at a ws) → Covers ws (keep a v ys)
 covers-keep a v ws ys c h b k = some-keep a v b ys (λ o. IsSome (item_at b ws)) k (c b) (λ e. subst (λ (z : ℕ). IsSome (item_at z ws)) e h)
@@ -220,7 +230,9 @@ length-covered [] ys o c = omega arith
 length-covered (x ∷ xs) ys o c =
     let this : (x.0 == x.0) ≡ true = grind (arith, nat_tests) in
     let h : IsSome (item_at x.0 ys) = c x.0 (ap (λ (t : Bool). is_some (if t then Some x.1 else item_at x.0 xs)) this) in
-    let rest : Covers (less x.0 ys) xs = λ b k. (let n : b ≢ x.0 = λ e. (let f : is_some (item_at b xs) ≡ false = ap (λ (o : Option ℕ). is_some o) (subst (λ (z : ℕ). item_at z xs ≡ None) (sym e) o.0) in let z : true ≡ false = sym k ∙ f in cc) in
+    let rest : Covers (less x.0 ys) xs = λ b k. (let n : b ≢ x.0 = λ e.
+    (let f : is_some (item_at b xs) ≡ false = ap (λ (o : Option ℕ). is_some o) (subst (λ (z : ℕ). item_at z xs ≡ None) (sym e) o.0) in
+    let z : true ≡ false = sym k ∙ f in cc) in
     let other : item_at b (x ∷ xs) ≡ item_at b xs = there x b (item_at b xs) (λ e. n (sym e)) in
     subst (λ (o : Option ℕ). IsSome o) (sym (item-less x.0 b ys n)) (c b (subst (λ (o : Option ℕ). IsSome o) (sym other) k))) in
     let r = length-covered xs (less x.0 ys) o.1 rest in
@@ -235,7 +247,8 @@ room-covered a olds ws o c h n =
     omega arith
 
 -- a push of an old value is done
-pub push-kept : (r : Push) (log new : LogState) (a v : ℕ) (ws : List (ℕ × ℕ)) → Once log.items → Covers ws log.items → IsSome (item_at a ws) → length ws ≤ log.len → Pushes log a (keep a v log.items) r new → new ≡ record log { items = keep a v log.items }
+pub push-kept : (r : Push) (log new : LogState) (a v : ℕ) (ws : List (ℕ × ℕ)) → Once log.items → Covers ws log.items → IsSome (item_at a ws)
+    → length ws ≤ log.len → Pushes log a (keep a v log.items) r new → new ≡ record log { items = keep a v log.items }
 push-kept Done log new a v ws o c h l p = p.1
 push-kept (Full limit) log new a v ws o c h l p = absurd (let k = room-covered a log.items ws o c h p.0 in omega (arith, p.1))
 
@@ -247,7 +260,10 @@ put-old a v olds (w ∷ ws) o h n = by (w.0 == a) refl h (λ f. put-old a v olds
     this : (a == a) ≡ true
     this = grind (arith, nat_tests)
 
-    by : (t : Bool) → (w.0 == a) ≡ t → IsSome (if t then Some w.1 else item_at a ws) → (IsSome (item_at a ws) → put a v (map (old_or olds) ws) ≡ map (old_or (keep a v olds)) ws) → (if t then (a, v) ∷ map (old_or olds) ws else old_or olds w ∷ put a v (map (old_or olds) ws)) ≡ old_or (keep a v olds) w ∷ map (old_or (keep a v olds)) ws
+    by : (t : Bool) → (w.0 == a) ≡ t → IsSome (if t then Some w.1 else item_at a ws)
+        → (IsSome (item_at a ws) → put a v (map (old_or olds) ws) ≡ map (old_or (keep a v olds)) ws)
+        → (if t then (a, v) ∷ map (old_or olds) ws else old_or olds w ∷ put a v (map (old_or olds) ws))
+        ≡ old_or (keep a v olds) w ∷ map (old_or (keep a v olds)) ws
     by true e f rec =
         let s : w.0 ≡ a = grind (arith, nat_tests) in
         let none : item_at a ws ≡ None = subst (λ (b : ℕ). item_at b ws ≡ None) s o.0 in
@@ -264,7 +280,8 @@ pub some-old : (a : ℕ) (olds ws : List (ℕ × ℕ)) → IsSome (item_at a ws)
 some-old a olds [] h = h
 some-old a olds (w ∷ ws) h = by (w.0 == a) h (some-old a olds ws)
   where
-    by : (t : Bool) → IsSome (if t then Some w.1 else item_at a ws) → (IsSome (item_at a ws) → IsSome (item_at a (map (old_or olds) ws))) → IsSome (if t then Some (value_or (item_at w.0 olds) w.1) else item_at a (map (old_or olds) ws))
+    by : (t : Bool) → IsSome (if t then Some w.1 else item_at a ws) → (IsSome (item_at a ws) → IsSome (item_at a (map (old_or olds) ws)))
+        → IsSome (if t then Some (value_or (item_at w.0 olds) w.1) else item_at a (map (old_or olds) ws))
     by true f rec = refl
     by false f rec = rec f
 
@@ -344,7 +361,8 @@ covers-take ws xs i c b k = c b (some-take b i xs k)
 
 -- one more value taken into the mark below
 pub merged-next : (ms now : List Mark) (upper i : ℕ) (p : ℕ × ℕ) (up low : Mark) (new : LogState) (r : Push) → 0 < upper → upper < length ms → CanMerge (get_or ms (upper - 1) blank_mark) (get_or ms upper blank_mark)
-    → now ≡ lower ms upper (take i (get_or ms upper blank_mark).olds.items) → up ≡ get_or now upper up → low ≡ get_or now (upper - 1) low → i < length (get_or ms upper blank_mark).olds.items → p ≡ get_or up.olds.items i (0, 0)
+    → now ≡ lower ms upper (take i (get_or ms upper blank_mark).olds.items) → up ≡ get_or now upper up → low ≡ get_or now (upper - 1) low
+    → i < length (get_or ms upper blank_mark).olds.items → p ≡ get_or up.olds.items i (0, 0)
     → Pushes low.olds p.0 (keep p.0 p.1 low.olds.items) r new → set now (upper - 1) (record { count = low.count; olds = new }) ≡ lower ms upper (take (i + 1) (get_or ms upper blank_mark).olds.items)
 merged-next ms now upper i p up low new r some high can is up_is low_is l item push = last
   where
@@ -361,10 +379,18 @@ merged-next ms now upper i p up low new r some high can is up_is low_is l item p
     size = ap length is ∙ length-set ms (upper - 1) (with_items (keep_all (take i ups) base.olds.items))
 
     up_here : up ≡ get_or ms upper blank_mark
-    up_here = up_is ∙ (get_or_default now upper up blank_mark (omega (arith, size)) ∙ (ap (λ (xs : List Mark). get_or xs upper blank_mark) is ∙ get_or-set_other ms (upper - 1) upper (with_items (keep_all (take i ups) base.olds.items)) blank_mark (omega arith)))
+    up_here =
+        up_is
+        ∙ (get_or_default now upper up blank_mark (omega (arith, size))
+        ∙ (ap (λ (xs : List Mark). get_or xs upper blank_mark) is
+        ∙ get_or-set_other ms (upper - 1) upper (with_items (keep_all (take i ups) base.olds.items)) blank_mark (omega arith)))
 
     low_here : low ≡ with_items (keep_all (take i ups) base.olds.items)
-    low_here = low_is ∙ (get_or_default now (upper - 1) low blank_mark (omega (arith, size)) ∙ (ap (λ (xs : List Mark). get_or xs (upper - 1) blank_mark) is ∙ get_or-set_same ms (upper - 1) (with_items (keep_all (take i ups) base.olds.items)) blank_mark (omega arith)))
+    low_here =
+        low_is
+        ∙ (get_or_default now (upper - 1) low blank_mark (omega (arith, size))
+        ∙ (ap (λ (xs : List Mark). get_or xs (upper - 1) blank_mark) is
+        ∙ get_or-set_same ms (upper - 1) (with_items (keep_all (take i ups) base.olds.items)) blank_mark (omega arith)))
 
     at : get_or ups i (0, 0) ≡ p
     at = sym (item ∙ ap (λ (m : Mark). get_or m.olds.items i (0, 0)) up_here)
@@ -379,7 +405,10 @@ merged-next ms now upper i p up low new r some high can is up_is low_is l item p
     more = sym (ap (λ (xs : List (ℕ × ℕ)). keep_all xs base.olds.items) (take_more ups i (0, 0) l ∙ ap (λ (q : ℕ × ℕ). take i ups ++ q ∷ []) at) ∙ keep_all-more (take i ups) base.olds.items p)
 
     pushed : new ≡ record low.olds { items = keep p.0 p.1 low.olds.items }
-    pushed = push-kept r low.olds new p.0 p.1 can.items (subst (λ (m : Mark). Once m.olds.items) (sym low_here) fits.0) (subst (λ (m : Mark). Covers can.items m.olds.items) (sym low_here) fits.1) found (subst (λ (m : Mark). length can.items ≤ m.olds.len) (sym low_here) can.room) push
+    pushed =
+        push-kept r low.olds new p.0 p.1 can.items (subst (λ (m : Mark). Once m.olds.items) (sym low_here) fits.0)
+        (subst (λ (m : Mark). Covers can.items m.olds.items) (sym low_here) fits.1) found
+        (subst (λ (m : Mark). length can.items ≤ m.olds.len) (sym low_here) can.room) push
 
     mark : ◌≡◌ {A = Mark} (record { count = low.count; olds = new }) (with_items (keep_all (take (i + 1) ups) base.olds.items))
     mark = ap (λ (k : LogState). let m : Mark = record { count = low.count; olds = k } in m) pushed

@@ -19,7 +19,9 @@ top-split ms d some l = let e : d ≡ d - 1 + 1 = omega arith in ap (λ (k : ℕ
 pub top-tied : (ms : List Mark) (d : ℕ) (ws : List (ℕ × ℕ)) → 0 < d → d ≤ length ms → Tied (take d ms) ws → Saves (get_or ms (d - 1) blank_mark) ws × Tied (take (d - 1) ms) (at_mark (get_or ms (d - 1) blank_mark) ws)
 top-tied ms d ws some l t = tied-last (take (d - 1) ms) (get_or ms (d - 1) blank_mark) ws (subst (λ (ns : List Mark). Tied ns ws) (top-split ms d some l) t)
 
-pub top-marked : (ms : List Mark) (d : ℕ) (ws : List (ℕ × ℕ)) → 0 < d → d ≤ length ms → marked (take d ms) ws ≡ marked (take (d - 1) ms) (at_mark (get_or ms (d - 1) blank_mark) ws) ++ at_mark (get_or ms (d - 1) blank_mark) ws ∷ []
+pub top-marked : (ms : List Mark) (d : ℕ) (ws : List (ℕ × ℕ)) → 0 < d → d ≤ length ms
+    → marked (take d ms) ws
+    ≡ marked (take (d - 1) ms) (at_mark (get_or ms (d - 1) blank_mark) ws) ++ at_mark (get_or ms (d - 1) blank_mark) ws ∷ []
 top-marked ms d ws some l = ap (λ (ns : List Mark). marked ns ws) (top-split ms d some l) ∙ marked-last (take (d - 1) ms) (get_or ms (d - 1) blank_mark) ws
 
 pub length-marks : (ms : List Mark) (d : ℕ) (ws : List (ℕ × ℕ)) → d ≤ length ms → length (marked (take d ms) ws) ≡ d
@@ -49,7 +51,10 @@ swap-top ms d n ws ys some l t s e =
 pub rooms-set : (len : ℕ) (ms : List Mark) (i : ℕ) (n : Mark) → Rooms len ms → len ≤ n.olds.len → Rooms len (set ms i n)
 rooms-set len ms i n r l k b = elim (cases_order k i) [
   | inl e ↦ (let h : get_or (set ms i n) k blank_mark ≡ n = rw e (get_or-set_same ms i n blank_mark (let s = length-set ms i n in omega arith)) in subst (λ (m : Mark). len ≤ m.olds.len) (sym h) l)
-  | inr o ↦ (let h : get_or (set ms i n) k blank_mark ≡ get_or ms k blank_mark = get_or-set_other ms i k n blank_mark (λ e. elim o [ inl f ↦ omega arith | inr f ↦ omega arith ]) in subst (λ (m : Mark). len ≤ m.olds.len) (sym h) (r k (let s = length-set ms i n in omega arith)))
+  | inr o ↦
+      (let h : get_or (set ms i n) k blank_mark ≡ get_or ms k blank_mark =
+      get_or-set_other ms i k n blank_mark (λ e. elim o [ inl f ↦ omega arith | inr f ↦ omega arith ]) in
+      subst (λ (m : Mark). len ≤ m.olds.len) (sym h) (r k (let s = length-set ms i n in omega arith)))
 ]
 
 -- A WRITE
@@ -73,7 +78,8 @@ Whole ms d g = (length ms ≡ 8) × (d ≤ 8) × Rooms g.len ms × Tied (take d 
 abbrev with_marks : List Mark → ℕ → LogState → LogState
 with_marks ms d g = record g { marks = marked (take d ms) g.items }
 
-pub pushed-stands : (ms : List Mark) (d a x : ℕ) (n : Mark) (g h : LogState) (r : Push) → 0 < d → d ≤ length ms → n ≡ saved a g.items (get_or ms (d - 1) blank_mark) → Once g.items → length ms ≡ 8 → d ≤ 8 → Rooms g.len (set ms (d - 1) n)
+pub pushed-stands : (ms : List Mark) (d a x : ℕ) (n : Mark) (g h : LogState) (r : Push) → 0 < d → d ≤ length ms
+    → n ≡ saved a g.items (get_or ms (d - 1) blank_mark) → Once g.items → length ms ≡ 8 → d ≤ 8 → Rooms g.len (set ms (d - 1) n)
     → Tied (take d ms) g.items → Pushes g a (put a x g.items) r h → Whole (set ms (d - 1) n) d h
 pushed-stands ms d a x n g h Done some l e o size most rooms t p =
     let whole : Whole (set ms (d - 1) n) d (record g { items = put a x g.items }) = (length-set ms (d - 1) n ∙ size, most, rooms, (push-tied ms d a x n g.items some l e o t).0) in
@@ -113,7 +119,13 @@ pub mark-tied : (ms : List Mark) (d : ℕ) (n : Mark) (ws : List (ℕ × ℕ)) �
 mark-tied ms d n ws l count none t =
     let front : take (d + 1) (set ms d n) ≡ take d ms ++ n ∷ [] = take_more_set ms d n l in
     let same : at_mark n ws ≡ ws = (λ i. take (count i) (map (old_or (none i)) ws)) ∙ (ap (take (length ws)) (old-none ws) ∙ take-length ws) in
-    let saves : Saves n ws = record { count = omega arith; once = subst Once (sym none) tt; there = λ b k. absurd (let z : is_some (item_at b n.olds.items) ≡ false = ap (λ (os : List (ℕ × ℕ)). is_some (item_at b os)) none in let y : true ≡ false = sym k ∙ z in cc) } in (
+    let saves : Saves n ws = record {
+      count = omega arith;
+      once = subst Once (sym none) tt;
+      there = λ b k.
+          absurd (let z : is_some (item_at b n.olds.items) ≡ false = ap (λ (os : List (ℕ × ℕ)). is_some (item_at b os)) none in
+          let y : true ≡ false = sym k ∙ z in cc);
+    } in (
       subst (λ (ns : List Mark). Tied ns ws) (sym front) (tied-more (take d ms) n ws saves (subst (Tied (take d ms)) (sym same) t)),
       ap (λ (ns : List Mark). marked ns ws) front ∙ (marked-last (take d ms) n ws ∙ ap (λ (zs : List (ℕ × ℕ)). marked (take d ms) zs ++ zs ∷ []) same),
     )
@@ -126,7 +138,8 @@ covers-at m ws olds c b k = below b ws (some-take b m.count (map (old_or m.olds.
     below b [] h = h
     below b (x ∷ xs) h = by (x.0 == b) h (below b xs)
       where
-        by : (t : Bool) → IsSome (if t then Some (value_or (item_at x.0 m.olds.items) x.1) else item_at b (map (old_or m.olds.items) xs)) → (IsSome (item_at b (map (old_or m.olds.items) xs)) → IsSome (item_at b xs)) → IsSome (if t then Some x.1 else item_at b xs)
+        by : (t : Bool) → IsSome (if t then Some (value_or (item_at x.0 m.olds.items) x.1) else item_at b (map (old_or m.olds.items) xs))
+            → (IsSome (item_at b (map (old_or m.olds.items) xs)) → IsSome (item_at b xs)) → IsSome (if t then Some x.1 else item_at b xs)
         by true f rec = refl
         by false f rec = rec f
 
@@ -153,7 +166,8 @@ dropped-tied ms d n ws some l e t =
     let size : length y ≡ up.count = length-take-le up.count (map (old_or up.olds.items) ws) (let k = length-map ws (old_or up.olds.items) in let h = top.0.count in omega arith) in
     let fits = keep_all-fits up.olds.items lo.olds.items ws low.0.once (covers-at up ws lo.olds.items low.0.there) top.0.there in
     let saves : Saves (merged lo up) ws = record { count = (let h = low.0.count in let g = top.0.count in omega arith); once = fits.0; there = fits.1 } in
-    let swapped = swap-top ms (d - 1) n y ws (omega arith) (omega arith) top.1 (subst (λ (k : Mark). Saves k ws) (sym e) saves) (ap (λ (k : Mark). at_mark k ws) e ∙ at-merged lo up ws (let h = low.0.count in omega arith)) in
+    let swapped = swap-top ms (d - 1) n y ws (omega arith) (omega arith) top.1 (subst (λ (k : Mark). Saves k ws) (sym e) saves)
+    (ap (λ (k : Mark). at_mark k ws) e ∙ at-merged lo up ws (let h = low.0.count in omega arith)) in
     let rest = marked (take (d - 1) ms) y in
     let whole : marked (take d ms) ws ≡ rest ++ y ∷ [] = top-marked ms d ws (omega arith) l in
     let less : length (marked (take d ms) ws) - 1 ≡ length rest = (let a = length-marks ms d ws l in let b = length-marks ms (d - 1) y (omega arith) in omega arith) in

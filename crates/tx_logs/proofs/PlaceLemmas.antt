@@ -29,7 +29,8 @@ pub place-in : (buckets : ℕ) (l h : LogState) (a place : ℕ) → buckets ≡ 
 place-in buckets l h a place e f is = subst (λ (m : ℕ). IsPlace m l.items a place) (sym e) (subst (λ (q : LogState). IsPlace (2 * q.len) q.items a place) (sym f) is)
 
 -- two indexes of the same items have each item in the same bucket
-agree : (homes : Homes) (buckets : ℕ) (items : List (ℕ × ℕ)) (o p : ℕ → Option ℕ) → HasBuckets homes buckets items o → HasBuckets homes buckets items p → (n i : ℕ) → i < n → i < length items → (y : ℕ) → y < buckets → o y ≡ Some i → p y ≡ Some i
+agree : (homes : Homes) (buckets : ℕ) (items : List (ℕ × ℕ)) (o p : ℕ → Option ℕ) → HasBuckets homes buckets items o
+    → HasBuckets homes buckets items p → (n i : ℕ) → i < n → i < length items → (y : ℕ) → y < buckets → o y ≡ Some i → p y ≡ Some i
 agree homes buckets items o p h k zero i b l y ly e = absurd (omega arith)
 agree homes buckets items o p h k (suc n) i b l y ly e =
     let s = h.placed i l in let t = k.placed i l in
@@ -38,10 +39,14 @@ agree homes buckets items o p h k (suc n) i b l y ly e =
       | inl same ↦ rw (here, same) t.2
       | inr other ↦ elim other [
         | inl before ↦ (let j = t.3 s.0 before in
-            let q : o (after_home homes buckets (address_of items i) s.0) ≡ Some j.0 = agree homes buckets items p o k h n j.0 (let m = j.1 in omega arith) (let m = j.1 in omega arith) (after_home homes buckets (address_of items i) s.0) (behind-below homes buckets (address_of items i) s.0 s.1) j.2 in
+            let q : o (after_home homes buckets (address_of items i) s.0) ≡ Some j.0 = agree homes buckets items p o k h n j.0
+            (let m = j.1 in omega arith) (let m = j.1 in omega arith) (after_home homes buckets (address_of items i) s.0)
+            (behind-below homes buckets (address_of items i) s.0 s.1) j.2 in
             absurd (let m = j.1 in omega (arith, same-item _ i j.0 s.2 q)))
         | inr after ↦ (let j = s.3 t.0 after in
-            let q : p (after_home homes buckets (address_of items i) t.0) ≡ Some j.0 = agree homes buckets items o p h k n j.0 (let m = j.1 in omega arith) (let m = j.1 in omega arith) (after_home homes buckets (address_of items i) t.0) (behind-below homes buckets (address_of items i) t.0 t.1) j.2 in
+            let q : p (after_home homes buckets (address_of items i) t.0) ≡ Some j.0 = agree homes buckets items o p h k n j.0
+            (let m = j.1 in omega arith) (let m = j.1 in omega arith) (after_home homes buckets (address_of items i) t.0)
+            (behind-below homes buckets (address_of items i) t.0 t.1) j.2 in
             absurd (let m = j.1 in omega (arith, same-item _ i j.0 t.2 q)))
       ]
     ]
@@ -86,7 +91,11 @@ module _ (g : ℕ) (items : List (ℕ × ℕ)) (bs : List Bucket) (a place : ℕ
 
       absent : (i : ℕ) → i < length items → address_of items i ≢ a
       absent i l e =
-          let s = subst (λ (b : ℕ). (d : ℕ) × (d < length bs) × (mine (after_home Mixed (length bs) b d) ≡ Some i) × ((k : ℕ) → k < d → (j : ℕ) × (j < i) × (mine (after_home Mixed (length bs) b k) ≡ Some j))) e ((laws.has Mixed g items bs x).placed i l) in
+          let s = subst
+          (λ (b : ℕ).
+          (d : ℕ) × (d < length bs) × (mine (after_home Mixed (length bs) b d) ≡ Some i)
+          × ((k : ℕ) → k < d → (j : ℕ) × (j < i) × (mine (after_home Mixed (length bs) b k) ≡ Some j))) e
+          ((laws.has Mixed g items bs x).placed i l) in
           elim (cases_order s.0 passed) [
             | inl same ↦ none-some (mine place) i none (subst (λ (z : ℕ). mine z ≡ Some i) here (subst (λ (k : ℕ). mine (after_home Mixed (length bs) a k) ≡ Some i) same s.2))
             | inr other ↦ elim other [

@@ -73,7 +73,10 @@ module _ (homes : Homes) (g : ℕ) (items : List (ℕ × ℕ)) (bs : List Bucket
       below : (k : ℕ) → k < s.distance → wrapped (length bs) (home_of homes (length bs) a + k) < length bs
       below k h = wrapped-below (length bs) (home_of homes (length bs) a + k) (let m : home_of homes (length bs) a < length bs = home-below homes (length bs) a (omega (arith, room)) in let d = l.distance in omega arith)
 
-      by : (o : Option ℕ) → MatchOption o ((item_at a items ≡ None) × ((bucket_at bs s.at).mark ≢ g)) (λ i. (i < length items) × (address_of items i ≡ a) × ((bucket_at bs s.at).mark ≡ g) × ((bucket_at bs s.at).item ≡ i)) → MatchOption (owner s.at) (Unit {0}) (λ j. address_of items j ≡ a)
+      by : (o : Option ℕ)
+          → MatchOption o ((item_at a items ≡ None) × ((bucket_at bs s.at).mark ≢ g)) (λ i.
+          (i < length items) × (address_of items i ≡ a) × ((bucket_at bs s.at).mark ≡ g) × ((bucket_at bs s.at).item ≡ i))
+          → MatchOption (owner s.at) (Unit {0}) (λ j. address_of items j ≡ a)
       by None f = subst (λ (o : Option ℕ). MatchOption o (Unit {0}) (λ j. address_of items j ≡ a)) (sym (disowned (get_or bs s.at blank) (λ e. f.1 (ap (λ (b : Bucket). b.mark) (here-is bs s.at l.within) ∙ e)))) tt
       by (Some i) f = let h = here-is bs s.at l.within in
           let e : item_of (get_or bs s.at blank) ≡ Some i = owns (get_or bs s.at blank) (sym (ap (λ (b : Bucket). b.mark) h) ∙ f.2) ∙ ap Some (sym (ap (λ (b : Bucket). b.item) h) ∙ f.3) in

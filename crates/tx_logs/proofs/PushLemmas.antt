@@ -27,11 +27,14 @@ pushed-new : (r : Repeat) (items : List (ℕ × ℕ)) (a v : ℕ) → item_at a 
 pushed-new Keep items a v h = keep-new items a v h
 pushed-new Replace items a v h = put-new items a v h
 
-pub pushes-new : (l : LogState) (r : Repeat) (a v : ℕ) (items : List (ℕ × ℕ)) → item_at a l.items ≡ None → length l.items < l.len → items ≡ l.items ++ (a, v) ∷ [] → Pushes l a (pushed r a v l.items) Done (record l { items = items })
+pub pushes-new : (l : LogState) (r : Repeat) (a v : ℕ) (items : List (ℕ × ℕ)) → item_at a l.items ≡ None → length l.items < l.len
+    → items ≡ l.items ++ (a, v) ∷ [] → Pushes l a (pushed r a v l.items) Done (record l { items = items })
 pushes-new l r a v items h room e = (inr room, with-items l items (pushed r a v l.items) (e ∙ sym (pushed-new r l.items a v h)))
 
 -- the step of a rebuilding: the next item goes to the end
-pub pushes-next : (l k : LogState) (a v i : ℕ) (items : List (ℕ × ℕ)) (r : Push) → Once items → i < length items → get_or items i (0, 0) ≡ (a, v) → l.items ≡ take i items → i < l.len → Pushes l a (pushed Keep a v l.items) r k → k ≡ record l { items = take (i + 1) items }
+pub pushes-next : (l k : LogState) (a v i : ℕ) (items : List (ℕ × ℕ)) (r : Push) → Once items → i < length items
+    → get_or items i (0, 0) ≡ (a, v) → l.items ≡ take i items → i < l.len → Pushes l a (pushed Keep a v l.items) r k
+    → k ≡ record l { items = take (i + 1) items }
 pushes-next l k a v i items (Full limit) o b e is room p = absurd (omega (arith, p.1, ap length is, length-take-le i items (omega arith)))
 pushes-next l k a v i items Done o b e is room p =
     let new : item_at a l.items ≡ None = rw is (ap (λ (w : ℕ × ℕ). item_at w.0 (take i items)) (sym e) ∙ none-take items i o b) in

@@ -67,7 +67,8 @@ kept-empty short seen g bs most x = record {
 }
 
 -- a new item in a short log
-pub kept-more : (short seen g a v : ℕ) (items : List (ℕ × ℕ)) (bs : List Bucket) → length items < short → item_at a items ≡ None → IsKept short seen g items bs → IsKept short (bit_or seen (2 ^ (a % 64))) g (items ++ (a, v) ∷ []) bs
+pub kept-more : (short seen g a v : ℕ) (items : List (ℕ × ℕ)) (bs : List Bucket) → length items < short → item_at a items ≡ None
+    → IsKept short seen g items bs → IsKept short (bit_or seen (2 ^ (a % 64))) g (items ++ (a, v) ∷ []) bs
 kept-more short seen g a v items bs l new k = record {
   once = once-more items a v k.once new;
   front = seen-more seen a v items k.front;
@@ -104,7 +105,8 @@ kept-less short seen g n items bs some e k = record {
   indexed = λ z. absurd (some z);
 }
 
-pub kept-less-indexed : (short seen g n : ℕ) (items : List (ℕ × ℕ)) (bs : List Bucket) → short ≡ 0 → n + 1 ≡ length items → HasSeen seen items → short ≤ 8 → IsIndex Mixed g (take n items) bs → IsKept short seen g (take n items) bs
+pub kept-less-indexed : (short seen g n : ℕ) (items : List (ℕ × ℕ)) (bs : List Bucket) → short ≡ 0 → n + 1 ≡ length items
+    → HasSeen seen items → short ≤ 8 → IsIndex Mixed g (take n items) bs → IsKept short seen g (take n items) bs
 kept-less-indexed short seen g n items bs z e h most x = record {
   once = x.once;
   front = seen-take seen n items (omega arith) h;

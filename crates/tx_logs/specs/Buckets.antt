@@ -58,4 +58,5 @@ pub record IsLookup (homes : Homes) (g : ℕ) (items : List (ℕ × ℕ)) (bs : 
   pub at : found.at ≡ wrapped (length bs) (home_of homes (length bs) a + found.distance)
   pub passed : AllTaken g bs (home_of homes (length bs) a) found.distance
   pub others : (k : ℕ) → k < found.distance → address_of items (bucket_at bs (home_of homes (length bs) a + k)).item ≢ a
-  pub answer : MatchOption found.item ((item_at a items ≡ None) × ((bucket_at bs found.at).mark ≢ g)) (λ i. (i < length items) × (address_of items i ≡ a) × ((bucket_at bs found.at).mark ≡ g) × ((bucket_at bs found.at).item ≡ i))
+  pub answer : MatchOption found.item ((item_at a items ≡ None) × ((bucket_at bs found.at).mark ≢ g)) (λ i.
+      (i < length items) × (address_of items i ≡ a) × ((bucket_at bs found.at).mark ≡ g) × ((bucket_at bs found.at).item ≡ i))

@@ -10,7 +10,9 @@ after_home homes buckets a k = wrapped buckets (home_of homes buckets a + k)
 
 -- which item each bucket has: item i the first from its address's home on that no earlier item has, and no other
 pub record HasBuckets (homes : Homes) (buckets : ℕ) (items : List (ℕ × ℕ)) (owner : ℕ → Option ℕ) : Type 0 where
-  pub placed : (i : ℕ) → i < length items → (d : ℕ) × (d < buckets) × (owner (after_home homes buckets (address_of items i) d) ≡ Some i) × ((k : ℕ) → k < d → (j : ℕ) × (j < i) × (owner (after_home homes buckets (address_of items i) k) ≡ Some j))
+  pub placed : (i : ℕ) → i < length items
+      → (d : ℕ) × (d < buckets) × (owner (after_home homes buckets (address_of items i) d) ≡ Some i)
+      × ((k : ℕ) → k < d → (j : ℕ) × (j < i) × (owner (after_home homes buckets (address_of items i) k) ≡ Some j))
   pub named : (x i : ℕ) → x < buckets → owner x ≡ Some i → i < length items
   pub single : (x y i : ℕ) → x < buckets → y < buckets → owner x ≡ Some i → owner y ≡ Some i → x ≡ y
 

@@ -110,10 +110,9 @@ pub fn take(homes: Homes, index: &mut [Bucket], items: &[(usize, u64)], generati
     if index[at].mark == generation {
         at = look_up(homes, index, items, generation, a).at;
     }
-    index[at] = Bucket {
-        mark: generation,
-        item: items.len() as u32,
-    };
+    let bucket = &mut index[at];
+    bucket.mark = generation;
+    bucket.item = items.len() as u32;
 }
 
 /// Takes a bucket for each of the items, of which none has one.
@@ -130,12 +129,13 @@ pub fn take_all(homes: Homes, index: &mut [Bucket], items: &[(usize, u64)], gene
     }
 }
 
-/// Sets every mark to 0, which is no generation.
+/// Sets every mark to 0, which is no generation. The items stay: a fill of whole buckets would be compiled to a call, and
+/// each begin would save registers for it.
 pub fn clear_marks(index: &mut [Bucket])
     ensures size { length index.new ≡ length index.old }
     ensures marks { (k : ℕ) → k < length index.new → (slice_index_or index.new k blank).mark ≡ 0 }
 {
     for bucket in index.iter_mut() {
-        *bucket = Bucket { mark: 0, item: 0 };
+        bucket.mark = 0;
     }
 }

@@ -180,10 +180,9 @@ impl IndexedLog {
         requires room { length self.old.items ≢ self.old.len }
         ensures { self.new ≡ record self.old { items = self.old.items ++ (a, v) ∷ [] } }
     {
-        self.index[place] = Bucket {
-            mark: self.generation,
-            item: self.items.len() as u32,
-        };
+        let bucket = &mut self.index[place];
+        bucket.mark = self.generation;
+        bucket.item = self.items.len() as u32;
         self.items.push_reserved((a, v));
     }
 
@@ -192,7 +191,9 @@ impl IndexedLog {
     pub fn reserve(&mut self, alloc: Global, len: usize) -> Result<(), Memory>
         requires low { 1 ≤ len }
         requires high { len ≤ 4096 }
-        ensures { MatchResult result (λ _. self.new ≡ record self.old { len = max self.old.len len }) (λ _. self.new ≡ self.old) }
+        ensures { MatchResult result
+            (λ _. self.new ≡ record self.old { len = max self.old.len len }) (λ _.
+            self.new ≡ self.old) }
     {
         if len <= self.len {
             return Ok(());
@@ -208,7 +209,9 @@ impl IndexedLog {
     /// Empties the log and keeps its room. It raises the generation and leaves the index alone, but for the last
     /// generation, at which it writes each bucket.
     pub fn clear(&mut self)
-        ensures { self.new ≡ record self.old { items = []; generation = next_generation self.old.generation; marks = [] } }
+        ensures { self.new
+            ≡ record self.old
+            { items = []; generation = next_generation self.old.generation; marks = [] } }
     {
         self.items.clear();
         if self.generation == u32::MAX {

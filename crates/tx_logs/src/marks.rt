@@ -41,7 +41,12 @@ pub(crate) fn blank_marks(alloc: Global, len: usize) -> Result<Vec<Mark>, Memory
 
 /// Begins a mark at which the log has `count` items.
 pub(crate) fn begin(mark: &mut Mark, count: usize)
-    ensures { mark.new ≡ record { count = count; olds = record mark.old.olds { items = []; generation = next_generation mark.old.olds.generation; marks = [] } } }
+    ensures { mark.new
+        ≡ record {
+          count = count;
+          olds = record mark.old.olds
+              { items = []; generation = next_generation mark.old.olds.generation; marks = [] };
+        } }
 {
     mark.count = count;
     mark.olds.clear();
@@ -79,8 +84,11 @@ pub(crate) fn restore(mark: &mut Mark, log: &mut ShortLog)
 pub(crate) fn merge(marks: &mut [Mark], upper: usize)
     requires low { 0 < upper }
     requires high { upper < length marks.old }
-    requires can { CanMerge (get_or marks.old (upper - 1) blank_mark) (get_or marks.old upper blank_mark) }
-    ensures { marks.new ≡ set marks.old (upper - 1) (merged (get_or marks.old (upper - 1) blank_mark) (get_or marks.old upper blank_mark)) }
+    requires can { CanMerge (get_or marks.old (upper - 1) blank_mark)
+        (get_or marks.old upper blank_mark) }
+    ensures { marks.new
+        ≡ set marks.old (upper - 1)
+        (merged (get_or marks.old (upper - 1) blank_mark) (get_or marks.old upper blank_mark)) }
 {
     for i in 0..marks[upper].olds.count() {
         let (a, old) = marks[upper].olds.item(i);

@@ -232,7 +232,8 @@ impl ShortLog {
     /// Takes the last item away: its bucket, if it has one, is open again. One lookup.
     pub fn pop(&mut self)
         requires { 0 < length self.old.items }
-        ensures { self.new ≡ record self.old { items = take (length self.old.items - 1) self.old.items } }
+        ensures { self.new
+            ≡ record self.old { items = take (length self.old.items - 1) self.old.items } }
     {
         let last = self.count() - 1;
         let (a, _) = self.item(last);
@@ -260,7 +261,9 @@ impl ShortLog {
     pub fn reserve(&mut self, alloc: Global, len: usize) -> Result<(), Memory>
         requires low { 1 ≤ len }
         requires high { len ≤ 4096 }
-        ensures { MatchResult result (λ _. self.new ≡ record self.old { len = max self.old.len len }) (λ _. self.new ≡ self.old) }
+        ensures { MatchResult result
+            (λ _. self.new ≡ record self.old { len = max self.old.len len }) (λ _.
+            self.new ≡ self.old) }
     {
         if len <= self.len {
             return Ok(());
@@ -276,7 +279,9 @@ impl ShortLog {
     /// Empties the log and keeps its room. It raises the generation and leaves the index alone, but for the last
     /// generation, at which it writes each bucket.
     pub fn clear(&mut self)
-        ensures { self.new ≡ record self.old { items = []; generation = next_generation self.old.generation; marks = [] } }
+        ensures { self.new
+            ≡ record self.old
+            { items = []; generation = next_generation self.old.generation; marks = [] } }
     {
         self.items.clear();
         self.seen = 0;

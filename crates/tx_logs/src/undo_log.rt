@@ -41,7 +41,9 @@ impl UndoLog {
     pub fn reserve(&mut self, alloc: Global, len: usize) -> Result<(), Memory>
         requires low { 1 ≤ len }
         requires high { len ≤ 4096 }
-        ensures { MatchResult result (λ _. self.new ≡ record self.old { len = max self.old.len len }) (λ _. self.new ≡ self.old) }
+        ensures { MatchResult result
+            (λ _. self.new ≡ record self.old { len = max self.old.len len }) (λ _.
+            self.new ≡ self.old) }
     {
         self.log.reserve(alloc, len)
     }
@@ -120,7 +122,9 @@ impl UndoLog {
     /// Empties the log and keeps its room. It raises the generation and leaves the index alone, but for the last
     /// generation, at which it writes each bucket.
     pub fn clear(&mut self)
-        ensures { self.new ≡ record self.old { items = []; generation = next_generation self.old.generation; marks = [] } }
+        ensures { self.new
+            ≡ record self.old
+            { items = []; generation = next_generation self.old.generation; marks = [] } }
     {
         self.log.clear();
     }

@@ -63,7 +63,9 @@ impl WriteLog {
     pub fn reserve(&mut self, alloc: Global, len: usize) -> Result<(), Memory>
         requires low { 1 ≤ len }
         requires high { len ≤ 4096 }
-        ensures { MatchResult result (λ _. self.new ≡ record self.old { len = max self.old.len len; marks = [] }) (λ _. self.new ≡ self.old) }
+        ensures { MatchResult result
+            (λ _. self.new ≡ record self.old { len = max self.old.len len; marks = [] }) (λ _.
+            self.new ≡ self.old) }
     {
         if self.log.len() < len {
             let marks = blank_marks(alloc, len)?;
@@ -130,7 +132,8 @@ impl WriteLog {
     /// Drops the last mark, and keeps what was written since.
     fn drop_mark(&mut self)
         requires { 0 < length self.old.marks }
-        ensures { self.new ≡ record self.old { marks = take (length self.old.marks - 1) self.old.marks } }
+        ensures { self.new
+            ≡ record self.old { marks = take (length self.old.marks - 1) self.old.marks } }
     {
         let _count = self.log.count();
         if self.depth == 1 {
@@ -155,8 +158,10 @@ impl WriteLog {
     /// Puts the items back as they were at the last mark, which stands.
     fn restore_last(&mut self)
         requires { 0 < length self.old.marks }
-        ensures restored { self.new ≡ record self.old { items = get_or self.old.marks (length self.old.marks - 1) [] } }
-        ensures prefix { firsts self.new.items ≡ take (length self.new.items) (firsts self.old.items) }
+        ensures restored { self.new
+            ≡ record self.old { items = get_or self.old.marks (length self.old.marks - 1) [] } }
+        ensures prefix { firsts self.new.items
+            ≡ take (length self.new.items) (firsts self.old.items) }
     {
         restore(&mut self.marks[self.depth - 1], &mut self.log);
     }
@@ -167,7 +172,8 @@ impl WriteLog {
         requires low { 1 ≤ depth }
         requires high { depth ≤ length self.old.marks }
         ensures rolled { self.new ≡ rolled depth self.old }
-        ensures prefix { firsts self.new.items ≡ take (length self.new.items) (firsts self.old.items) }
+        ensures prefix { firsts self.new.items
+            ≡ take (length self.new.items) (firsts self.old.items) }
     {
         while self.depth() > depth {
             self.drop_mark();
@@ -229,7 +235,9 @@ impl WriteLog {
     /// Empties the log, with its marks, and keeps its room. It raises the generation and leaves the index alone, but for the last
     /// generation, at which it writes each bucket.
     pub fn clear(&mut self)
-        ensures { self.new ≡ record self.old { items = []; generation = next_generation self.old.generation; marks = [] } }
+        ensures { self.new
+            ≡ record self.old
+            { items = []; generation = next_generation self.old.generation; marks = [] } }
     {
         self.depth = 0;
         self.log.clear();

@@ -1,11 +1,12 @@
 -- What parts of a transaction leave of its log.
 use Rattle.std.specs.Prelude.{ℕ, ◌≡◌, ◌<◌, ◌++◌, ◌⊎◌, Bool, true, false, List, [], ◌∷◌, Option, Some, None, IsSome, Result, Ok, Err, length}
+use Rattle.std.specs.Borrow.{GName}
 use Rattle.stm_model.specs.declared.stop.Stop.{Stop}
 use Rattle.stm_model.specs.declared.stop.Stop.TheVariants.{Full}
-use Rattle.stm_model.specs.Memories.{item_at, put}
+use Rattle.stm_model.specs.Memories.{item_at, put, Once}
 use Rattle.stm_model.specs.Logs.{Log, SameMemories, IsExplained}
 use Rattle.tx_effects.specs.Effects.{Under}
-use Rattle.tx_logs.specs.LogStates.{LogState, firsts}
+use Rattle.tx_logs.specs.LogStates.{LogState, firsts, renewed}
 use Rattle.tx_parts.specs.declared.whole.Undone.{Undone}
 use Rattle.tx_parts.specs.declared.whole.Undone.TheVariants as undone
 use Rattle.tx_parts.specs.declared.wholly.PartOutcome.{PartOutcome}
@@ -64,7 +65,9 @@ IsFull len None = ⊥
 IsFull len (Some (Full limit)) = limit ≡ len
 IsFull len (Some stop) = ⊥
 
--- What came of a part that had room for so many words, from the log before to the log after. Where it was done, this is told of a log with the same writes, and it keeps the rule where what was done before does; else it only read; where it gave way that is told; and it lacks room only where the memory has more words than that.
+-- What came of a part that had room for so many words, from the log before to the log after. Where it was done, this is told of a log with
+-- the same writes, and it keeps the rule where what was done before does; else it only read; where it gave way that is told; and it lacks
+-- room only where the memory has more words than that.
 abbrev pub Comes : {T : Type 0} → (List ℕ → Type 0) → ℕ → ℕ → (Option T → Log → Log → Type 0) → PartOutcome T → Log → Log → Type 0
 Comes good words len tells (Done r) l k = ((j : Log) × tells (Some r) l j × SameLog j k) × ReadsMore l k × (Under good words l good → Under good words k good)
 Comes good words len tells GaveWay l k = ((gave : Log) × tells None l gave × (k ≡ back_to l gave)) × OnlyReads l k
@@ -91,15 +94,39 @@ ComesAwaited good words first room tells (Some (Err undone.NoMemory)) k = ComesF
 abbrev pub Overflows : ℕ → ℕ → List (ℕ × ℕ) → Type 0
 Overflows words len items = (length items ≡ len) × (a : ℕ) × (a < words) × (item_at a items ≡ None)
 
+-- it has as many of the memory's words as its length, each once, and one more was to be written
+abbrev pub IsFilled : ℕ → LogState → Type 0
+IsFilled words room = Overflows words room.len room.items × Once room.items × Within words (firsts room.items)
+
+-- it has no items and no marks
+abbrev pub IsEmptied : LogState → Type 0
+IsEmptied room = (room.items ≡ []) × (room.marks ≡ [])
+
+-- WHAT IS LEFT of the log that a part was lent: all that shows that it wanted room, or nothing
+abbrev pub Leaves : {T : Type 0} → ℕ → PartOutcome T → LogState → Type 0
+Leaves words (NoRoom limit) room = IsFilled words room
+Leaves words came room = IsEmptied room
+
+-- a log that was filled is as it was, and another was emptied
+abbrev pub Left : {T : Type 0} → Result (PartOutcome T) Stop → LogState → LogState → Type 0
+Left (Ok (NoRoom limit)) before after = after ≡ before
+Left came before after = after ≡ renewed before
+
+-- a log of a part that wanted room is filled
+abbrev pub Shows : {T : Type 0} → ℕ → PartOutcome T → LogState → Type 0
+Shows words (NoRoom limit) room = IsFilled words room
+Shows words came room = Unit {0}
+
 -- an access with a log of writes over it; why it was stopped, and whether that was for want of room
 pub record Top (B : Type 0) : Type 0 where
   pub below : B
   pub room : LogState
+  pub name : GName
   pub stopped : Option Stop
   pub crowded : Bool
 
-abbrev pub top : {B : Type 0} → B → LogState → Option Stop → Bool → Top B
-top b room stopped crowded = record { below = b; room = room; stopped = stopped; crowded = crowded }
+abbrev pub top : {B : Type 0} → B → LogState → GName → Option Stop → Bool → Top B
+top b room name stopped crowded = record { below = b; room = room; name = name; stopped = stopped; crowded = crowded }
 
 module _ {B : Type 0} (good : B → List ℕ → Type 0) (words : B → ℕ) (stops : B → Option Stop) (log : B → Log) where
   -- while it goes on a good memory explains what was read below; it was stopped as the access below was, or for want of room for one more of its words
@@ -116,5 +143,6 @@ module _ {B : Type 0} (good : B → List ℕ → Type 0) (words : B → ℕ) (st
     pub same : SameMemories (good s.below) (good t.below)
     pub still : words t.below ≡ words s.below
     pub len : t.room.len ≡ s.room.len
+    pub name : t.name ≡ s.name
     pub reads : stops t.below ≡ None → (stops s.below ≡ None) × OnlyReads (log s.below) (log t.below)
     pub marks : t.stopped ≡ None → (s.stopped ≡ None) × (t.room.marks ≡ s.room.marks) × OnlyReads (log s.below) (log t.below)

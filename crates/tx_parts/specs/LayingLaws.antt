@@ -70,34 +70,47 @@ not-crowded len (Some s) f e = absurd (no-stop (Some s) s refl e)
 
 module _ {B : Type 0} (good : B → List ℕ → Type 0) (words : B → ℕ) (stops : B → Option Stop) (log : B → Log) where
   pub on_top-refl : (s : Top B) → OnTop good words stops log s s
-  on_top-refl s = record { same = λ m. ((λ h. h), (λ h. h)); still = refl; len = refl; reads = λ e. (e, only-same (log s.below)); marks = λ e. (e, refl, only-same (log s.below)) }
+  on_top-refl s = record { same = λ m. ((λ h. h), (λ h. h)); still = refl; len = refl; name = refl; reads = λ e. (e, only-same (log s.below)); marks = λ e. (e, refl, only-same (log s.below)) }
 
   pub on_top-trans : (s t u : Top B) → OnTop good words stops log s t → OnTop good words stops log t u → OnTop good words stops log s u
   on_top-trans s t u a e = record {
     same = λ w. ((λ q. (e.same w).0 ((a.same w).0 q)), (λ q. (a.same w).1 ((e.same w).1 q)));
     still = e.still ∙ a.still;
     len = e.len ∙ a.len;
+    name = e.name ∙ a.name;
     reads = λ q. (let f = e.reads q in let r = a.reads f.0 in (r.0, only-then (log s.below) (log t.below) (log u.below) r.1 f.1));
     marks = λ q. (let f = e.marks q in let r = a.marks f.0 in (r.0, f.1 ∙ r.1, only-then (log s.below) (log t.below) (log u.below) r.2 f.2));
   }
 
   -- from a mark on, in the terms of what was there before it
-  pub on_top-moved : (s t u : Top B) → t.below ≡ s.below → s.stopped ≡ None → t.room.len ≡ s.room.len → (u.stopped ≡ None → u.room.marks ≡ s.room.marks) → OnTop good words stops log t u → OnTop good words stops log s u
-  on_top-moved s t u same none len marks a =
+  pub on_top-moved : (s t u : Top B) → t.below ≡ s.below → s.stopped ≡ None → t.room.len ≡ s.room.len → t.name ≡ s.name
+      → (u.stopped ≡ None → u.room.marks ≡ s.room.marks) → OnTop good words stops log t u → OnTop good words stops log s u
+  on_top-moved s t u same none len name marks a =
       let o : OnTop good words stops log (record t { below = s.below }) u = subst (λ (b : B). OnTop good words stops log (record t { below = b }) u) same a in
-      record { same = o.same; still = o.still; len = a.len ∙ len; reads = o.reads; marks = λ q. (none, marks q, (o.marks q).2) }
+      record { same = o.same; still = o.still; len = a.len ∙ len; name = a.name ∙ name; reads = o.reads; marks = λ q. (none, marks q, (o.marks q).2) }
 
-  pub on_top-opened : (s t u : Top B) (stop : Stop) → t.below ≡ s.below → s.stopped ≡ None → t.room.len ≡ s.room.len → u.stopped ≡ Some stop → OnTop good words stops log t u → OnTop good words stops log s u
-  on_top-opened s t u stop same none len is a = on_top-moved s t u same none len (λ q. absurd (no-stop u.stopped stop is q)) a
+  pub on_top-opened : (s t u : Top B) (stop : Stop) → t.below ≡ s.below → s.stopped ≡ None → t.room.len ≡ s.room.len → t.name ≡ s.name
+      → u.stopped ≡ Some stop → OnTop good words stops log t u → OnTop good words stops log s u
+  on_top-opened s t u stop same none len name is a = on_top-moved s t u same none len name (λ q. absurd (no-stop u.stopped stop is q)) a
 
 -- A READ through the overlay
 -- of a word that lies in it
 pub reads-top : (is : List (ℕ × ℕ)) (l : Log) (a v : ℕ) → Once is → item_at a is ≡ Some v → Reads (over is l) a v (over is l)
-reads-top is l a v o e = (refl, subst (λ (q : Option ℕ). MatchOption q (MatchOption (item_at a l.reads) (l.reads ≡ l.reads ++ (a, v) ∷ []) (λ x. (v ≡ x) × (l.reads ≡ l.reads))) (λ x. (v ≡ x) × (l.reads ≡ l.reads))) (sym (laid-item a is l.writes o ∙ ap (λ q. either q (item_at a l.writes)) e)) (refl, refl))
+reads-top is l a v o e = (
+  refl,
+  subst (λ (q : Option ℕ).
+      MatchOption q (MatchOption (item_at a l.reads) (l.reads ≡ l.reads ++ (a, v) ∷ []) (λ x. (v ≡ x) × (l.reads ≡ l.reads))) (λ x.
+      (v ≡ x) × (l.reads ≡ l.reads))) (sym (laid-item a is l.writes o ∙ ap (λ q. either q (item_at a l.writes)) e)) (refl, refl),
+)
 
 -- of another
 pub reads-below : (is : List (ℕ × ℕ)) (l k : Log) (a v : ℕ) → Once is → item_at a is ≡ None → Reads l a v k → Reads (over is l) a v (over is k)
-reads-below is l k a v o e h = (ap (laid is) h.0, subst (λ (q : Option ℕ). MatchOption q (MatchOption (item_at a l.reads) (k.reads ≡ l.reads ++ (a, v) ∷ []) (λ x. (v ≡ x) × (k.reads ≡ l.reads))) (λ x. (v ≡ x) × (k.reads ≡ l.reads))) (sym (laid-item a is l.writes o ∙ ap (λ q. either q (item_at a l.writes)) e)) h.1)
+reads-below is l k a v o e h = (
+  ap (laid is) h.0,
+  subst (λ (q : Option ℕ).
+      MatchOption q (MatchOption (item_at a l.reads) (k.reads ≡ l.reads ++ (a, v) ∷ []) (λ x. (v ≡ x) × (k.reads ≡ l.reads))) (λ x.
+      (v ≡ x) × (k.reads ≡ l.reads))) (sym (laid-item a is l.writes o ∙ ap (λ q. either q (item_at a l.writes)) e)) h.1,
+)
 
 -- A WRITE into it
 put-either : (a v b : ℕ) (p q : Option ℕ) → either (if a == b then Some v else p) q ≡ (if a == b then Some v else either p q)
@@ -108,7 +121,14 @@ put-either a v b p q = by (a == b)
     by false = refl
 
 pub writes-top : (is : List (ℕ × ℕ)) (l : Log) (a v : ℕ) → Once is → Writes (over is l) a v (over (put a v is) l)
-writes-top is l a v o = (refl, λ b. laid-item b (put a v is) l.writes (once-put a v is o) ∙ (ap (λ q. either q (item_at b l.writes)) (put-item a v b is) ∙ (put-either a v b (item_at b is) (item_at b l.writes) ∙ (ap (λ q. if a == b then Some v else q) (sym (laid-item b is l.writes o)) ∙ sym (put-item a v b (laid is l.writes))))))
+writes-top is l a v o = (
+  refl,
+  λ b.
+      laid-item b (put a v is) l.writes (once-put a v is o)
+      ∙ (ap (λ q. either q (item_at b l.writes)) (put-item a v b is)
+      ∙ (put-either a v b (item_at b is) (item_at b l.writes)
+      ∙ (ap (λ q. if a == b then Some v else q) (sym (laid-item b is l.writes o)) ∙ sym (put-item a v b (laid is l.writes))))),
+)
 
 pub within-put : (n a v : ℕ) (is : List (ℕ × ℕ)) → a < n → Within n (firsts is) → Within n (firsts (put a v is))
 within-put n a v [] low h = (low, tt)
@@ -139,7 +159,15 @@ take-more (w ∷ ws) (suc i) low = ap (λ (k : ℕ). take k (w ∷ ws)) next ∙
     next = omega arith
 
 pub lays-more : (is : List (ℕ × ℕ)) (i : ℕ) (l k j : Log) → i < length is → Lays (take i is) l k → Writes k (get_or is i (0, 0)).0 (get_or is i (0, 0)).1 j → Lays (take (i + 1) is) l j
-lays-more is i l k j low h w = (w.0 ∙ h.0, λ b. w.1 b ∙ (put-item x.0 x.1 b k.writes ∙ (ap (λ q. if x.0 == b then Some x.1 else q) (h.1 b) ∙ (sym (put-item x.0 x.1 b (laid (take i is) l.writes)) ∙ ap (item_at b) (sym (ap (λ vs. laid vs l.writes) (take-more is i low) ∙ laid-last (take i is) l.writes x))))))
+lays-more is i l k j low h w = (
+  w.0 ∙ h.0,
+  λ b.
+      w.1 b
+      ∙ (put-item x.0 x.1 b k.writes
+      ∙ (ap (λ q. if x.0 == b then Some x.1 else q) (h.1 b)
+      ∙ (sym (put-item x.0 x.1 b (laid (take i is) l.writes))
+      ∙ ap (item_at b) (sym (ap (λ vs. laid vs l.writes) (take-more is i low) ∙ laid-last (take i is) l.writes x))))),
+)
   where
     x : ℕ × ℕ
     x = get_or is i (0, 0)
@@ -188,9 +216,9 @@ ok-then (Ok t) F G W w h f = f t w h
 ok-then (Err e) F G W w h f = h
 
 -- what lies below goes on, whether there was room or not
-pub goes-either : (b o : Option Stop) (len words : ℕ) (P : Type 0) (full : Option ℕ) → IfSome full (λ limit. (b ≡ None) × (limit ≡ len) × (limit < words) × P) → IfNone full (b ≡ o) → o ≡ None → b ≡ None
-goes-either b o len words P None some none goes = none ∙ goes
-goes-either b o len words P (Some limit) some none goes = some.0
+pub goes-either : (b o : Option Stop) (full : Option ℕ) → IfSome full (λ limit. b ≡ None) → IfNone full (b ≡ o) → o ≡ None → b ≡ None
+goes-either b o None some none goes = none ∙ goes
+goes-either b o (Some limit) some none goes = some
 
 -- marks for the deeper of two parts are enough for the second
 pub room-second : (d e a b most : ℕ) → e ≡ d → d + max a b ≤ most → e + b ≤ most

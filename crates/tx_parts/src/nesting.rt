@@ -34,7 +34,8 @@ pub trait Nesting: Access {
         requires going { Self.stopped self.old ≡ None }
         requires marked { 0 < depth self.old }
         ensures reads { (Self.log self.new).reads ≡ (Self.log self.old).reads }
-        ensures writes { (x y : Self) → opens x y → Self.keeps y self.old → (Self.log self.new).writes ≡ (Self.log x).writes }
+        ensures writes { (x y : Self) → opens x y → Self.keeps y self.old
+            → (Self.log self.new).writes ≡ (Self.log x).writes }
         ensures goes { Self.stopped self.new ≡ None }
         ensures good { SameMemories (Self.good self.old) (Self.good self.new) }
         ensures words { Self.words self.new ≡ Self.words self.old }

@@ -2,7 +2,7 @@
 ghost use Rattle.std.specs.Prelude.{◌≡◌, ◌<◌, None, Some, OnOk, IfErr, IfSome, IfNone};
 ghost use Rattle.stm_model.specs.Logs.{SameMemories, IsExplained};
 ghost use Rattle.tx_logs.specs.LogStates.{firsts};
-ghost use Rattle.tx_parts.specs.Laying.{Lays, Within};
+ghost use Rattle.tx_parts.specs.Laying.{Lays, Within, IsFilled};
 
 use crate::nesting::Nesting;
 use std::marker::Model;
@@ -14,44 +14,43 @@ use tx_logs::write_log::WriteLog;
 /// An access whose writes lie in a log of its own, over those of the access below it, which it only reads. Where the log
 /// has its length and one more address is written, it is stopped by `Full`, and the access below could go on.
 #[derive(Drop)]
-pub struct Overlay<A: Access> {
+pub struct Overlay<'a, A: Access> {
     pub(crate) below: A,
-    pub(crate) room: WriteLog,
+    pub(crate) room: &'a mut WriteLog,
     pub(crate) stopped: Option<Stop>,
     /// Whether it was stopped for want of room.
     pub(crate) crowded: bool,
 }
 
-impl<A: Access> Model for Overlay<A> {
+impl<'a, A: Access> Model for Overlay<'a, A> {
     ghost use Rattle.tx_parts.specs.Laying.{Top, top, Stands};
 
     ghost Value = { Top A };
 
-    ghost view = { λ s. top s.below s.room s.stopped s.crowded };
+    ghost view = { λ s. top s.below s.room.now s.room.ghost_name s.stopped s.crowded };
 
     // a good memory explains what lies below, and the log's words are words of it
-    ghost invariant = { λ s. Stands A.good A.words A.stopped A.log s.below s.room s.stopped s.crowded };
+    ghost invariant = { λ s. Stands A.good A.words A.stopped A.log s.below s.room.now s.stopped s.crowded };
 }
 
-impl<A: Access> Overlay<A> {
-    /// Writes what lies in the log to the access below, in the order of the first writes, and empties the log.
+impl<'a, A: Access> Overlay<'a, A> {
+    /// Writes what lies in the log to the access below, in the order of the first writes.
     ///
     /// # Errors
     /// The Stop of the access below.
     pub(crate) fn settle(&mut self) -> Result<(), Stop>
         requires going { self.old.stopped ≡ None }
-        ensures lays { OnOk result (Lays self.old.room.items (A.log self.old.below) (A.log self.new.below)) }
+        ensures lays { OnOk result
+            (Lays self.old.room.items (A.log self.old.below) (A.log self.new.below)) }
         ensures goes { OnOk result (A.stopped self.new.below ≡ None) }
         ensures stops { IfErr result (λ s. A.stopped self.new.below ≡ Some s) }
         ensures good { SameMemories (A.good self.old.below) (A.good self.new.below) }
         ensures words { A.words self.new.below ≡ A.words self.old.below }
         ensures keeps { A.keeps self.old.below self.new.below }
+        ensures room { (self.new.room ≡ self.old.room) × (self.new.name ≡ self.old.name) }
     {
-        match write_through(&mut self.below, &self.room) {
-            Ok(()) => {
-                self.room.clear();
-                Ok(())
-            }
+        match write_through(&mut self.below, self.room) {
+            Ok(()) => Ok(()),
             Err(stop) => {
                 self.stopped = Some(stop);
                 Err(stop)
@@ -61,7 +60,11 @@ impl<A: Access> Overlay<A> {
 
     /// For how many words there was room, where it was stopped for want of more.
     pub(crate) fn no_room(&self) -> Option<usize>
-        ensures some { IfSome result (λ limit. (A.stopped self.now.below ≡ None) × (limit ≡ self.now.room.len) × (limit < A.words self.now.below) × IsExplained (A.good self.now.below) (A.words self.now.below) (A.log self.now.below)) }
+        ensures goes { IfSome result (λ _. A.stopped self.now.below ≡ None) }
+        ensures some { IfSome result (λ limit.
+            (limit ≡ self.now.room.len) × (limit < A.words self.now.below)
+            × IsExplained (A.good self.now.below) (A.words self.now.below) (A.log self.now.below)
+            × IsFilled (A.words self.now.below) self.now.room) }
         ensures none { IfNone result (A.stopped self.now.below ≡ self.now.stopped) }
     {
         let _count = self.room.count();
@@ -70,14 +73,6 @@ impl<A: Access> Overlay<A> {
         } else {
             None
         }
-    }
-
-    /// The access below, and the log is dropped.
-    pub(crate) fn into_below(self) -> A
-        ensures { result ≡ self.below }
-    {
-        let Overlay { below, .. } = self;
-        below
     }
 }
 
@@ -90,7 +85,8 @@ fn write_through<A: Access>(memory: &mut A, room: &WriteLog) -> Result<(), Stop>
     requires seen { IsExplained (A.good memory.old) (A.words memory.old) (A.log memory.old) }
     requires within { Within (A.words memory.old) (firsts room.now.items) }
     ensures lays { OnOk result (Lays room.now.items (A.log memory.old) (A.log memory.new)) }
-    ensures explained { OnOk result (IsExplained (A.good memory.new) (A.words memory.new) (A.log memory.new)) }
+    ensures explained { OnOk result
+        (IsExplained (A.good memory.new) (A.words memory.new) (A.log memory.new)) }
     ensures goes { OnOk result (A.stopped memory.new ≡ None) }
     ensures stops { IfErr result (λ s. A.stopped memory.new ≡ Some s) }
     ensures good { SameMemories (A.good memory.old) (A.good memory.new) }
@@ -104,7 +100,7 @@ fn write_through<A: Access>(memory: &mut A, room: &WriteLog) -> Result<(), Stop>
     Ok(())
 }
 
-impl<A: Access> Access for Overlay<A> {
+impl<'a, A: Access> Access for Overlay<'a, A> {
     ghost use Rattle.tx_parts.specs.Laying.{over, OnTop};
     ghost use Rattle.tx_parts.specs.LayingLaws.{over-once, on_top-refl, on_top-trans};
 
@@ -152,7 +148,7 @@ impl<A: Access> Access for Overlay<A> {
     }
 }
 
-impl<A: Access> Nesting for Overlay<A> {
+impl<'a, A: Access> Nesting for Overlay<'a, A> {
     ghost use Rattle.std.specs.Prelude.{◌≡◌, None, length};
     ghost use Rattle.std.proofs.Common.{ap, subst};
     ghost use Rattle.tx_parts.specs.Laying.{opened};
@@ -160,7 +156,7 @@ impl<A: Access> Nesting for Overlay<A> {
 
     ghost depth = { λ s. length s.room.marks };
 
-    ghost opens = { λ s t. (t.below ≡ s.below) × (s.stopped ≡ None) × (t.room ≡ opened s.room) };
+    ghost opens = { λ s t. (t.below ≡ s.below) × (s.stopped ≡ None) × (t.room ≡ opened s.room) × (t.name ≡ s.name) };
 
     fn mark(&mut self) {
         self.room.mark();
@@ -185,5 +181,5 @@ impl<A: Access> Nesting for Overlay<A> {
 
     ghost keeps_reads = { λ s t a e. (a.1.marks e).2.0 };
 
-    ghost keeps_stopped = { λ s t u stop o a e. (subst (λ b. A.keeps b u.below) o.0 a.0, on_top-opened A.good A.words A.stopped A.log s t u stop o.0 o.1 (ap (λ q. q.len) o.2) e a.1) };
+    ghost keeps_stopped = { λ s t u stop o a e. (subst (λ b. A.keeps b u.below) o.0 a.0, on_top-opened A.good A.words A.stopped A.log s t u stop o.0 o.1 (ap (λ q. q.len) o.2) o.3 e a.1) };
 }

@@ -33,13 +33,20 @@ pub trait Part<K: MemRule> {
     fn run<N: Nesting>(&self, rule: &K, memory: &mut N) -> Result<Option<Self::Output>, Stop>
         requires going { N.stopped memory.old ≡ None }
         requires good { SameMemories (N.good memory.old) (K.good rule.now) }
-        requires explained { IsExplained (N.good memory.old) (N.words memory.old) (N.log memory.old) }
-        requires sound { Under (K.good rule.now) (N.words memory.old) (N.log memory.old) (K.good rule.now) }
+        requires explained { IsExplained (N.good memory.old) (N.words memory.old)
+            (N.log memory.old) }
+        requires sound { Under (K.good rule.now) (N.words memory.old) (N.log memory.old)
+            (K.good rule.now) }
         requires precondition { precondition self.now rule.now (N.words memory.old) }
         requires shallow { N.depth memory.old + depth self.now ≤ MAX_MARKS }
-        ensures kept { IfOk result (λ o. IfSome o (λ r. Under (K.good rule.now) (N.words memory.old) (N.log memory.new) (K.good rule.now))) }
-        ensures postcondition { IfOk result (λ o. postcondition self.now rule.now (N.words memory.old) o (N.log memory.old) (N.log memory.new)) }
-        ensures explained { OnOk result (IsExplained (N.good memory.new) (N.words memory.new) (N.log memory.new)) }
+        ensures kept { IfOk result (λ o.
+            IfSome o (λ r.
+            Under (K.good rule.now) (N.words memory.old) (N.log memory.new) (K.good rule.now))) }
+        ensures postcondition { IfOk result (λ o.
+            postcondition self.now rule.now (N.words memory.old) o (N.log memory.old)
+            (N.log memory.new)) }
+        ensures explained { OnOk result
+            (IsExplained (N.good memory.new) (N.words memory.new) (N.log memory.new)) }
         ensures goes { OnOk result (N.stopped memory.new ≡ None) }
         ensures stops { IfErr result (λ s. N.stopped memory.new ≡ Some s) }
         ensures keeps { N.keeps memory.old memory.new };

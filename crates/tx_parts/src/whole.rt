@@ -34,10 +34,10 @@ impl<K: MemRule, P: Part<K>> Transaction<K> for Whole<P> {
     /// `NoMemory` where memory was refused for the part's log.
     fn run<A: Access>(&self, rule: &K, memory: &mut A) -> Result<PartOutcome<P::Output>, Stop> {
         memory.read(self.first)?;
-        let Ok(room) = WriteLog::new(self.alloc, self.room) else {
+        let Ok(mut room) = WriteLog::new(self.alloc, self.room) else {
             return Ok(PartOutcome::NoMemory);
         };
-        wholly(&self.part, rule, memory, room)
+        wholly(&self.part, rule, memory, &mut room)
     }
 }
 

@@ -33,8 +33,11 @@ impl<T: Word> Place<T> {
     pub fn get<A: Access>(&self, memory: &mut A) -> Result<T, Stop>
         requires going { A.stopped memory.old ≡ None }
         requires within { self.now.at < A.words memory.old }
-        ensures value { IfOk result (λ v. (word : ℕ) × Reads (A.log memory.old) self.now.at word (A.log memory.new) × Stands T.fits T.code word v) }
-        ensures explained { OnOk result (IsExplained (A.good memory.new) (A.words memory.new) (A.log memory.new)) }
+        ensures value { IfOk result (λ v.
+            (word : ℕ) × Reads (A.log memory.old) self.now.at word (A.log memory.new)
+            × Stands T.fits T.code word v) }
+        ensures explained { OnOk result
+            (IsExplained (A.good memory.new) (A.words memory.new) (A.log memory.new)) }
         ensures goes { OnOk result (A.stopped memory.new ≡ None) }
         ensures stops { IfErr result (λ s. A.stopped memory.new ≡ Some s) }
         ensures cause { IfErr result IsReadStop }
@@ -53,8 +56,11 @@ impl<T: Word> Place<T> {
     pub fn set<A: Access>(&self, memory: &mut A, value: T) -> Result<(), Stop>
         requires going { A.stopped memory.old ≡ None }
         requires within { self.now.at < A.words memory.old }
-        ensures value { OnOk result (Writes (A.log memory.old) self.now.at (T.code value) (A.log memory.new) × T.fits value) }
-        ensures explained { OnOk result (IsExplained (A.good memory.new) (A.words memory.new) (A.log memory.new)) }
+        ensures value { OnOk result
+            (Writes (A.log memory.old) self.now.at (T.code value) (A.log memory.new)
+            × T.fits value) }
+        ensures explained { OnOk result
+            (IsExplained (A.good memory.new) (A.words memory.new) (A.log memory.new)) }
         ensures goes { OnOk result (A.stopped memory.new ≡ None) }
         ensures stops { IfErr result (λ s. A.stopped memory.new ≡ Some s) }
         ensures good { SameMemories (A.good memory.old) (A.good memory.new) }
@@ -71,8 +77,10 @@ impl<T: Word> Place<T> {
         requires going { A.stopped memory.old ≡ None }
         requires within { self.now.at < A.words memory.old }
         requires callable { F.IsAlwaysCallable by }
-        ensures value { IfOk result (λ v. Updates T.fits T.code (F.post by) self.now.at (A.log memory.old) v (A.log memory.new)) }
-        ensures explained { OnOk result (IsExplained (A.good memory.new) (A.words memory.new) (A.log memory.new)) }
+        ensures value { IfOk result (λ v.
+            Updates T.fits T.code (F.post by) self.now.at (A.log memory.old) v (A.log memory.new)) }
+        ensures explained { OnOk result
+            (IsExplained (A.good memory.new) (A.words memory.new) (A.log memory.new)) }
         ensures goes { OnOk result (A.stopped memory.new ≡ None) }
         ensures stops { IfErr result (λ s. A.stopped memory.new ≡ Some s) }
         ensures good { SameMemories (A.good memory.old) (A.good memory.new) }

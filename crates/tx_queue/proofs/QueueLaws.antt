@@ -35,7 +35,9 @@ wrap-inside n f k lt le = by (wrap-cases n (f + k))
 wrap-differ : (n f j k : ℕ) → f < n → j < n → k < n → j ≢ k → wrapped n (f + j) ≢ wrapped n (f + k)
 wrap-differ n f j k lt lj lk apart = by (wrap-cases n (f + j)) (wrap-cases n (f + k))
   where
-    by : ((f + j < n) × (wrapped n (f + j) ≡ f + j)) ⊎ ((n ≤ f + j) × (wrapped n (f + j) ≡ f + j - n)) → ((f + k < n) × (wrapped n (f + k) ≡ f + k)) ⊎ ((n ≤ f + k) × (wrapped n (f + k) ≡ f + k - n)) → wrapped n (f + j) ≢ wrapped n (f + k)
+    by : ((f + j < n) × (wrapped n (f + j) ≡ f + j)) ⊎ ((n ≤ f + j) × (wrapped n (f + j) ≡ f + j - n))
+        → ((f + k < n) × (wrapped n (f + k) ≡ f + k)) ⊎ ((n ≤ f + k) × (wrapped n (f + k) ≡ f + k - n))
+        → wrapped n (f + j) ≢ wrapped n (f + k)
     by (inl h) (inl g) = λ e. let a = h.1 in let b = g.1 in apart (omega arith)
     by (inl h) (inr g) = λ e. let a = h.1 in let b = g.1 in let c = g.0 in let d = h.0 in absurd (omega arith)
     by (inr h) (inl g) = λ e. let a = h.1 in let b = g.1 in let c = g.0 in let d = h.0 in absurd (omega arith)
@@ -82,17 +84,25 @@ three-other : (m : List ℕ) (a v b w c u x : ℕ) → x ≢ a → x ≢ b → x
 three-other m a v b w c u x na nb nc = get_or-set_other (set (set m a v) b w) c x u 0 nc ∙ two-other m a v b w x na nb
 
 -- the same values, where the cells that hold them are the same
-values_from-same : (q : Queue) (m k : List ℕ) (f j n : ℕ) → f < q.cells → j + n ≤ q.cells → ((i : ℕ) → i < n → cell q k (wrapped q.cells (f + (j + i))) ≡ cell q m (wrapped q.cells (f + (j + i)))) → values_from q k (wrapped q.cells (f + j)) n ≡ values_from q m (wrapped q.cells (f + j)) n
+values_from-same : (q : Queue) (m k : List ℕ) (f j n : ℕ) → f < q.cells → j + n ≤ q.cells
+    → ((i : ℕ) → i < n → cell q k (wrapped q.cells (f + (j + i))) ≡ cell q m (wrapped q.cells (f + (j + i))))
+    → values_from q k (wrapped q.cells (f + j)) n ≡ values_from q m (wrapped q.cells (f + j)) n
 values_from-same q m k f j zero lt le same = refl
 values_from-same q m k f j (suc n) lt le same =
-    let here : cell q k (wrapped q.cells (f + j)) ≡ cell q m (wrapped q.cells (f + j)) = subst (λ x. cell q k (wrapped q.cells (f + x)) ≡ cell q m (wrapped q.cells (f + x))) (let e : j + 0 ≡ j = omega arith in e) (same 0 (omega arith)) in
+    let here : cell q k (wrapped q.cells (f + j)) ≡ cell q m (wrapped q.cells (f + j)) = subst
+    (λ x. cell q k (wrapped q.cells (f + x)) ≡ cell q m (wrapped q.cells (f + x))) (let e : j + 0 ≡ j = omega arith in e)
+    (same 0 (omega arith)) in
     let next = wrap-next q.cells f j lt (omega arith) in
-    let rest = values_from-same q m k f (j + 1) n lt (omega arith) (λ i li. subst (λ x. cell q k (wrapped q.cells (f + x)) ≡ cell q m (wrapped q.cells (f + x))) (let e : j + suc i ≡ j + 1 + i = omega arith in e) (same (suc i) (omega arith))) in
+    let rest = values_from-same q m k f (j + 1) n lt (omega arith) (λ i li.
+    subst (λ x. cell q k (wrapped q.cells (f + x)) ≡ cell q m (wrapped q.cells (f + x))) (let e : j + suc i ≡ j + 1 + i = omega arith in e)
+    (same (suc i) (omega arith))) in
     ap (λ x. x ∷ values_from q k (wrapped q.cells (wrapped q.cells (f + j) + 1)) n) here
     ∙ ap (λ l. cell q m (wrapped q.cells (f + j)) ∷ l) (ap (λ i. values_from q k i n) next ∙ (rest ∙ ap (λ i. values_from q m i n) (sym next)))
 
 -- one value more
-values_from-push : (q : Queue) (m : List ℕ) (f j n : ℕ) → f < q.cells → j + n < q.cells → values_from q m (wrapped q.cells (f + j)) (suc n) ≡ values_from q m (wrapped q.cells (f + j)) n ++ cell q m (wrapped q.cells (f + (j + n))) ∷ []
+values_from-push : (q : Queue) (m : List ℕ) (f j n : ℕ) → f < q.cells → j + n < q.cells
+    → values_from q m (wrapped q.cells (f + j)) (suc n)
+    ≡ values_from q m (wrapped q.cells (f + j)) n ++ cell q m (wrapped q.cells (f + (j + n))) ∷ []
 values_from-push q m f j zero lt le = ap (λ x. cell q m (wrapped q.cells (f + x)) ∷ []) (let e : j ≡ j + 0 = omega arith in e)
 values_from-push q m f j (suc n) lt le =
     let next = wrap-next q.cells f j lt (omega arith) in
@@ -165,7 +175,9 @@ module _ (q : Queue) (m : List ℕ) (h : IsQueue q m) (fits : QueueFits q (lengt
         let last : cell q new (wrapped q.cells (f + (0 + n))) ≡ v = ap (λ x. cell q new (wrapped q.cells (f + x))) zero-more ∙ new-end in
         ap (λ x. values_from q new x (count q new)) new-front ∙ (ap (values_from q new f) (new-count ∙ one) ∙ (ap (λ x. values_from q new x (suc n)) (sym base) ∙ (values_from-push q new f 0 n first (omega arith)
         ∙ (ap (λ x. values_from q new (wrapped q.cells (f + 0)) n ++ x ∷ []) last ∙ (ap (λ l. l ++ v ∷ []) (values_from-same q m new f 0 n first (omega arith) (λ i lt.
-        new-other (wrapped q.cells (f + (0 + i))) (subst (λ x. wrapped q.cells (f + x) ≢ end) (let e : i ≡ 0 + i = omega arith in e) (differ i (omega arith) (λ e. absurd (omega arith)))))) ∙ ap (λ x. values_from q m x n ++ v ∷ []) base)))))
+        new-other (wrapped q.cells (f + (0 + i)))
+        (subst (λ x. wrapped q.cells (f + x) ≢ end) (let e : i ≡ 0 + i = omega arith in e)
+        (differ i (omega arith) (λ e. absurd (omega arith)))))) ∙ ap (λ x. values_from q m x n ++ v ∷ []) base)))))
 
   module _ (some : 0 < count q m) where
     abbrev past : List ℕ
@@ -228,7 +240,9 @@ module _ (q : Queue) (m : List ℕ) (h : IsQueue q m) (fits : QueueFits q (lengt
         let c : count q m ≡ suc n = omega arith in
         let fits' = h.fits in
         ap (values_from q m f) c ∙ ap (λ l. cell q m f ∷ l)
-        (sym (values_from-same q m past f 1 n first (omega arith) (λ i lt. past-other (wrapped q.cells (f + (1 + i))) (subst (λ x. wrapped q.cells (f + x) ≢ f) (let e : i + 1 ≡ 1 + i = omega arith in e) (later i (omega arith)))))
+        (sym (values_from-same q m past f 1 n first (omega arith) (λ i lt.
+        past-other (wrapped q.cells (f + (1 + i)))
+        (subst (λ x. wrapped q.cells (f + x) ≢ f) (let e : i + 1 ≡ 1 + i = omega arith in e) (later i (omega arith)))))
         ∙ (ap (λ x. values_from q past x n) (sym past-front) ∙ ap (values_from q past (front q past)) (sym past-count)))
 
 -- a put, by what was read
@@ -242,7 +256,8 @@ put-added q m v n f e in' if' lt ie =
     ap (λ b. if b then unchanged NoRoom m else changed Added (enqueued q v m)) t
     ∙ ap (changed Added) (ap (λ x. set (set m (cell_at q x) v) (q.at + 1) (count q m + 1)) end ∙ ap (λ x. set (set m (cell_at q e) v) (q.at + 1) (x + 1)) (sym in'))
 
-keeps-by : (q : Queue) (m : List ℕ) (v : ℕ) → IsQueue q m → QueueFits q (length m) → v < 2 ^ 32 → (b : Bool) → leb q.cells (count q m) ≡ b → IsQueue q (if b then unchanged NoRoom m else changed Added (enqueued q v m)).memory
+keeps-by : (q : Queue) (m : List ℕ) (v : ℕ) → IsQueue q m → QueueFits q (length m) → v < 2 ^ 32 → (b : Bool) → leb q.cells (count q m) ≡ b
+    → IsQueue q (if b then unchanged NoRoom m else changed Added (enqueued q v m)).memory
 keeps-by q m v h fits small true e = h
 keeps-by q m v h fits small false e = enqueued-keeps q m h fits v (grind (arith, nat_tests)) small
 
@@ -253,7 +268,8 @@ put-keeps q m v h fits small = keeps-by q m v h fits small (leb q.cells (count q
 pub got-none : (q : Queue) (m : List ℕ) (n : ℕ) → n ≡ count q m → n ≡ 0 → got_in q m ≡ unchanged None m
 got-none q m n is none = let t : (count q m == 0) ≡ true = grind (arith, nat_tests) in rw t refl
 
-pub got-some : (q : Queue) (m : List ℕ) (n f x e : ℕ) → n ≡ count q m → f ≡ front q m → x ≡ cell q m f → 0 < n → e ≡ wrapped q.cells (f + 1) → got_in q m ≡ changed (Some x) (set (set (set m (cell_at q f) 0) q.at e) (q.at + 1) (n - 1))
+pub got-some : (q : Queue) (m : List ℕ) (n f x e : ℕ) → n ≡ count q m → f ≡ front q m → x ≡ cell q m f → 0 < n → e ≡ wrapped q.cells (f + 1)
+    → got_in q m ≡ changed (Some x) (set (set (set m (cell_at q f) 0) q.at e) (q.at + 1) (n - 1))
 got-some q m n f x e in' if' ix lt ie =
     let t : (count q m == 0) ≡ false = grind (arith, nat_tests) in
     let value : cell q m (front q m) ≡ x = ap (cell q m) (sym if') ∙ sym ix in
@@ -296,7 +312,8 @@ puts-last q m v h fits small =
       (λ le. let e = no-room q m v (count q m) refl (omega arith) in (ap (λ x. x.reply) e, ap (λ x. x.memory) e)),
     )
 
-gets-by : (q : Queue) (m : List ℕ) (v : ℕ) (vs : List ℕ) → IsQueue q m → QueueFits q (length m) → 0 < count q m → contents q m ≡ v ∷ vs → ((got_in q m).reply ≡ Some v) × (contents q (got_in q m).memory ≡ vs) × (v < 2 ^ 32)
+gets-by : (q : Queue) (m : List ℕ) (v : ℕ) (vs : List ℕ) → IsQueue q m → QueueFits q (length m) → 0 < count q m → contents q m ≡ v ∷ vs
+    → ((got_in q m).reply ≡ Some v) × (contents q (got_in q m).memory ≡ vs) × (v < 2 ^ 32)
 gets-by q m v vs h fits lt is =
     let t : (count q m == 0) ≡ false = grind (arith, nat_tests) in
     let e : got_in q m ≡ changed (Some (cell q m (front q m))) (dequeued q m) = ap (λ b. if b then unchanged None m else changed (Some (cell q m (front q m))) (dequeued q m)) t in
@@ -356,22 +373,29 @@ own-words q m k h same = by (ltb 0 q.cells) refl
               ap (λ x. cell q k (wrapped q.cells (x + j))) f ∙ (same (cell_at q (index_of q m j)) (omega arith) (omega arith) ∙ h.spare j (omega arith) lt);
         }
 
-outside-put : (q : Queue) (m : List ℕ) (v x : ℕ) → IsQueue q m → QueueFits q (length m) → (x < q.at) ⊎ (q.at + 2 + q.cells ≤ x) → (b : Bool) → leb q.cells (count q m) ≡ b → get_or (if b then unchanged NoRoom m else changed Added (enqueued q v m)).memory x 0 ≡ get_or m x 0
+outside-put : (q : Queue) (m : List ℕ) (v x : ℕ) → IsQueue q m → QueueFits q (length m) → (x < q.at) ⊎ (q.at + 2 + q.cells ≤ x) → (b : Bool)
+    → leb q.cells (count q m) ≡ b → get_or (if b then unchanged NoRoom m else changed Added (enqueued q v m)).memory x 0 ≡ get_or m x 0
 outside-put q m v x h fits out true e = refl
 outside-put q m v x h fits out false e =
     let lt : count q m < q.cells = grind (arith, nat_tests) in
     let w = wrap-inside q.cells (front q m) (count q m) (h.starts fits.0) (omega arith) in
-    two-other m (cell_at q (index_of q m (count q m))) v (q.at + 1) (count q m + 1) x (λ s. away out (cell_at q (index_of q m (count q m))) (omega arith) (omega arith) s) (λ s. away out (q.at + 1) (omega arith) (let z = fits.0 in omega arith) s)
+    two-other m (cell_at q (index_of q m (count q m))) v (q.at + 1) (count q m + 1) x
+    (λ s. away out (cell_at q (index_of q m (count q m))) (omega arith) (omega arith) s) (λ s.
+    away out (q.at + 1) (omega arith) (let z = fits.0 in omega arith) s)
   where
     away : (x < q.at) ⊎ (q.at + 2 + q.cells ≤ x) → (a : ℕ) → q.at ≤ a → a < q.at + 2 + q.cells → x ≡ a → ⊥
     away (inl h) a low high e = absurd (omega arith)
     away (inr h) a low high e = absurd (omega arith)
 
-outside-got : (q : Queue) (m : List ℕ) (x : ℕ) → IsQueue q m → QueueFits q (length m) → (x < q.at) ⊎ (q.at + 2 + q.cells ≤ x) → (b : Bool) → (count q m == 0) ≡ b → get_or (if b then unchanged None m else changed (Some (cell q m (front q m))) (dequeued q m)).memory x 0 ≡ get_or m x 0
+outside-got : (q : Queue) (m : List ℕ) (x : ℕ) → IsQueue q m → QueueFits q (length m) → (x < q.at) ⊎ (q.at + 2 + q.cells ≤ x) → (b : Bool)
+    → (count q m == 0) ≡ b
+    → get_or (if b then unchanged None m else changed (Some (cell q m (front q m))) (dequeued q m)).memory x 0 ≡ get_or m x 0
 outside-got q m x h fits out true e = refl
 outside-got q m x h fits out false e =
     let w = h.starts fits.0 in
-    three-other m (cell_at q (front q m)) 0 q.at (index_of q m 1) (q.at + 1) (count q m - 1) x (λ s. away out (cell_at q (front q m)) (omega arith) (omega arith) s) (λ s. away out q.at (omega arith) (omega arith) s) (λ s. away out (q.at + 1) (omega arith) (omega arith) s)
+    three-other m (cell_at q (front q m)) 0 q.at (index_of q m 1) (q.at + 1) (count q m - 1) x
+    (λ s. away out (cell_at q (front q m)) (omega arith) (omega arith) s) (λ s. away out q.at (omega arith) (omega arith) s) (λ s.
+    away out (q.at + 1) (omega arith) (omega arith) s)
   where
     away : (x < q.at) ⊎ (q.at + 2 + q.cells ≤ x) → (a : ℕ) → q.at ≤ a → a < q.at + 2 + q.cells → x ≡ a → ⊥
     away (inl h) a low high e = absurd (omega arith)

@@ -24,11 +24,14 @@ module _ (good : List ℕ → Type 0) (words : ℕ) (l : Log) (q : Queue) (fits 
   read-front k j n f rd ws rd' = shows-read good words l k j (HasCount q n) (HasFront q n f) q.at f (read-count k n rd) ws (let w = fits.1 in omega arith) rd' (λ m p e. (p.0, p.1, e))
 
   -- the front is one of the cells
-  pub is-inside : (k j : Log) (n f : ℕ) (good' : List ℕ → Type 0) (words' : ℕ) → Reads l (q.at + 1) n k → k.writes ≡ l.writes → Reads k q.at f j → SameMemories good good' → words' ≡ words → IsExplained good' words' j → f < q.cells
+  pub is-inside : (k j : Log) (n f : ℕ) (good' : List ℕ → Type 0) (words' : ℕ) → Reads l (q.at + 1) n k → k.writes ≡ l.writes
+      → Reads k q.at f j → SameMemories good good' → words' ≡ words → IsExplained good' words' j → f < q.cells
   is-inside k j n f good' words' rd ws rd' same w ex = shown good words l j good' words' (HasFront q n f) (f < q.cells) (read-front k j n f rd ws rd') same w ex (λ m p. front-inside q m f p.0 fits.0 p.2)
 
   pub read-first : (k j i : Log) (n f x : ℕ) → f < q.cells → Reads l (q.at + 1) n k → k.writes ≡ l.writes → Reads k q.at f j → j.writes ≡ l.writes → Reads j (cell_at q f) x i → Shows good words l i (HasFirst q n f x)
-  read-first k j i n f x lt rd ws rd' ws' rd'' = shows-read good words l j i (HasFront q n f) (HasFirst q n f x) (cell_at q f) x (read-front k j n f rd ws rd') ws' (let w = fits.1 in omega arith) rd'' (λ m p e. (p.0, p.1, p.2, e))
+  read-first k j i n f x lt rd ws rd' ws' rd'' =
+      shows-read good words l j i (HasFront q n f) (HasFirst q n f x) (cell_at q f) x (read-front k j n f rd ws rd') ws'
+      (let w = fits.1 in omega arith) rd'' (λ m p e. (p.0, p.1, p.2, e))
 
   pub is-small : (k j i : Log) (n f x : ℕ) (good' : List ℕ → Type 0) (words' : ℕ) → f < q.cells → 0 < n → Reads l (q.at + 1) n k → k.writes ≡ l.writes → Reads k q.at f j → j.writes ≡ l.writes → Reads j (cell_at q f) x i
       → SameMemories good good' → words' ≡ words → IsExplained good' words' i → x < 4294967296

@@ -1,7 +1,7 @@
 //! A queue in a ring of cells, over any access.
-ghost use Rattle.std.specs.Prelude.{◌≡◌, ◌<◌, ◌≤◌, ◌+◌, ◌^◌, None, Some, IfOk, OnOk, IfErr};
-ghost use Rattle.stm_model.specs.Logs.{SameMemories, IsExplained, IsReadStop};
-ghost use Rattle.tx_effects.specs.Effects.{DoesOver, Under};
+ghost use Rattle.std.specs.Prelude.{◌≡◌, ◌<◌, ◌≤◌, ◌+◌, None, Some, IfOk, OnOk, IfErr};
+ghost use Rattle.stm_model.specs.Logs.{SameMemories, IsReadStop};
+ghost use Rattle.tx_effects.specs.Accesses.{DoesFor, ExplainedFor, HoldsFor};
 ghost use Rattle.tx_queue.specs.Queues.{QueueFits, IsQueue, put_in, got_in, counted_in, wrapped};
 
 use stm_model::access::Access;
@@ -55,10 +55,10 @@ impl Queue {
     pub fn put<A: Access>(&self, acc: &mut A, value: u32) -> Result<Put, Stop>
         requires going { A.stopped acc.old ≡ None }
         requires within { QueueFits self.now (A.words acc.old) }
-        requires well { Under (A.good acc.old) (A.words acc.old) (A.log acc.old) (IsQueue self.now) }
-        ensures reply { IfOk result (λ r. DoesOver (A.good acc.old) (A.words acc.old) (put_in self.now value) (A.log acc.old) r (A.log acc.new)) }
-        ensures well { OnOk result (Under (A.good acc.new) (A.words acc.new) (A.log acc.new) (IsQueue self.now)) }
-        ensures explained { OnOk result (IsExplained (A.good acc.new) (A.words acc.new) (A.log acc.new)) }
+        requires well { HoldsFor A.Access acc.old (IsQueue self.now) }
+        ensures reply { IfOk result (DoesFor A.Access acc.old acc.new (put_in self.now value)) }
+        ensures well { OnOk result (HoldsFor A.Access acc.new (IsQueue self.now)) }
+        ensures explained { OnOk result (ExplainedFor A.Access acc.new) }
         ensures goes { OnOk result (A.stopped acc.new ≡ None) }
         ensures stops { IfErr result (λ s. A.stopped acc.new ≡ Some s) }
         ensures good { SameMemories (A.good acc.old) (A.good acc.new) }
@@ -84,10 +84,10 @@ impl Queue {
     pub fn get<A: Access>(&self, acc: &mut A) -> Result<Option<u32>, Stop>
         requires going { A.stopped acc.old ≡ None }
         requires within { QueueFits self.now (A.words acc.old) }
-        requires well { Under (A.good acc.old) (A.words acc.old) (A.log acc.old) (IsQueue self.now) }
-        ensures reply { IfOk result (λ r. DoesOver (A.good acc.old) (A.words acc.old) (got_in self.now) (A.log acc.old) r (A.log acc.new)) }
-        ensures well { OnOk result (Under (A.good acc.new) (A.words acc.new) (A.log acc.new) (IsQueue self.now)) }
-        ensures explained { OnOk result (IsExplained (A.good acc.new) (A.words acc.new) (A.log acc.new)) }
+        requires well { HoldsFor A.Access acc.old (IsQueue self.now) }
+        ensures reply { IfOk result (DoesFor A.Access acc.old acc.new (got_in self.now)) }
+        ensures well { OnOk result (HoldsFor A.Access acc.new (IsQueue self.now)) }
+        ensures explained { OnOk result (ExplainedFor A.Access acc.new) }
         ensures goes { OnOk result (A.stopped acc.new ≡ None) }
         ensures stops { IfErr result (λ s. A.stopped acc.new ≡ Some s) }
         ensures good { SameMemories (A.good acc.old) (A.good acc.new) }
@@ -116,10 +116,10 @@ impl Queue {
     pub fn len<A: Access>(&self, acc: &mut A) -> Result<u64, Stop>
         requires going { A.stopped acc.old ≡ None }
         requires within { QueueFits self.now (A.words acc.old) }
-        requires well { Under (A.good acc.old) (A.words acc.old) (A.log acc.old) (IsQueue self.now) }
-        ensures reply { IfOk result (λ r. DoesOver (A.good acc.old) (A.words acc.old) (counted_in self.now) (A.log acc.old) r (A.log acc.new)) }
-        ensures well { OnOk result (Under (A.good acc.new) (A.words acc.new) (A.log acc.new) (IsQueue self.now)) }
-        ensures explained { OnOk result (IsExplained (A.good acc.new) (A.words acc.new) (A.log acc.new)) }
+        requires well { HoldsFor A.Access acc.old (IsQueue self.now) }
+        ensures reply { IfOk result (DoesFor A.Access acc.old acc.new (counted_in self.now)) }
+        ensures well { OnOk result (HoldsFor A.Access acc.new (IsQueue self.now)) }
+        ensures explained { OnOk result (ExplainedFor A.Access acc.new) }
         ensures cause { IfErr result IsReadStop }
         ensures goes { OnOk result (A.stopped acc.new ≡ None) }
         ensures stops { IfErr result (λ s. A.stopped acc.new ≡ Some s) }

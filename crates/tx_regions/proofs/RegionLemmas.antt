@@ -61,7 +61,8 @@ module _ (chains : DependsOnOwnWords) (trees : TreeDependsOnOwnWords) (queues : 
       off r x (inr o) lo hi e = absurd (omega arith)
 
   -- where one region changes, and stays well formed, all do
-  pub one-changes : (regions : List Region) (r : Region) (m k : List ℕ) → AllPairs AreApart regions → Contains regions r → AllWellFormed regions m → WellFormed r k → ((x : ℕ) → IsOutside x r → slice_index k x ≡ slice_index m x) → AllWellFormed regions k
+  pub one-changes : (regions : List Region) (r : Region) (m k : List ℕ) → AllPairs AreApart regions → Contains regions r
+      → AllWellFormed regions m → WellFormed r k → ((x : ℕ) → IsOutside x r → slice_index k x ≡ slice_index m x) → AllWellFormed regions k
   one-changes regions r m k apart (i, lt, e) all own out = λ j d jl. by j d jl (j == i) refl (ltb j i) refl
     where
       own-at : (d : Region) → get_or regions i d ≡ r
@@ -103,7 +104,8 @@ module _ (chains : DependsOnOwnWords) (trees : TreeDependsOnOwnWords) (queues : 
       one-changes regions s m (removed_in r key m).memory apart has all (well (removed_in r key m).memory (removes r m key w some (omega arith)).1) (λ x o. (within r m key x w some (outside-chains x o)).1),
     )
 
-  pub tree-keeps : TreeInsertsKey → TreeRemovesKey → TreeChangesOwnWords → (regions : List Region) (t : Tree) (m : List ℕ) (key : ℕ) → AllPairs AreApart regions → Contains regions (OfTree t) → EndsWithin (length m) (OfTree t) → key < 2 ^ 32
+  pub tree-keeps : TreeInsertsKey → TreeRemovesKey → TreeChangesOwnWords → (regions : List Region) (t : Tree) (m : List ℕ) (key : ℕ)
+      → AllPairs AreApart regions → Contains regions (OfTree t) → EndsWithin (length m) (OfTree t) → key < 2 ^ 32
       → AllWellFormed regions m → AllWellFormed regions (tree_inserted_in t key m).memory × AllWellFormed regions (tree_removed_in t key m).memory
   tree-keeps inserts removes within regions t m key apart has ends small all =
       let w : IsTree t m = All-contains (λ r. WellFormed r m) regions (OfTree t) all has in
@@ -116,7 +118,9 @@ module _ (chains : DependsOnOwnWords) (trees : TreeDependsOnOwnWords) (queues : 
       outside-tree x (inl o) = inl o
       outside-tree x (inr o) = inr (omega arith)
 
-  pub queue-keeps : PutsLast → GetsFirst → QueueChangesOwnWords → (regions : List Region) (q : Queue) (m : List ℕ) (v : ℕ) → AllPairs AreApart regions → Contains regions (OfQueue q) → EndsWithin (length m) (OfQueue q) → 0 < q.cells → q.at + 2 + q.cells < 2 ^ 64 → v < 2 ^ 32
+  pub queue-keeps : PutsLast → GetsFirst → QueueChangesOwnWords → (regions : List Region) (q : Queue) (m : List ℕ) (v : ℕ)
+      → AllPairs AreApart regions → Contains regions (OfQueue q) → EndsWithin (length m) (OfQueue q) → 0 < q.cells
+      → q.at + 2 + q.cells < 2 ^ 64 → v < 2 ^ 32
       → AllWellFormed regions m → AllWellFormed regions (queue_put_in q v m).memory × AllWellFormed regions (queue_got_in q m).memory
   queue-keeps puts gets within regions q m v apart has ends some below small all =
       let w : IsQueue q m = All-contains (λ r. WellFormed r m) regions (OfQueue q) all has in
@@ -129,7 +133,9 @@ module _ (chains : DependsOnOwnWords) (trees : TreeDependsOnOwnWords) (queues : 
       outside-queue x (inl o) = inl o
       outside-queue x (inr o) = inr (omega arith)
 
-  pub sums-keep : PutsPair → RemovesWithin → WordsStay → MapChangesOwnWords → (regions : List Region) (r : SumMap) (m : List ℕ) (key v : ℕ) → AllPairs AreApart regions → Contains regions (OfSumMap r) → EndsWithin (length m) (OfSumMap r) → r.at + 1 + 5 * r.cells < 2 ^ 64 → key < 2 ^ 32 → v < 2 ^ 64
+  pub sums-keep : PutsPair → RemovesWithin → WordsStay → MapChangesOwnWords → (regions : List Region) (r : SumMap) (m : List ℕ) (key v : ℕ)
+      → AllPairs AreApart regions → Contains regions (OfSumMap r) → EndsWithin (length m) (OfSumMap r) → r.at + 1 + 5 * r.cells < 2 ^ 64
+      → key < 2 ^ 32 → v < 2 ^ 64
       → AllWellFormed regions m → AllWellFormed regions (map_put_in r key v m).memory × AllWellFormed regions (map_removed_in r key m).memory
   sums-keep puts removes stay within regions r m key v apart has ends below small word all =
       let w : IsSumMap r m × HasWords r m = All-contains (λ s. WellFormed s m) regions (OfSumMap r) all has in

@@ -43,14 +43,16 @@ told-at e n (suc i) (d ∷ ds) x h lt = let s : suc n + i ≡ n + suc i = omega 
 
 module _ {K V : Type 0} (stm : Stm K) (alg : Alg) (tells : ℕ → V → CallerState → CallerState → Type 0) where
   -- each caller did its job
-  pub each-worked : (ds : List (Handle K)) (ls : List (Left K V)) → AllReady stm 0 ds → length ls ≡ length ds → ((i : ℕ) (l : Left K V) (x : Handle K) → i < length ds → Works tells (get_or ds i x) (get_or ls i l)) → AllReady stm 0 (descs_in ls)
+  pub each-worked : (ds : List (Handle K)) (ls : List (Left K V)) → AllReady stm 0 ds → length ls ≡ length ds
+      → ((i : ℕ) (l : Left K V) (x : Handle K) → i < length ds → Works tells (get_or ds i x) (get_or ls i l)) → AllReady stm 0 (descs_in ls)
   each-worked ds [] ready count each = ready-each stm 0 ds [] ready count (λ i x lt. absurd (omega (arith, lt, count)))
   each-worked ds (l ∷ ls) ready count each =
       let many = length-map (l ∷ ls) desc_in in
       ready-each stm 0 ds (descs_in (l ∷ ls)) ready (many ∙ count) (λ i x lt. subst (λ (e : Handle K). IsThrough (get_or ds i x) e) (sym (get_or-map desc_in (l ∷ ls) i l x (omega (arith, lt, count)))) (each i l x lt).0)
 
   -- and has its story
-  pub stories : (ds : List (Handle K)) (ls : List (Left K V)) (e : Ended) → AllReady stm 0 ds → AllNew alg ds → length ls ≡ length ds → ((i : ℕ) (l : Left K V) (x : Handle K) → i < length ds → Works tells (get_or ds i x) (get_or ls i l))
+  pub stories : (ds : List (Handle K)) (ls : List (Left K V)) (e : Ended) → AllReady stm 0 ds → AllNew alg ds → length ls ≡ length ds
+      → ((i : ℕ) (l : Left K V) (x : Handle K) → i < length ds → Works tells (get_or ds i x) (get_or ls i l))
       → AllTold e 0 (descs_in ls) → e.installs ≡ map (λ (d : Handle K). installs_of d.view) (descs_in ls) → (i : ℕ) (a : Answer V) → i < length ds → IsStory alg (tells i) e i (get_or (answers_in ls) i a).value
   stories ds [] e ready new count each told installs i a lt = absurd (omega (arith, lt, count))
   stories ds (l ∷ ls) e ready new count each told installs i a lt =

@@ -11,7 +11,8 @@ abbrev pub first_installs : Alg → ℕ → List Alg
 first_installs alg zero = alg ∷ []
 first_installs alg (suc n) = []
 
--- caller n answered this, and so it is told; it had made nothing before, and installed nothing but the memory's first algorithm; after it, what it made is what the history has of it, what it had seen begins the history, and what it installed is among the installs
+-- caller n answered this, and so it is told; it had made nothing before, and installed nothing but the memory's first algorithm; after it,
+-- what it made is what the history has of it, what it had seen begins the history, and what it installed is among the installs
 pub record IsStory {V : Type 0} (alg : Alg) (tells : V → CallerState → CallerState → Type 0) (e : Ended) (n : ℕ) (value : V) : Type 0 where
   pub before : CallerState
   pub after : CallerState

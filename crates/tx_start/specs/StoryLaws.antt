@@ -1,5 +1,5 @@
 -- What a program may conclude from its callers' stories.
-use Rattle.std.proofs.Common.{ℕ, ◌≡◌, ◌<◌, List, [], ◌∷◌, Result, Ok, Err, length, get_or, refl, subst, sym, ap, arith}
+use Rattle.std.proofs.Common.{ℕ, ◌≡◌, ◌<◌, List, [], ◌∷◌, Result, Ok, Err, length, get_or, refl, ap, arith}
 use Rattle.std.specs.Prelude.{IfOk}
 use Rattle.stm_model.specs.declared.alg.Alg.{Alg}
 use Rattle.tx_answers.specs.CallerState.{CallerState}

@@ -42,14 +42,19 @@ impl<'a, R: Wait, K: MemRule> Caller<'a, R, K> {
 
     /// Runs a transaction until it commits, and answers what it does. None where the clock was found at its limit.
     pub fn run<T: Transaction<K>>(&mut self, transaction: &T) -> Option<T::Output>
-        requires precondition { T.precondition transaction.now self.old.stm.now.rule self.old.stm.now.config.words }
+        requires precondition { T.precondition transaction.now self.old.stm.now.rule
+            self.old.stm.now.config.words }
         ensures worked { HasWorked self.old.desc self.new.desc }
         ensures same { self.new.stm ≡ self.old.stm }
-        ensures took { IfSome result (λ r. TookEffect (K.good self.old.stm.now.rule) self.old.stm.now.config (number self.old.desc) (T.postcondition transaction.now self.old.stm.now.rule self.old.stm.now.config.words r) (known self.old.desc).front (known self.old.desc) (known self.new.desc)) }
+        ensures took { IfSome result (λ r.
+            TookEffect (K.good self.old.stm.now.rule) self.old.stm.now.config (number self.old.desc)
+            (T.postcondition transaction.now self.old.stm.now.rule self.old.stm.now.config.words r)
+            (known self.old.desc).front (known self.old.desc) (known self.new.desc)) }
         ensures counted { IfSome result (λ r. CommitsRise self.old.pace.tally self.new.pace.tally) }
         ensures uncounted { IfNone result (CommitsStay self.old.pace.tally self.new.pace.tally) }
         ensures none { IfNone result ((known self.new.desc).made ≡ (known self.old.desc).made) }
-        ensures full { IfNone result ((clock : ℕ) × FindsFull clock (known self.old.desc) (known self.new.desc)) }
+        ensures full { IfNone result
+            ((clock : ℕ) × FindsFull clock (known self.old.desc) (known self.new.desc)) }
         ensures installs { (known self.new.desc).installs ≡ (known self.old.desc).installs }
     {
         atomically(
@@ -67,13 +72,20 @@ impl<'a, R: Wait, K: MemRule> Caller<'a, R, K> {
         &mut self,
         transaction: &T,
     ) -> Option<V>
-        requires precondition { T.precondition transaction.now self.old.stm.now.rule self.old.stm.now.config.words }
-        requires waits { (log : Log) → T.postcondition transaction.now self.old.stm.now.rule self.old.stm.now.config.words None log → log.writes ≡ [] }
+        requires precondition { T.precondition transaction.now self.old.stm.now.rule
+            self.old.stm.now.config.words }
+        requires waits { (log : Log)
+            → T.postcondition transaction.now self.old.stm.now.rule self.old.stm.now.config.words
+            None log → log.writes ≡ [] }
         ensures worked { HasWorked self.old.desc self.new.desc }
         ensures same { self.new.stm ≡ self.old.stm }
-        ensures took { IfSome result (λ v. TookEffect (K.good self.old.stm.now.rule) self.old.stm.now.config (number self.old.desc) (T.postcondition transaction.now self.old.stm.now.rule self.old.stm.now.config.words (Some v)) (known self.old.desc).front (known self.old.desc) (known self.new.desc)) }
+        ensures took { IfSome result (λ v.
+            TookEffect (K.good self.old.stm.now.rule) self.old.stm.now.config (number self.old.desc)
+            (T.postcondition transaction.now self.old.stm.now.rule self.old.stm.now.config.words
+            (Some v)) (known self.old.desc).front (known self.old.desc) (known self.new.desc)) }
         ensures none { IfNone result ((known self.new.desc).made ≡ (known self.old.desc).made) }
-        ensures full { IfNone result ((clock : ℕ) × FindsFull clock (known self.old.desc) (known self.new.desc)) }
+        ensures full { IfNone result
+            ((clock : ℕ) × FindsFull clock (known self.old.desc) (known self.new.desc)) }
         ensures installs { (known self.new.desc).installs ≡ (known self.old.desc).installs }
     {
         until_some(
@@ -90,7 +102,8 @@ impl<'a, R: Wait, K: MemRule> Caller<'a, R, K> {
         ensures worked { HasWorked self.old.desc self.new.desc }
         ensures same { self.new.stm ≡ self.old.stm }
         ensures made { (known self.new.desc).made ≡ (known self.old.desc).made }
-        ensures installs { (known self.new.desc).installs ≡ (known self.old.desc).installs ++ alg ∷ [] }
+        ensures installs { (known self.new.desc).installs
+            ≡ (known self.old.desc).installs ++ alg ∷ [] }
     {
         switch_to(self.rt, &mut self.desc, self.stm, alg);
     }
@@ -102,14 +115,18 @@ impl<'a, R: Wait, K: MemRule> Caller<'a, R, K> {
         rounds: usize,
         f: &F,
     ) -> usize
-        requires callable { F.IsAlwaysCallable f.now }
-        requires precondition { (round : ℕ) (t : T) → F.post f.now round t → T.precondition t self.old.stm.now.rule self.old.stm.now.config.words }
+        requires callable { (round : ℕ) → round < rounds → F.pre f.now round }
+        requires precondition { (round : ℕ) (t : T) → round < rounds → F.post f.now round t
+            → T.precondition t self.old.stm.now.rule self.old.stm.now.config.words }
         ensures worked { HasWorked self.old.desc self.new.desc }
         ensures same { self.new.stm ≡ self.old.stm }
         ensures count { result ≤ rounds }
-        ensures took { MadeAll (Rounds (λ k t. F.post f.now k t) (λ t r log. T.postcondition t self.old.stm.now.rule self.old.stm.now.config.words r log)) (known self.old.desc).made result (known self.new.desc).made }
+        ensures took { MadeAll (Rounds (λ k t. F.post f.now k t) (λ t r log.
+            T.postcondition t self.old.stm.now.rule self.old.stm.now.config.words r log))
+            (known self.old.desc).made result (known self.new.desc).made }
         ensures counted { self.new.pace.tally.commits ≡ raised self.old.pace.tally.commits result }
-        ensures full { result < rounds → (clock : ℕ) × FindsFull clock (known self.old.desc) (known self.new.desc) }
+        ensures full { result < rounds
+            → (clock : ℕ) × FindsFull clock (known self.old.desc) (known self.new.desc) }
         ensures installs { (known self.new.desc).installs ≡ (known self.old.desc).installs }
     {
         for round in 0..rounds {
@@ -125,13 +142,17 @@ impl<'a, R: Wait, K: MemRule> Caller<'a, R, K> {
     /// Runs one transaction so many times, and answers how often it took effect: fewer times only where the clock was
     /// found at its limit.
     pub fn times<T: Transaction<K>>(&mut self, rounds: usize, transaction: &T) -> usize
-        requires precondition { T.precondition transaction.now self.old.stm.now.rule self.old.stm.now.config.words }
+        requires precondition { T.precondition transaction.now self.old.stm.now.rule
+            self.old.stm.now.config.words }
         ensures worked { HasWorked self.old.desc self.new.desc }
         ensures same { self.new.stm ≡ self.old.stm }
         ensures count { result ≤ rounds }
-        ensures took { MadeAll (Answered (T.postcondition transaction.now self.old.stm.now.rule self.old.stm.now.config.words)) (known self.old.desc).made result (known self.new.desc).made }
+        ensures took { MadeAll (Answered
+            (T.postcondition transaction.now self.old.stm.now.rule self.old.stm.now.config.words))
+            (known self.old.desc).made result (known self.new.desc).made }
         ensures counted { self.new.pace.tally.commits ≡ raised self.old.pace.tally.commits result }
-        ensures full { result < rounds → (clock : ℕ) × FindsFull clock (known self.old.desc) (known self.new.desc) }
+        ensures full { result < rounds
+            → (clock : ℕ) × FindsFull clock (known self.old.desc) (known self.new.desc) }
         ensures installs { (known self.new.desc).installs ≡ (known self.old.desc).installs }
     {
         for round in 0..rounds {

@@ -22,7 +22,10 @@ pub trait Job<R: Wait, K: MemRule> {
     ghost postcondition: { Self → K → ℕ → ℕ → Self.Output → CallerState → CallerState → Type 0 } = { λ job rule words caller answer before after. Unit {0} };
 
     fn work(&self, caller: &mut Caller<'_, R, K>) -> Self::Output
-        requires precondition { precondition self.now caller.old.stm.now.rule caller.old.stm.now.config.words }
+        requires precondition { precondition self.now caller.old.stm.now.rule
+            caller.old.stm.now.config.words }
         ensures worked { HasWorked caller.old.desc caller.new.desc }
-        ensures postcondition { postcondition self.now caller.old.stm.now.rule caller.old.stm.now.config.words (number caller.old.desc) result (known caller.old.desc) (known caller.new.desc) };
+        ensures postcondition { postcondition self.now caller.old.stm.now.rule
+            caller.old.stm.now.config.words (number caller.old.desc) result (known caller.old.desc)
+            (known caller.new.desc) };
 }

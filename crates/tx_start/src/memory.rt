@@ -67,11 +67,18 @@ pub fn with_memory<R: Threads + Wait + Sync, K: MemRule + Drop + Sync + Send, J:
     ensures good { IfOk result (λ came. K.good rule came.words.items) }
     ensures count { IfOk result (λ came. length came.words.items ≡ config.words) }
     ensures answers { IfOk result (λ came. length came.answers.items ≡ config.callers) }
-    ensures legal { IfOk result (λ came. IsLegal (K.good rule) (replicate config.words 0) config.clock came.closed.history) }
+    ensures legal { IfOk result (λ came.
+        IsLegal (K.good rule) (replicate config.words 0) config.clock came.closed.history) }
     ensures within { IfOk result (λ came. Within came.closed.clock came.closed.history) }
-    ensures end { IfOk result (λ came. came.words.items ≡ memory_at came.closed.clock came.closed.history (replicate config.words 0)) }
-    ensures stories { IfOk result (λ came. (i : ℕ) (d : Answer J.Output) → i < config.callers → IsStory alg (J.postcondition job.now rule config.words i) came.closed i (slice_index_or came.answers.items i d).value) }
-    ensures nobody_else { IfOk result (λ came. (n : ℕ) → config.callers ≤ n → made_by n came.closed.history ≡ []) }
+    ensures end { IfOk result (λ came.
+        came.words.items
+        ≡ memory_at came.closed.clock came.closed.history (replicate config.words 0)) }
+    ensures stories { IfOk result (λ came.
+        (i : ℕ) (d : Answer J.Output) → i < config.callers
+        → IsStory alg (J.postcondition job.now rule config.words i) came.closed i
+        (slice_index_or came.answers.items i d).value) }
+    ensures nobody_else { IfOk result (λ came.
+        (n : ℕ) → config.callers ≤ n → made_by n came.closed.history ≡ []) }
     ensures refused { IfErr result (IsRefusal config) }
 {
     let (stm, descs) = open(rt, alloc, config, alg, rule)?;

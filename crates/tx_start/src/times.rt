@@ -59,11 +59,20 @@ where
     requires precondition { T.precondition transaction (record {}) config.words }
     ensures count { IfOk result (λ came. length came.words.items ≡ config.words) }
     ensures answers { IfOk result (λ came. length came.answers.items ≡ config.callers) }
-    ensures legal { IfOk result (λ came. IsLegal (λ memory. Unit {0}) (replicate config.words 0) config.clock came.closed.history) }
+    ensures legal { IfOk result (λ came.
+        IsLegal (λ memory. Unit {0}) (replicate config.words 0) config.clock came.closed.history) }
     ensures within { IfOk result (λ came. Within came.closed.clock came.closed.history) }
-    ensures end { IfOk result (λ came. came.words.items ≡ memory_at came.closed.clock came.closed.history (replicate config.words 0)) }
-    ensures stories { IfOk result (λ came. (i : ℕ) (d : Answer ℕ) → i < config.callers → IsStory alg (λ times before after. (times ≤ rounds) × MadeAll (Answered (T.postcondition transaction (record {}) config.words)) before.made times after.made) came.closed i (slice_index_or came.answers.items i d).value) }
-    ensures nobody_else { IfOk result (λ came. (n : ℕ) → config.callers ≤ n → made_by n came.closed.history ≡ []) }
+    ensures end { IfOk result (λ came.
+        came.words.items
+        ≡ memory_at came.closed.clock came.closed.history (replicate config.words 0)) }
+    ensures stories { IfOk result (λ came.
+        (i : ℕ) (d : Answer ℕ) → i < config.callers
+        → IsStory alg (λ times before after.
+        (times ≤ rounds)
+        × MadeAll (Answered (T.postcondition transaction (record {}) config.words)) before.made
+        times after.made) came.closed i (slice_index_or came.answers.items i d).value) }
+    ensures nobody_else { IfOk result (λ came.
+        (n : ℕ) → config.callers ≤ n → made_by n came.closed.history ≡ []) }
     ensures refused { IfErr result (IsRefusal config) }
 {
     let job = Times {

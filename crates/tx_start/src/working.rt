@@ -31,7 +31,10 @@ pub(crate) fn work_all<
     requires precondition { J.precondition job.now stm.now.rule stm.now.config.words }
     ensures count { IfOk result (λ left. length left.items ≡ length descs.items) }
     ensures refused { IfErr result (λ e. e ≡ NewError.Memory) }
-    ensures done { IfOk result (λ left. (i : ℕ) (d : Left K J.Output) (e : Handle K) → i < length descs.items → Works (J.postcondition job.now stm.now.rule stm.now.config.words) (slice_index_or descs.items i e) (slice_index_or left.items i d)) }
+    ensures done { IfOk result (λ left.
+        (i : ℕ) (d : Left K J.Output) (e : Handle K) → i < length descs.items
+        → Works (J.postcondition job.now stm.now.rule stm.now.config.words)
+        (slice_index_or descs.items i e) (slice_index_or left.items i d)) }
 {
     let job_of = |desc|
         requires { IsReady stm.now desc × J.precondition job.now stm.now.rule stm.now.config.words }
@@ -74,8 +77,10 @@ pub(crate) fn part<K: MemRule, V: Drop>(
     mut descs: Vec<Desc<K>>,
     mut answers: Vec<Answer<V>>,
 ) -> (Vec<Desc<K>>, Vec<Answer<V>>)
-    requires empty { (descs.items ≡ []) × (vec_len descs ≡ 0) × (vec_len answers ≡ 0) × (answers.items ≡ []) }
-    requires room { (length left.items ≤ vec_capacity descs) × (length left.items ≤ vec_capacity answers) }
+    requires empty { (descs.items ≡ []) × (vec_len descs ≡ 0) × (vec_len answers ≡ 0)
+        × (answers.items ≡ []) }
+    requires room { (length left.items ≤ vec_capacity descs)
+        × (length left.items ≤ vec_capacity answers) }
     ensures descs { result.0.items ≡ descs_in left.items }
     ensures answers { result.1.items ≡ answers_in left.items }
 {

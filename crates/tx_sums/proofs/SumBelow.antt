@@ -128,7 +128,8 @@ under-is r m g l h a v w k e = by v (subst (Names (pool r) m g l h) (sym e) (w.s
     by zero z = ap (λ x. x % 2 ^ 64) (sym (within-none r m l h r.cells (λ i lt a b. z i (record { inside = lt; above = a; below = b }))))
     by (suc j) z = w.sums j (named-used (pool r) m g l h j z) ∙ (ap (λ x. sum_within r m x (g.high j) r.cells % 2 ^ 64) z.1 ∙ ap (λ x. sum_within r m l x r.cells % 2 ^ 64) z.2)
 
-pub passing-on : (r : SumMap) (bound link total j n less : ℕ) (p : Passed) (m : List ℕ) → Passing r bound link total n m → link ≡ suc j → n ≡ suc less → p ≡ passed r m bound j → Passing r bound p.next ((total + p.added) % 2 ^ 64) less m
+pub passing-on : (r : SumMap) (bound link total j n less : ℕ) (p : Passed) (m : List ℕ) → Passing r bound link total n m → link ≡ suc j
+    → n ≡ suc less → p ≡ passed r m bound j → Passing r bound p.next ((total + p.added) % 2 ^ 64) less m
 passing-on r bound link total j n less p m s e k f = subst (λ q. Passing r bound q.next ((total + q.added) % 2 ^ 64) less m) (sym f) (by (ltb (tag r m j) bound) refl)
   where
     z : Names (pool r) m s.ranges s.low s.high (suc j)
@@ -145,7 +146,9 @@ passing-on r bound link total j n less p m s e k f = subst (λ q. Passing r boun
         ∙ ap (λ x. x % 2 ^ 64) (within-split r m s.low (tag r m j) s.high r.cells (let a = z.0.above in omega arith) z.0.below)
 
     adds : step_to (sum_under r m (slice_index m (right_at r j))) (slice_index m (sum_at r j)) ≡ sum_within r m s.low (suc (tag r m j)) r.cells % 2 ^ 64
-    adds = mod-less (2 ^ 64) (sum_within r m s.low (suc (tag r m j)) r.cells) (sum_within r m (tag r m j) s.high r.cells) _ _ (omega arith) whole (under-is r m s.ranges (tag r m j) s.high (right_at r j) _ s.holds rl refl)
+    adds =
+        mod-less (2 ^ 64) (sum_within r m s.low (suc (tag r m j)) r.cells) (sum_within r m (tag r m j) s.high r.cells) _ _ (omega arith)
+        whole (under-is r m s.ranges (tag r m j) s.high (right_at r j) _ s.holds rl refl)
 
     total-on : (a : ℕ) → a ≡ sum_within r m s.low (suc (tag r m j)) r.cells % 2 ^ 64 → (total + a) % 2 ^ 64 ≡ sum_within r m 0 (suc (tag r m j)) r.cells % 2 ^ 64
     total-on a h =
@@ -196,7 +199,10 @@ passing-stops r bound link total n m s e = by link refl (subst (Names (pool r) m
   where
     by : (v : ℕ) → link ≡ v → Names (pool r) m s.ranges s.low s.high v → total ≡ sum_within r m 0 bound r.cells % 2 ^ 64
     by zero f z = passing-ends r bound link total n m s f
-    by (suc j) f z = let x = left-less (pool r) m s.low s.high s.low s.low j z.0 (omega arith) (let p = z.0.above in let q = z.0.below in omega arith) (inr (let p = z.0.above in omega arith)) in let c = s.few in absurd (omega arith)
+    by (suc j) f z =
+        let x = left-less (pool r) m s.low s.high s.low s.low j z.0 (omega arith) (let p = z.0.above in let q = z.0.below in omega arith)
+        (inr (let p = z.0.above in omega arith)) in
+        let c = s.few in absurd (omega arith)
 
 -- WHAT A SUM ANSWERS
 pub summed-is : (r : SumMap) (m : List ℕ) (lo hi upper lower v : ℕ) → lo ≤ hi → upper ≡ sum_within r m 0 (hi + 2) r.cells % 2 ^ 64 → lower ≡ sum_within r m 0 (lo + 1) r.cells % 2 ^ 64
@@ -219,8 +225,12 @@ under-some r m link j v e f = rw e f
 pub pass-left : (r : SumMap) (m : List ℕ) (bound j t u : ℕ) → t ≡ tag r m j → bound ≤ t → u ≡ slice_index m (left_at r j) → record { next = u; added = 0 } ≡ passed r m bound j
 pass-left r m bound j t u e le f = let q : ltb (tag r m j) bound ≡ false = grind (arith, nat_tests) in rw (q, f) refl
 
-pub pass-right : (r : SumMap) (m : List ℕ) (bound j t u whole rest d : ℕ) → t ≡ tag r m j → t < bound → whole ≡ slice_index m (sum_at r j) → u ≡ slice_index m (right_at r j) → rest ≡ sum_under r m u → d ≡ (whole + (2 ^ 64 - rest)) % 2 ^ 64
+pub pass-right : (r : SumMap) (m : List ℕ) (bound j t u whole rest d : ℕ) → t ≡ tag r m j → t < bound → whole ≡ slice_index m (sum_at r j)
+    → u ≡ slice_index m (right_at r j) → rest ≡ sum_under r m u → d ≡ (whole + (2 ^ 64 - rest)) % 2 ^ 64
     → record { next = u; added = d } ≡ passed r m bound j
 pass-right r m bound j t u whole rest d e lt f g h k = let q : ltb (tag r m j) bound ≡ true = grind (arith, nat_tests) in
-    let a : step_to (sum_under r m (slice_index m (right_at r j))) (slice_index m (sum_at r j)) ≡ d = sym (k ∙ (ap (λ i. (i + (2 ^ 64 - rest)) % 2 ^ 64) f ∙ ap (λ i. (slice_index m (sum_at r j) + (2 ^ 64 - i)) % 2 ^ 64) (h ∙ ap (sum_under r m) g))) in
+    let a : step_to (sum_under r m (slice_index m (right_at r j))) (slice_index m (sum_at r j)) ≡ d = sym
+    (k
+    ∙ (ap (λ i. (i + (2 ^ 64 - rest)) % 2 ^ 64) f
+    ∙ ap (λ i. (slice_index m (sum_at r j) + (2 ^ 64 - i)) % 2 ^ 64) (h ∙ ap (sum_under r m) g))) in
     rw (q, a, g) refl

@@ -7,7 +7,9 @@ use Rattle.tx_effects.specs.Effects.{Effect, DoesOver, Under, Shows}
 
 module _ {A : Type 0} (good : List ℕ → Type 0) (words : ℕ) (l k j : Log) (good' : List ℕ → Type 0) (words' : ℕ) (same : SameMemories good good') (w : words' ≡ words) where
   -- a call that only read, and then left the rest to another
-  pub does-then : (effect rest : List ℕ → Effect A) (v : A) (P Q : List ℕ → Type 0) → Under good words l P → k.writes ≡ l.writes → Shows good words l k Q → DoesOver good' words' rest k v j → ((m : List ℕ) → P m → Q m → effect m ≡ rest m) → DoesOver good words effect l v j
+  pub does-then : (effect rest : List ℕ → Effect A) (v : A) (P Q : List ℕ → Type 0) → Under good words l P → k.writes ≡ l.writes
+      → Shows good words l k Q → DoesOver good' words' rest k v j → ((m : List ℕ) → P m → Q m → effect m ≡ rest m)
+      → DoesOver good words effect l v j
   does-then effect rest v P Q under ws h does next = λ m g len ex.
       let d = does m ((same m).0 g) (len ∙ sym w) ex in
       let s = h m g len d.explained in
@@ -20,8 +22,10 @@ module _ {A : Type 0} (good : List ℕ → Type 0) (words : ℕ) (l k j : Log) (
       }
 
 -- two calls that write, one after the other
-pub does-both : {A B : Type 0} (good : List ℕ → Type 0) (words : ℕ) (l k j : Log) (good' : List ℕ → Type 0) (words' : ℕ) → SameMemories good good' → words' ≡ words → (first : List ℕ → Effect A) (rest effect : List ℕ → Effect B) (u : A) (v : B)
-    → DoesOver good words first l u k → DoesOver good' words' rest k v j → ((m : List ℕ) → (first m).wrote ≡ true) → ((m : List ℕ) → effect m ≡ record { reply = (rest (first m).memory).reply; memory = (rest (first m).memory).memory; wrote = true })
+pub does-both : {A B : Type 0} (good : List ℕ → Type 0) (words : ℕ) (l k j : Log) (good' : List ℕ → Type 0) (words' : ℕ)
+    → SameMemories good good' → words' ≡ words → (first : List ℕ → Effect A) (rest effect : List ℕ → Effect B) (u : A) (v : B)
+    → DoesOver good words first l u k → DoesOver good' words' rest k v j → ((m : List ℕ) → (first m).wrote ≡ true)
+    → ((m : List ℕ) → effect m ≡ record { reply = (rest (first m).memory).reply; memory = (rest (first m).memory).memory; wrote = true })
     → DoesOver good words effect l v j
 does-both good words l k j good' words' same w first rest effect u v one two wrote next = λ m g len ex.
     let d = two m ((same m).0 g) (len ∙ sym w) ex in

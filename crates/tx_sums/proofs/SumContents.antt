@@ -91,7 +91,8 @@ value-past key v a u (q ∷ qs) d = by (ltb a q.0) refl (q.0 == key) refl (value
     by false i false e h = rw (i, e) (ap (λ l. q ∷ l) h)
 
 -- one cell has another value
-pairs-valued : (r : SumMap) (m k : List ℕ) (key v c n : ℕ) → c < n → tag r m c ≡ suc key → value r k c ≡ v → ((i : ℕ) → i < n → tag r k i ≡ tag r m i) → ((i : ℕ) → i < n → i ≢ c → (value r k i ≡ value r m i) × (tag r m i ≢ suc key))
+pairs-valued : (r : SumMap) (m k : List ℕ) (key v c n : ℕ) → c < n → tag r m c ≡ suc key → value r k c ≡ v
+    → ((i : ℕ) → i < n → tag r k i ≡ tag r m i) → ((i : ℕ) → i < n → i ≢ c → (value r k i ≡ value r m i) × (tag r m i ≢ suc key))
     → pairs_to r k n ≡ with_value (key, v) (pairs_to r m n)
 pairs-valued r m k key v c zero lt t e tags others = absurd (omega arith)
 pairs-valued r m k key v c (suc n) lt t e tags others = by (n == c) refl (λ less. pairs-valued r m k key v c n less t e (λ i l. tags i (omega arith)) (λ i l. others i (omega arith)))
@@ -100,7 +101,8 @@ pairs-valued r m k key v c (suc n) lt t e tags others = by (n == c) refl (λ les
     past zero u w d q h = h
     past (suc a) u w d q h = ap (λ x. with_pair (a, x) (pairs_to r k n)) q ∙ (ap (with_pair (a, w)) h ∙ sym (value-past key v a w (pairs_to r m n) (λ z. d (ap suc z))))
 
-    by : (b : Bool) → (n == c) ≡ b → (c < n → pairs_to r k n ≡ with_value (key, v) (pairs_to r m n)) → pair_of (tag r k n) (value r k n) (pairs_to r k n) ≡ with_value (key, v) (pair_of (tag r m n) (value r m n) (pairs_to r m n))
+    by : (b : Bool) → (n == c) ≡ b → (c < n → pairs_to r k n ≡ with_value (key, v) (pairs_to r m n))
+        → pair_of (tag r k n) (value r k n) (pairs_to r k n) ≡ with_value (key, v) (pair_of (tag r m n) (value r m n) (pairs_to r m n))
     by true q go =
         let s : n ≡ c = grind (arith, nat_tests) in
         let tm : tag r m n ≡ suc key = ap (tag r m) s ∙ t in
@@ -115,7 +117,8 @@ pairs-valued r m k key v c (suc n) lt t e tags others = by (n == c) refl (λ les
         ap (λ x. pair_of x (value r k n) (pairs_to r k n)) (tags n (omega arith)) ∙ past (tag r m n) (value r k n) (value r m n) o.1 o.0 (go (omega arith))
 
 -- one cell more is used
-pairs-added : (r : SumMap) (m k : List ℕ) (key v c n : ℕ) → c < n → tag r m c ≡ 0 → tag r k c ≡ suc key → value r k c ≡ v → ((i : ℕ) → i < n → i ≢ c → (tag r k i ≡ tag r m i) × (value r k i ≡ value r m i) × (tag r m i ≢ suc key))
+pairs-added : (r : SumMap) (m k : List ℕ) (key v c n : ℕ) → c < n → tag r m c ≡ 0 → tag r k c ≡ suc key → value r k c ≡ v
+    → ((i : ℕ) → i < n → i ≢ c → (tag r k i ≡ tag r m i) × (value r k i ≡ value r m i) × (tag r m i ≢ suc key))
     → pairs_to r k n ≡ with_pair (key, v) (pairs_to r m n)
 pairs-added r m k key v c zero lt f t e others = absurd (omega arith)
 pairs-added r m k key v c (suc n) lt f t e others = by (n == c) refl (λ less. pairs-added r m k key v c n less f t e (λ i l. others i (omega arith)))
@@ -124,7 +127,8 @@ pairs-added r m k key v c (suc n) lt f t e others = by (n == c) refl (λ less. p
     past zero u d h = h
     past (suc a) u d h = ap (with_pair (a, u)) h ∙ with-swap (a, u) (key, v) (pairs_to r m n) (λ z. d (ap suc z))
 
-    by : (b : Bool) → (n == c) ≡ b → (c < n → pairs_to r k n ≡ with_pair (key, v) (pairs_to r m n)) → pair_of (tag r k n) (value r k n) (pairs_to r k n) ≡ with_pair (key, v) (pair_of (tag r m n) (value r m n) (pairs_to r m n))
+    by : (b : Bool) → (n == c) ≡ b → (c < n → pairs_to r k n ≡ with_pair (key, v) (pairs_to r m n))
+        → pair_of (tag r k n) (value r k n) (pairs_to r k n) ≡ with_pair (key, v) (pair_of (tag r m n) (value r m n) (pairs_to r m n))
     by true q go =
         let s : n ≡ c = grind (arith, nat_tests) in
         let tm : tag r m n ≡ 0 = ap (tag r m) s ∙ f in

@@ -113,7 +113,8 @@ module _ (r : SumMap) (m : List ℕ) (g : Ranges) (x y : ℕ) (s : Position) (w 
       (record { none = λ j lt. none-left j lt (j == x) refl (j == y) refl; kept = λ i ui d. keeps i ui d (i == y) refl; old = λ j uj. was j uj (j == x) refl (j == y) refl })
 
 -- a cell taken out that has no value
-gone-taken : (r : SumMap) (m : List ℕ) (g : Ranges) (l h e x : ℕ) → Holds r m g → LinkOf (pool r) m g l h e → slice_index m e ≡ suc x → value r m x ≡ 0 → HasWords r m → r.at + 1 + 5 * r.cells ≤ length m → Used r m x × Gone r x m (taken_out r x e m)
+gone-taken : (r : SumMap) (m : List ℕ) (g : Ranges) (l h e x : ℕ) → Holds r m g → LinkOf (pool r) m g l h e → slice_index m e ≡ suc x
+    → value r m x ≡ 0 → HasWords r m → r.at + 1 + 5 * r.cells ≤ length m → Used r m x × Gone r x m (taken_out r x e m)
 gone-taken r m g l h e x w k named none words room = (u, by (slice_index m (left_at r x) == 0) (slice_index m (right_at r x) == 0) refl)
   where
     u : Used r m x
@@ -131,11 +132,13 @@ gone-taken r m g l h e x w k named none words room = (u, by (slice_index m (left
     by false true q = gone-spliced r m g l h e x (slice_index m (left_at r x)) w k named u room
     by false false q = at (leftmost r m r.cells (right_at r x)).next refl (slice_index m (right_at r x)) refl (w.shape.names (tag r m x) (g.high x) (right_at r x) rl)
       where
-        at : (n : ℕ) → (leftmost r m r.cells (right_at r x)).next ≡ n → (v : ℕ) → slice_index m (right_at r x) ≡ v → Names (pool r) m g (tag r m x) (g.high x) v → Gone r x m (replaced_by r x (leftmost r m r.cells (right_at r x)) m)
+        at : (n : ℕ) → (leftmost r m r.cells (right_at r x)).next ≡ n → (v : ℕ) → slice_index m (right_at r x) ≡ v
+            → Names (pool r) m g (tag r m x) (g.high x) v → Gone r x m (replaced_by r x (leftmost r m r.cells (right_at r x)) m)
         at n c zero d nm = absurd (grind (arith, nat_tests))
         at zero c (suc j) d nm = absurd (least.none c j nm.0)
         at (suc y) c (suc j) d nm =
-            let ny : Names (pool r) m g (tag r m x) least.high (suc y) = subst (Names (pool r) m g (tag r m x) least.high) (least.word ∙ c) (w.shape.names (tag r m x) least.high (leftmost r m r.cells (right_at r x)).link least.link) in
+            let ny : Names (pool r) m g (tag r m x) least.high (suc y) = subst (Names (pool r) m g (tag r m x) least.high) (least.word ∙ c)
+            (w.shape.names (tag r m x) least.high (leftmost r m r.cells (right_at r x)).link least.link) in
             gone-least r m g x y (leftmost r m r.cells (right_at r x)) w u none least c (words y ny.0.inside) room
 
 -- some cell of the first n has the tag, or none has

@@ -52,7 +52,9 @@ how_many-alike r m k l h zero s = refl
 how_many-alike r m k l h (suc n) s = let e = how_many-alike r m k l h n s in let t = s n in rw (t, e) refl
 
 -- A STEP: the link a names the cell j
-module _ (r : SumMap) (m : List ℕ) (g : Ranges) (t d l h a j : ℕ) (w : Tree r m g) (k : LinkOf (pool r) m g l h a) (z : Names (pool r) m g l h (suc j)) (lo : l < t) (hi : t < h) (room : r.at + 1 + 5 * r.cells ≤ length m) (b : Broken r m g t d l h) where
+module _ (r : SumMap) (m : List ℕ) (g : Ranges) (t d l h a j : ℕ) (w : Tree r m g) (k : LinkOf (pool r) m g l h a)
+    (z : Names (pool r) m g l h (suc j)) (lo : l < t) (hi : t < h) (room : r.at + 1 + 5 * r.cells ≤ length m)
+    (b : Broken r m g t d l h) where
   abbrev y : List ℕ
   y = raised r d j m
 
@@ -136,7 +138,8 @@ module _ (r : SumMap) (m : List ℕ) (g : Ranges) (t d l h a j : ℕ) (w : Tree 
     right = λ i u out. beside i u (λ n p q x v. by i p q x (λ p q x v. out p q (let e = y-tags i in omega arith) (let e = y-tags i in omega arith)) (side-of i (old i u) n x v));
   }
     where
-      by : (i : ℕ) → g.low i < t → t < g.high i → l < tag r m i → (g.low i < t → t < g.high i → l < tag r m i → tag r m i < tag r m j → ⊥) → ((tag r m i < tag r m j) × (g.high i ≤ tag r m j)) ⊎ ((tag r m j < tag r m i) × (tag r m j ≤ g.low i)) → ⊥
+      by : (i : ℕ) → g.low i < t → t < g.high i → l < tag r m i → (g.low i < t → t < g.high i → l < tag r m i → tag r m i < tag r m j → ⊥)
+          → ((tag r m i < tag r m j) × (g.high i ≤ tag r m j)) ⊎ ((tag r m j < tag r m i) × (tag r m j ≤ g.low i)) → ⊥
       by i p q x out (inl s) = out p q x s.0
       by i p q x out (inr s) = let s1 = s.1 in absurd (omega arith)
 
@@ -146,7 +149,8 @@ module _ (r : SumMap) (m : List ℕ) (g : Ranges) (t d l h a j : ℕ) (w : Tree 
     right = λ i u out. beside i u (λ n p q x v. by i p q v (λ p q x v. out p q (let e = y-tags i in omega arith) (let e = y-tags i in omega arith)) (side-of i (old i u) n x v));
   }
     where
-      by : (i : ℕ) → g.low i < t → t < g.high i → tag r m i < h → (g.low i < t → t < g.high i → tag r m j < tag r m i → tag r m i < h → ⊥) → ((tag r m i < tag r m j) × (g.high i ≤ tag r m j)) ⊎ ((tag r m j < tag r m i) × (tag r m j ≤ g.low i)) → ⊥
+      by : (i : ℕ) → g.low i < t → t < g.high i → tag r m i < h → (g.low i < t → t < g.high i → tag r m j < tag r m i → tag r m i < h → ⊥)
+          → ((tag r m i < tag r m j) × (g.high i ≤ tag r m j)) ⊎ ((tag r m j < tag r m i) × (tag r m j ≤ g.low i)) → ⊥
       by i p q v out (inl s) = let s1 = s.1 in absurd (omega arith)
       by i p q v out (inr s) = out p q s.0 v
 
@@ -154,7 +158,9 @@ module _ (r : SumMap) (m : List ℕ) (g : Ranges) (t d l h a j : ℕ) (w : Tree 
   y-count x v = how_many-alike r m y x v r.cells y-tags
 
 -- THE WALK
-pub mended-holds : (r : SumMap) (g : Ranges) (key d n l h a : ℕ) (m : List ℕ) → Tree r m g → LinkOf (pool r) m g l h a → l ≤ key → suc key < h → left (pool r) m l h ≤ n → r.at + 1 + 5 * r.cells ≤ length m → Broken r m g (suc key) d l h → Holds r (mended r key d n a m) g
+pub mended-holds : (r : SumMap) (g : Ranges) (key d n l h a : ℕ) (m : List ℕ) → Tree r m g → LinkOf (pool r) m g l h a → l ≤ key
+    → suc key < h → left (pool r) m l h ≤ n → r.at + 1 + 5 * r.cells ≤ length m → Broken r m g (suc key) d l h
+    → Holds r (mended r key d n a m) g
 mended-holds r g key d zero l h a m w k lo hi le room b = by (slice_index m a) (w.shape.names l h a k)
   where
     by : (v : ℕ) → Names (pool r) m g l h v → Holds r m g
@@ -163,10 +169,14 @@ mended-holds r g key d zero l h a m w k lo hi le room b = by (slice_index m a) (
 mended-holds r g key d (suc n) l h a m w k lo hi le room b = by (slice_index m a) (w.shape.names l h a k)
     (λ j z gt. let lt : l < suc key = omega arith in let kl : length (raised r d j m) ≡ length m = simp length-set in
     mended-holds r g key d n l (tag r m j) (left_at r j) (raised r d j m) (y-tree r m g (suc key) d l h a j w k z lt hi room b) (y-left r m g (suc key) d l h a j w k z lt hi room b) lo gt
-    (let x = left-less (pool r) m l h l (tag r m j) j z.0 (omega arith) (let b = z.0.below in omega arith) (inr (omega arith)) in let e = y-count r m g (suc key) d l h a j w k z lt hi room b l (tag r m j) in omega arith) (omega arith) (mends-left r m g (suc key) d l h a j w k z lt hi room b gt))
+    (let x = left-less (pool r) m l h l (tag r m j) j z.0 (omega arith) (let b = z.0.below in omega arith) (inr (omega arith)) in
+    let e = y-count r m g (suc key) d l h a j w k z lt hi room b l (tag r m j) in omega arith) (omega arith)
+    (mends-left r m g (suc key) d l h a j w k z lt hi room b gt))
     (λ j z gt. let lt : l < suc key = omega arith in let kl : length (raised r d j m) ≡ length m = simp length-set in
     mended-holds r g key d n (tag r m j) h (right_at r j) (raised r d j m) (y-tree r m g (suc key) d l h a j w k z lt hi room b) (y-right r m g (suc key) d l h a j w k z lt hi room b) gt hi
-    (let x = left-less (pool r) m l h (tag r m j) h j z.0 (let b = z.0.above in omega arith) (omega arith) (inl (omega arith)) in let e = y-count r m g (suc key) d l h a j w k z lt hi room b (tag r m j) h in omega arith) (omega arith) (mends-right r m g (suc key) d l h a j w k z lt hi room b (omega arith)))
+    (let x = left-less (pool r) m l h (tag r m j) h j z.0 (let b = z.0.above in omega arith) (omega arith) (inl (omega arith)) in
+    let e = y-count r m g (suc key) d l h a j w k z lt hi room b (tag r m j) h in omega arith) (omega arith)
+    (mends-right r m g (suc key) d l h a j w k z lt hi room b (omega arith)))
   where
     by : (v : ℕ) → Names (pool r) m g l h v
         → ((j : ℕ) → Names (pool r) m g l h (suc j) → suc key < tag r m j → Holds r (mended r key d n (left_at r j) (raised r d j m)) g)

@@ -24,7 +24,9 @@ value-here : (key v : ℕ) (qs : List (ℕ × ℕ)) → value_of key qs ≡ None
 value-here key v [] h = let e : (key == key) ≡ true = grind (arith, nat_tests) in rw e refl
 value-here key v (q ∷ qs) h = by (ltb key q.0) (q.0 == key) refl h (value-here key v qs)
   where
-    by : (b c : Bool) → (q.0 == key) ≡ c → (if c then Some q.1 else value_of key qs) ≡ None → (value_of key qs ≡ None → value_of key (with_pair (key, v) qs) ≡ Some v) → value_of key (if b then (key, v) ∷ q ∷ qs else q ∷ with_pair (key, v) qs) ≡ Some v
+    by : (b c : Bool) → (q.0 == key) ≡ c → (if c then Some q.1 else value_of key qs) ≡ None
+        → (value_of key qs ≡ None → value_of key (with_pair (key, v) qs) ≡ Some v)
+        → value_of key (if b then (key, v) ∷ q ∷ qs else q ∷ with_pair (key, v) qs) ≡ Some v
     by b true e g go = absurd cc
     by true false e g go = let y : (key == key) ≡ true = grind (arith, nat_tests) in rw y refl
     by false false e g go = rw e (go g)

@@ -29,7 +29,8 @@ link-off r m g l h a (inr (inl (i, p, q, o, u))) j = ((λ e. absurd (omega arith
 link-off r m g l h a (inr (inr (i, p, q, o, u))) j = ((λ e. absurd (omega arith)), (λ e. absurd (omega arith)))
 
 -- ANOTHER VALUE in the cell j of the key
-module _ (r : SumMap) (m : List ℕ) (g : Ranges) (key v j : ℕ) (w : Holds r m g) (small : key < 2 ^ 32) (inside : j < r.cells) (at : tag r m j ≡ suc key) (fits : value r m j < 2 ^ 64) (room : r.at + 1 + 5 * r.cells ≤ length m) where
+module _ (r : SumMap) (m : List ℕ) (g : Ranges) (key v j : ℕ) (w : Holds r m g) (small : key < 2 ^ 32) (inside : j < r.cells)
+    (at : tag r m j ≡ suc key) (fits : value r m j < 2 ^ 64) (room : r.at + 1 + 5 * r.cells ≤ length m) where
   abbrev k : List ℕ
   k = set m (value_at r j) v
 
@@ -66,7 +67,8 @@ module _ (r : SumMap) (m : List ℕ) (g : Ranges) (key v j : ℕ) (w : Holds r m
         let b = part-in r k (g.low i) (g.high i) j (omega arith) (omega arith) in
         let c = k-new in
         let z = parts (g.low i) (g.high i) in
-        mod-changes (2 ^ 64) (slice_index k (sum_at r i)) (sum_within r m (g.low i) (g.high i) r.cells) (sum_within r k (g.low i) (g.high i) r.cells) (value r m j) v (k-sums i ∙ w.sums i (old i u)) (omega arith) (omega arith);
+        mod-changes (2 ^ 64) (slice_index k (sum_at r i)) (sum_within r m (g.low i) (g.high i) r.cells)
+        (sum_within r k (g.low i) (g.high i) r.cells) (value r m j) v (k-sums i ∙ w.sums i (old i u)) (omega arith) (omega arith);
     right = λ i u out.
         let s = w.shape.small i u.inside in
         let t = k-tags i in
@@ -84,7 +86,9 @@ module _ (r : SumMap) (m : List ℕ) (g : Ranges) (key v j : ℕ) (w : Holds r m
       mended-holds r g key (step_to (value r m j) v) r.cells 0 top r.at k value-tree (inl (refl, refl, refl)) (omega arith) (omega arith) (how_many-most _ r.cells) (omega arith) value-broken
 
 -- A LEAF WITH A VALUE in the free cell c
-module _ (r : SumMap) (m : List ℕ) (g : Ranges) (key v c : ℕ) (s : Position) (w : Holds r m g) (f : Found (pool r) m g key s) (small : key < 2 ^ 32) (empty : s.next ≡ 0) (inside : c < r.cells) (free : tag r m c ≡ 0) (room : r.at + 1 + 5 * r.cells ≤ length m) where
+module _ (r : SumMap) (m : List ℕ) (g : Ranges) (key v c : ℕ) (s : Position) (w : Holds r m g) (f : Found (pool r) m g key s)
+    (small : key < 2 ^ 32) (empty : s.next ≡ 0) (inside : c < r.cells) (free : tag r m c ≡ 0)
+    (room : r.at + 1 + 5 * r.cells ≤ length m) where
   abbrev leaf : List ℕ
   leaf = attached r key v c s.link m
 
@@ -104,7 +108,9 @@ module _ (r : SumMap) (m : List ℕ) (g : Ranges) (key v c : ℕ) (s : Position)
   l-in = link-inside (pool r) m g f.low f.high s.link f.link
 
   other : (x : ℕ) → x ≢ s.link → x ≢ tag_at r c → x ≢ value_at r c → get_or leaf x 0 ≡ get_or m x 0
-  other x p q o = get_or-set_other (set (set m (tag_at r c) (suc key)) (value_at r c) v) s.link x (suc c) 0 p ∙ (get_or-set_other (set m (tag_at r c) (suc key)) (value_at r c) x v 0 o ∙ get_or-set_other m (tag_at r c) x (suc key) 0 q)
+  other x p q o =
+      get_or-set_other (set (set m (tag_at r c) (suc key)) (value_at r c) v) s.link x (suc c) 0 p
+      ∙ (get_or-set_other (set m (tag_at r c) (suc key)) (value_at r c) x v 0 o ∙ get_or-set_other m (tag_at r c) x (suc key) 0 q)
 
   pub a-tags : (i : ℕ) → i ≢ c → tag r leaf i ≡ tag r m i
   a-tags i d = other (tag_at r i) (λ e. l-in.0 i (sym e)) (λ e. d (omega arith)) (λ e. absurd (omega arith))
@@ -116,10 +122,16 @@ module _ (r : SumMap) (m : List ℕ) (g : Ranges) (key v c : ℕ) (s : Position)
   a-sums i = other (sum_at r i) (λ e. (link-off r m g f.low f.high s.link f.link i).1 (sym e)) (λ e. absurd (omega arith)) (λ e. absurd (omega arith))
 
   pub a-tag : tag r leaf c ≡ suc key
-  a-tag = get_or-set_other (set (set m (tag_at r c) (suc key)) (value_at r c) v) s.link (tag_at r c) (suc c) 0 (λ e. l-in.0 c (sym e)) ∙ (get_or-set_other (set m (tag_at r c) (suc key)) (value_at r c) (tag_at r c) v 0 (λ e. absurd (omega arith)) ∙ get_or-set_same m (tag_at r c) (suc key) 0 (omega arith))
+  a-tag =
+      get_or-set_other (set (set m (tag_at r c) (suc key)) (value_at r c) v) s.link (tag_at r c) (suc c) 0 (λ e. l-in.0 c (sym e))
+      ∙ (get_or-set_other (set m (tag_at r c) (suc key)) (value_at r c) (tag_at r c) v 0 (λ e. absurd (omega arith))
+      ∙ get_or-set_same m (tag_at r c) (suc key) 0 (omega arith))
 
   pub a-value : value r leaf c ≡ v
-  a-value = get_or-set_other (set (set m (tag_at r c) (suc key)) (value_at r c) v) s.link (value_at r c) (suc c) 0 (λ e. (link-off r m g f.low f.high s.link f.link c).0 (sym e)) ∙ get_or-set_same (set m (tag_at r c) (suc key)) (value_at r c) v 0 (simp length-set (omega arith))
+  a-value =
+      get_or-set_other (set (set m (tag_at r c) (suc key)) (value_at r c) v) s.link (value_at r c) (suc c) 0 (λ e.
+      (link-off r m g f.low f.high s.link f.link c).0 (sym e))
+      ∙ get_or-set_same (set m (tag_at r c) (suc key)) (value_at r c) v 0 (simp length-set (omega arith))
 
   range-old : (i : ℕ) → i ≢ c → (n.low i ≡ g.low i) × (n.high i ≡ g.high i) × (n.rank i ≡ g.rank i)
   range-old i d = let q : (i == c) ≡ false = grind (arith, nat_tests) in (rw q refl, rw q refl, rw q refl)
@@ -135,7 +147,10 @@ module _ (r : SumMap) (m : List ℕ) (g : Ranges) (key v c : ℕ) (s : Position)
         (λ i lt z. let u = link-used (pool r) m g f.low f.high s.link i f.link z in let y = w.shape.spare i lt z in
         (other (left_at r i) (λ e. u.0 (sym e)) (λ e. absurd (omega arith)) (λ e. absurd (omega arith)) ∙ y.0, other (right_at r i) (λ e. u.1 (sym e)) (λ e. absurd (omega arith)) (λ e. absurd (omega arith)) ∙ y.1))
         range-old range-new;
-    bare = λ i lt z. let d : i ≢ c = λ e. (let t : tag r leaf i ≡ tag r leaf c = ap (tag r leaf) e in let a = a-tag in absurd (omega arith)) in let y = w.bare i lt (sym (a-tags i d) ∙ z) in (a-values i d ∙ y.0, a-sums i ∙ y.1);
+    bare =
+        λ i lt z.
+        let d : i ≢ c = λ e. (let t : tag r leaf i ≡ tag r leaf c = ap (tag r leaf) e in let a = a-tag in absurd (omega arith)) in
+        let y = w.bare i lt (sym (a-tags i d) ∙ z) in (a-values i d ∙ y.0, a-sums i ∙ y.1);
   }
 
   -- each sum is that of its range before
@@ -148,12 +163,18 @@ module _ (r : SumMap) (m : List ℕ) (g : Ranges) (key v c : ℕ) (s : Position)
           let lo : n.low i ≡ f.low = ap n.low q ∙ range-new.0 in
           let hi : n.high i ≡ f.high = ap n.high q ∙ range-new.1 in
           let z : sum_within r m f.low f.high r.cells ≡ 0 = within-none r m f.low f.high r.cells (λ i lt a b. gap i (record { inside = lt; above = a; below = b })) in
-          a-sums i ∙ (ap (λ x. slice_index m (sum_at r x)) q ∙ ((w.bare c inside free).1 ∙ sym (ap (λ x. sum_within r m x (n.high i) r.cells % 2 ^ 64) lo ∙ (ap (λ x. sum_within r m f.low x r.cells % 2 ^ 64) hi ∙ ap (λ x. x % 2 ^ 64) z))))
+          a-sums i
+          ∙ (ap (λ x. slice_index m (sum_at r x)) q
+          ∙ ((w.bare c inside free).1
+          ∙ sym (ap (λ x. sum_within r m x (n.high i) r.cells % 2 ^ 64) lo
+          ∙ (ap (λ x. sum_within r m f.low x r.cells % 2 ^ 64) hi ∙ ap (λ x. x % 2 ^ 64) z))))
       by false e =
           let q : i ≢ c = grind (arith, nat_tests) in
           let o = range-old i q in
           let t = a-tags i q in
-          a-sums i ∙ (w.sums i (record { inside = u.inside; pos = subst (λ z. 0 < z) t u.pos }) ∙ sym (ap (λ x. sum_within r m x (n.high i) r.cells % 2 ^ 64) o.0 ∙ ap (λ x. sum_within r m (g.low i) x r.cells % 2 ^ 64) o.1))
+          a-sums i
+          ∙ (w.sums i (record { inside = u.inside; pos = subst (λ z. 0 < z) t u.pos })
+          ∙ sym (ap (λ x. sum_within r m x (n.high i) r.cells % 2 ^ 64) o.0 ∙ ap (λ x. sum_within r m (g.low i) x r.cells % 2 ^ 64) o.1))
 
   leaf-parts : (l h : ℕ) → sum_within r leaf l h r.cells ≡ sum_within r m l h r.cells + part r leaf l h c
   leaf-parts l h = let z = within-set r m leaf l h c r.cells inside (λ i d. (a-tags i d, a-values i d)) in let p = part-out r m l h c (λ a b. absurd (omega arith)) in omega arith
@@ -163,7 +184,9 @@ module _ (r : SumMap) (m : List ℕ) (g : Ranges) (key v c : ℕ) (s : Position)
     broken = λ i u p q x y.
         let t = a-tag in
         let b = part-in r leaf (n.low i) (n.high i) c (subst (λ z. n.low i < z) (sym t) p) (subst (λ z. z < n.high i) (sym t) q) in
-        mod-grows (2 ^ 64) (slice_index leaf (sum_at r i)) (sum_within r m (n.low i) (n.high i) r.cells) (sum_within r leaf (n.low i) (n.high i) r.cells) v (before i u) (leaf-parts (n.low i) (n.high i) ∙ ap (λ z. sum_within r m (n.low i) (n.high i) r.cells + z) (b ∙ a-value));
+        mod-grows (2 ^ 64) (slice_index leaf (sum_at r i)) (sum_within r m (n.low i) (n.high i) r.cells)
+        (sum_within r leaf (n.low i) (n.high i) r.cells) v (before i u)
+        (leaf-parts (n.low i) (n.high i) ∙ ap (λ z. sum_within r m (n.low i) (n.high i) r.cells + z) (b ∙ a-value));
     right = λ i u out.
         let s = leaf-tree.shape.small i u.inside in
         let b = part-out r leaf (n.low i) (n.high i) c (λ p q. out (subst (λ z. n.low i < z) a-tag p) (subst (λ z. z < n.high i) a-tag q) u.pos s) in
@@ -219,15 +242,24 @@ module _ (r : SumMap) (words key v : ℕ) (s : Position) (c : ℕ) (m x : List �
   ranges = with_range w.well.0 c place.low place.high (over (pool r) m w.well.0 place.low place.high s.link place.link)
 
   pub added-links : LinksInside r x
-  added-links = subst (LinksInside r) (sym w.now) (tree-links r (attached r key v c s.link m) ranges (leaf-tree r m w.well.0 key v c s w.well.1 place small next (let z = is-free.0 in omega arith) is-free.1 (let e = w.long in omega arith)))
+  added-links =
+      subst (LinksInside r) (sym w.now) (tree-links r (attached r key v c s.link m) ranges
+      (leaf-tree r m w.well.0 key v c s w.well.1 place small next (let z = is-free.0 in omega arith) is-free.1
+      (let e = w.long in omega arith)))
 
   pub added-is : (put_in r key v m ≡ changed Added (mended r key v r.cells r.at x)) × IsSumMap r (mended r key v r.cells r.at x)
   added-is =
       let n : (position_of r m key).next ≡ 0 = ap (λ p. p.next) (sym w.place) ∙ next in
       let o : (position_of r m key).link ≡ s.link = ap (λ p. p.link) (sym w.place) in
       let q = sym w.free in
-      let e = w.now in
-      (rw (n, q, o, e) refl, (ranges, subst (λ i. Holds r (mended r key v r.cells r.at i) ranges) (sym e) (leaf-holds r m w.well.0 key v c s w.well.1 place small next (let z = is-free.0 in omega arith) is-free.1 (let e = w.long in omega arith))))
+      let e = w.now in (
+        rw (n, q, o, e) refl,
+        (
+          ranges,
+          subst (λ i. Holds r (mended r key v r.cells r.at i) ranges) (sym e) (leaf-holds r m w.well.0 key v c s w.well.1 place small next
+              (let z = is-free.0 in omega arith) is-free.1 (let e = w.long in omega arith)),
+        ),
+      )
 
 pub full-is : (r : SumMap) (key v : ℕ) (s : Position) (m : List ℕ) → s ≡ position_of r m key → s.next ≡ 0 → None ≡ free_from (tag r m) 0 r.cells → put_in r key v m ≡ unchanged NoRoom m
 full-is r key v s m e n f = let q : (position_of r m key).next ≡ 0 = ap (λ p. p.next) (sym e) ∙ n in let o = sym f in rw (q, o) refl

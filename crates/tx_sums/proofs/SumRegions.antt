@@ -144,7 +144,9 @@ put-outside r m key v x w fits values small out = by (position_of r m key).next 
         let l = link-place (pool r) m w.0 f.low f.high s.link f.link in
         let links = tree-links r k _ (leaf-tree r m w.0 key v c s w.1 f small e lt z.1 room) in
         let same : get_or k x 0 ≡ get_or m x 0 = get_or-set_other (set (set m (tag_at r c) (suc key)) (value_at r c) v) s.link x (suc c) 0 (out-of (pool r) x s.link out l.0 l.1)
-        ∙ (get_or-set_other (set m (tag_at r c) (suc key)) (value_at r c) x v 0 (out-of (pool r) x (value_at r c) out (omega arith) (omega arith)) ∙ get_or-set_other m (tag_at r c) x (suc key) 0 (out-of (pool r) x (tag_at r c) out (omega arith) (omega arith))) in
+        ∙ (get_or-set_other (set m (tag_at r c) (suc key)) (value_at r c) x v 0
+        (out-of (pool r) x (value_at r c) out (omega arith) (omega arith))
+        ∙ get_or-set_other m (tag_at r c) x (suc key) 0 (out-of (pool r) x (tag_at r c) out (omega arith) (omega arith))) in
         ap (λ y. slice_index y.memory x) (ap (put_by r key v m) e ∙ ap (added_by r key v m) q) ∙ (mended-outside r key v r.cells r.at x k links links.0 out ∙ same)
     by (suc j) e o q =
         let z : Names (pool r) m w.0 f.low f.high (suc j) = subst (Names (pool r) m w.0 f.low f.high) (f.word ∙ e) (w.1.shape.names f.low f.high (position_of r m key).link f.link) in

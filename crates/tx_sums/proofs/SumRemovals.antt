@@ -40,10 +40,16 @@ module _ (r : SumMap) (m : List ℕ) (g : Ranges) (l h e y v : ℕ) (w : Tree r 
   e-sum i = (link-off r m g l h e x i).1
 
   e-left : e ≢ left_at r y
-  e-left q = let o = (link-one (pool r) m g l h (g.low y) (tag r m y) (left_at r y) w.shape (subst (LinkOf (pool r) m g l h) q x) (inr (inl (y, refl, refl, refl, s-used)))).1 in let b = s-names.0.below in absurd (omega arith)
+  e-left q =
+      let o = (link-one (pool r) m g l h (g.low y) (tag r m y) (left_at r y) w.shape (subst (LinkOf (pool r) m g l h) q x)
+      (inr (inl (y, refl, refl, refl, s-used)))).1 in
+      let b = s-names.0.below in absurd (omega arith)
 
   e-right : e ≢ right_at r y
-  e-right q = let o = (link-one (pool r) m g l h (tag r m y) (g.high y) (right_at r y) w.shape (subst (LinkOf (pool r) m g l h) q x) (inr (inr (y, refl, refl, refl, s-used)))).0 in let b = s-names.0.above in absurd (omega arith)
+  e-right q =
+      let o = (link-one (pool r) m g l h (tag r m y) (g.high y) (right_at r y) w.shape (subst (LinkOf (pool r) m g l h) q x)
+      (inr (inr (y, refl, refl, refl, s-used)))).0 in
+      let b = s-names.0.above in absurd (omega arith)
 
   abbrev m1 : List ℕ
   m1 = set m e v
@@ -61,7 +67,11 @@ module _ (r : SumMap) (m : List ℕ) (g : Ranges) (l h e y v : ℕ) (w : Tree r 
   m5 = set m4 (value_at r y) 0
 
   s-other : (z : ℕ) → z ≢ e → z ≢ tag_at r y → z ≢ left_at r y → z ≢ right_at r y → z ≢ value_at r y → z ≢ sum_at r y → get_or k z 0 ≡ get_or m z 0
-  s-other z a b c d f o = get_or-set_other m5 (sum_at r y) z 0 0 o ∙ (get_or-set_other m4 (value_at r y) z 0 0 f ∙ (get_or-set_other m3 (right_at r y) z 0 0 d ∙ (get_or-set_other m2 (left_at r y) z 0 0 c ∙ (get_or-set_other m1 (tag_at r y) z 0 0 b ∙ get_or-set_other m e z v 0 a))))
+  s-other z a b c d f o =
+      get_or-set_other m5 (sum_at r y) z 0 0 o
+      ∙ (get_or-set_other m4 (value_at r y) z 0 0 f
+      ∙ (get_or-set_other m3 (right_at r y) z 0 0 d
+      ∙ (get_or-set_other m2 (left_at r y) z 0 0 c ∙ (get_or-set_other m1 (tag_at r y) z 0 0 b ∙ get_or-set_other m e z v 0 a))))
 
   pub s-tags : (i : ℕ) → i ≢ y → tag r (spliced r y e v m) i ≡ tag r m i
   s-tags i d = s-other (tag_at r i) (λ q. e-tag i (sym q)) (λ q. d (omega arith)) (λ q. absurd (omega arith)) (λ q. absurd (omega arith)) (λ q. absurd (omega arith)) (λ q. absurd (omega arith))
@@ -73,15 +83,20 @@ module _ (r : SumMap) (m : List ℕ) (g : Ranges) (l h e y v : ℕ) (w : Tree r 
   s-sums i d = s-other (sum_at r i) (λ q. e-sum i (sym q)) (λ q. absurd (omega arith)) (λ q. absurd (omega arith)) (λ q. absurd (omega arith)) (λ q. absurd (omega arith)) (λ q. d (omega arith))
 
   pub s-tag : tag r (spliced r y e v m) y ≡ 0
-  s-tag = get_or-set_other m5 (sum_at r y) (tag_at r y) 0 0 (λ q. absurd (omega arith)) ∙ (get_or-set_other m4 (value_at r y) (tag_at r y) 0 0 (λ q. absurd (omega arith)) ∙ (get_or-set_other m3 (right_at r y) (tag_at r y) 0 0 (λ q. absurd (omega arith))
+  s-tag = get_or-set_other m5 (sum_at r y) (tag_at r y) 0 0 (λ q. absurd (omega arith)) ∙ (get_or-set_other m4 (value_at r y) (tag_at r y) 0
+      0 (λ q. absurd (omega arith)) ∙ (get_or-set_other m3 (right_at r y) (tag_at r y) 0 0 (λ q. absurd (omega arith))
       ∙ (get_or-set_other m2 (left_at r y) (tag_at r y) 0 0 (λ q. absurd (omega arith)) ∙ get_or-set_same m1 (tag_at r y) 0 0 (let i = s-inside in simp length-set (omega arith)))))
 
   s-left : slice_index k (left_at r y) ≡ 0
-  s-left = get_or-set_other m5 (sum_at r y) (left_at r y) 0 0 (λ q. absurd (omega arith)) ∙ (get_or-set_other m4 (value_at r y) (left_at r y) 0 0 (λ q. absurd (omega arith)) ∙ (get_or-set_other m3 (right_at r y) (left_at r y) 0 0 (λ q. absurd (omega arith))
+  s-left = get_or-set_other m5 (sum_at r y) (left_at r y) 0 0 (λ q. absurd (omega arith)) ∙ (get_or-set_other m4 (value_at r y)
+      (left_at r y) 0 0 (λ q. absurd (omega arith)) ∙ (get_or-set_other m3 (right_at r y) (left_at r y) 0 0 (λ q. absurd (omega arith))
       ∙ get_or-set_same m2 (left_at r y) 0 0 (let i = s-inside in simp length-set (omega arith))))
 
   s-right : slice_index k (right_at r y) ≡ 0
-  s-right = get_or-set_other m5 (sum_at r y) (right_at r y) 0 0 (λ q. absurd (omega arith)) ∙ (get_or-set_other m4 (value_at r y) (right_at r y) 0 0 (λ q. absurd (omega arith)) ∙ get_or-set_same m3 (right_at r y) 0 0 (let i = s-inside in simp length-set (omega arith)))
+  s-right =
+      get_or-set_other m5 (sum_at r y) (right_at r y) 0 0 (λ q. absurd (omega arith))
+      ∙ (get_or-set_other m4 (value_at r y) (right_at r y) 0 0 (λ q. absurd (omega arith))
+      ∙ get_or-set_same m3 (right_at r y) 0 0 (let i = s-inside in simp length-set (omega arith)))
 
   s-value : value r k y ≡ 0
   s-value = get_or-set_other m5 (sum_at r y) (value_at r y) 0 0 (λ q. absurd (omega arith)) ∙ get_or-set_same m4 (value_at r y) 0 0 (let i = s-inside in simp length-set (omega arith))
@@ -93,7 +108,8 @@ module _ (r : SumMap) (m : List ℕ) (g : Ranges) (l h e y v : ℕ) (w : Tree r 
   s-link = get_or-set_other m5 (sum_at r y) e 0 0 (e-sum y) ∙ (get_or-set_other m4 (value_at r y) e 0 0 (e-value y) ∙ (get_or-set_other m3 (right_at r y) e 0 0 e-right ∙ (get_or-set_other m2 (left_at r y) e 0 0 e-left
       ∙ (get_or-set_other m1 (tag_at r y) e 0 0 (e-tag y) ∙ get_or-set_same m e v 0 (let i = e-less in omega arith)))))
 
-  pub spliced-tree : ((slice_index m (left_at r y) ≡ 0) × (slice_index m (right_at r y) ≡ v)) ⊎ ((slice_index m (right_at r y) ≡ 0) × (slice_index m (left_at r y) ≡ v)) → Tree r (spliced r y e v m) (shifted g (tag r m y) l h)
+  pub spliced-tree : ((slice_index m (left_at r y) ≡ 0) × (slice_index m (right_at r y) ≡ v))
+      ⊎ ((slice_index m (right_at r y) ≡ 0) × (slice_index m (left_at r y) ≡ v)) → Tree r (spliced r y e v m) (shifted g (tag r m y) l h)
   spliced-tree one = record {
     shape = splice-keeps (pool r) m k g l h e y v w.shape x named one s-tags s-tag
         (λ lo hi a z d nl nr. let o = link-inside (pool r) m g lo hi a z in let f = link-off r m g lo hi a z y in s-other a d (o.0 y) nl nr f.0 f.1)
@@ -156,11 +172,16 @@ named-by r m g i w u = by (tag r m i) refl
             let z : Names (pool r) m g f.low f.high (suc j) = subst (Names (pool r) m g f.low f.high) (f.word ∙ q) (w.shape.names f.low f.high (position_of r m key).link f.link) in
             let s : j ≡ i = w.shape.differ j i (record { inside = z.0.inside; pos = (let a = z.0.above in omega arith) }) u ((f.some j q).1 ∙ sym e) in
             let lo : f.low ≡ g.low i = sym z.1 ∙ ap g.low s in
-            let hi : f.high ≡ g.high i = sym z.2 ∙ ap g.high s in
-            ((position_of r m key).link, subst (λ x. LinkOf (pool r) m g x (g.high i) (position_of r m key).link) lo (subst (λ x. LinkOf (pool r) m g f.low x (position_of r m key).link) hi f.link), f.word ∙ (q ∙ ap suc s))
+            let hi : f.high ≡ g.high i = sym z.2 ∙ ap g.high s in (
+              (position_of r m key).link,
+              subst (λ x. LinkOf (pool r) m g x (g.high i) (position_of r m key).link) lo
+                  (subst (λ x. LinkOf (pool r) m g f.low x (position_of r m key).link) hi f.link),
+              f.word ∙ (q ∙ ap suc s),
+            )
 
 -- a range that begins at y's tag is on y's right
-low-by : (r : SumMap) (m : List ℕ) (g : Ranges) (y i : ℕ) → Tree r m g → Used r m y → Used r m i → g.low i ≡ tag r m y → (a : ℕ) × LinkOf (pool r) m g (g.low i) (g.high i) a × (slice_index m a ≡ suc i) → Bounds (pool r) m g top (g.rank i) (g.high i)
+low-by : (r : SumMap) (m : List ℕ) (g : Ranges) (y i : ℕ) → Tree r m g → Used r m y → Used r m i → g.low i ≡ tag r m y
+    → (a : ℕ) × LinkOf (pool r) m g (g.low i) (g.high i) a × (slice_index m a ≡ suc i) → Bounds (pool r) m g top (g.rank i) (g.high i)
     → ((j : ℕ) → Used r m j → g.rank j < g.rank i → g.low j ≡ tag r m y → (g.high j ≤ g.high y) × (slice_index m (right_at r y) ≡ 0 → ⊥)) → (g.high i ≤ g.high y) × (slice_index m (right_at r y) ≡ 0 → ⊥)
 low-by r m g y i w uy u e (a, inl z, named) b go = let p = z.1 in let q = uy.pos in absurd (omega arith)
 low-by r m g y i w uy u e (a, inr (inr (j, p, q, o, uj)), named) b go =
@@ -182,7 +203,9 @@ low-of r m g y zero i w uy le u e = low-by r m g y i w uy u e (named-by r m g i 
 low-of r m g y (suc n) i w uy le u e = low-by r m g y i w uy u e (named-by r m g i w u) (w.shape.highs i u).1 (λ j uj lt f. low-of r m g y n j w uy (omega arith) uj f)
 
 -- one that ends there is on its left
-high-by : (r : SumMap) (m : List ℕ) (g : Ranges) (y i : ℕ) → Tree r m g → Used r m y → Used r m i → g.high i ≡ tag r m y → slice_index m (left_at r y) ≡ 0 → (a : ℕ) × LinkOf (pool r) m g (g.low i) (g.high i) a × (slice_index m a ≡ suc i) → Bounds (pool r) m g 0 (g.rank i) (g.low i)
+high-by : (r : SumMap) (m : List ℕ) (g : Ranges) (y i : ℕ) → Tree r m g → Used r m y → Used r m i → g.high i ≡ tag r m y
+    → slice_index m (left_at r y) ≡ 0 → (a : ℕ) × LinkOf (pool r) m g (g.low i) (g.high i) a × (slice_index m a ≡ suc i)
+    → Bounds (pool r) m g 0 (g.rank i) (g.low i)
     → ((j : ℕ) → Used r m j → g.rank j < g.rank i → g.high j ≡ tag r m y → ⊥) → ⊥
 high-by r m g y i w uy u e none (a, inl z, named) b go = let p = z.2 in let q = w.shape.small y uy.inside in absurd (omega arith)
 high-by r m g y i w uy u e none (a, inr (inl (j, p, q, o, uj)), named) b go =
@@ -238,7 +261,9 @@ spliced-holds r m g l h e y v w x named one none room = holds-of r (spliced r y 
             lo (inl (p, q)) b = let a = names.0.above in omega arith
             lo (inr (p, q)) b = omega arith
 
-            hi : ((g.high i ≡ tag r m y) × (shift (tag r m y) h (g.high i) ≡ h)) ⊎ ((g.high i ≢ tag r m y) × (shift (tag r m y) h (g.high i) ≡ g.high i)) → tag r m c < g.high i → tag r m c < shift (tag r m y) h (g.high i)
+            hi : ((g.high i ≡ tag r m y) × (shift (tag r m y) h (g.high i) ≡ h))
+                ⊎ ((g.high i ≢ tag r m y) × (shift (tag r m y) h (g.high i) ≡ g.high i)) → tag r m c < g.high i
+                → tag r m c < shift (tag r m y) h (g.high i)
             hi (inl (p, q)) b = let a = names.0.below in omega arith
             hi (inr (p, q)) b = omega arith
 

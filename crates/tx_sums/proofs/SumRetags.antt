@@ -12,7 +12,8 @@ use Rattle.tx_sums.specs.Sums.{pool, tag_at, left_at, right_at, value_at, sum_at
 use Rattle.tx_sums.proofs.SumTrees.{part-step, part-same}
 
 -- A CELL RETAGGED, the word written
-module _ (r : SumMap) (m : List ℕ) (g : Ranges) (x v : ℕ) (w : Holds r m g) (u : Used r m x) (up : tag r m x ≤ v) (under : v < top) (gap : (i : ℕ) → Used r m i → tag r m x < tag r m i → v < tag r m i) (room : r.at + 1 + 5 * r.cells ≤ length m) where
+module _ (r : SumMap) (m : List ℕ) (g : Ranges) (x v : ℕ) (w : Holds r m g) (u : Used r m x) (up : tag r m x ≤ v) (under : v < top)
+    (gap : (i : ℕ) → Used r m i → tag r m x < tag r m i → v < tag r m i) (room : r.at + 1 + 5 * r.cells ≤ length m) where
   abbrev k : List ℕ
   k = retagged r x v m
 

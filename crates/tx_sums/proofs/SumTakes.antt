@@ -112,7 +112,10 @@ module _ (r : SumMap) (m : List ℕ) (g : Ranges) (x y high link key : ℕ) (w :
   parts : (l h : ℕ) → sum_within r k l h r.cells + part r m l h y ≡ sum_within r m l h r.cells + part r k l h x
   parts l h =
       let one = within-set r m k1 l h x r.cells ux.inside (λ i d. (k1-tags i, k1-values i d)) in
-      let two = within-set r k1 k l h y r.cells uy.inside (λ i d. (get_or-set_other k1 (value_at r y) (tag_at r i) 0 0 (λ e. absurd (omega arith)), get_or-set_other k1 (value_at r y) (value_at r i) 0 0 (λ e. d (omega arith)))) in
+      let two = within-set r k1 k l h y r.cells uy.inside (λ i d. (
+        get_or-set_other k1 (value_at r y) (tag_at r i) 0 0 (λ e. absurd (omega arith)),
+        get_or-set_other k1 (value_at r y) (value_at r i) 0 0 (λ e. d (omega arith)),
+      )) in
       let t1 = k1-tags y in
       let v1 = k1-values y (λ q. apart (sym q)) in
       let py : part r k1 l h y ≡ part r m l h y = rw (t1, v1) refl in
@@ -187,7 +190,8 @@ module _ (r : SumMap) (m : List ℕ) (g : Ranges) (x y high link key : ℕ) (w :
           let px = part-out r k (g.low i) (g.high i) x (λ c d. (let h = has-y i u (omega arith) (omega arith) in out h.0 h.1)) in
           let s = parts (g.low i) (g.high i) in omega arith
 
-      same : (i : ℕ) → Used r m i → (g.low i < tag r m y → tag r m y < g.high i → tag r m x < tag r m i → tag r m i < g.high x → ⊥) → (p : Bool) → ltb (g.low i) (tag r m y) ≡ p → (q : Bool) → ltb (tag r m y) (g.high i) ≡ q
+      same : (i : ℕ) → Used r m i → (g.low i < tag r m y → tag r m y < g.high i → tag r m x < tag r m i → tag r m i < g.high x → ⊥)
+          → (p : Bool) → ltb (g.low i) (tag r m y) ≡ p → (q : Bool) → ltb (tag r m y) (g.high i) ≡ q
           → sum_within r k (g.low i) (g.high i) r.cells ≡ sum_within r m (g.low i) (g.high i) r.cells
       same i u out true p true q =
           let lo : g.low i < tag r m y = grind (arith, nat_tests) in
@@ -324,7 +328,9 @@ module _ (r : SumMap) (m : List ℕ) (g : Ranges) (x y : ℕ) (s : Position) (w 
   )
 
 -- A CELL TAKEN OUT that has no value
-pub taken_out-keeps : (r : SumMap) (m : List ℕ) (g : Ranges) (l h e x : ℕ) → Holds r m g → LinkOf (pool r) m g l h e → slice_index m e ≡ suc x → value r m x ≡ 0 → ((i : ℕ) → i < r.cells → value r m i < 2 ^ 64) → r.at + 1 + 5 * r.cells ≤ length m → IsSumMap r (taken_out r x e m)
+pub taken_out-keeps : (r : SumMap) (m : List ℕ) (g : Ranges) (l h e x : ℕ) → Holds r m g → LinkOf (pool r) m g l h e
+    → slice_index m e ≡ suc x → value r m x ≡ 0 → ((i : ℕ) → i < r.cells → value r m i < 2 ^ 64) → r.at + 1 + 5 * r.cells ≤ length m
+    → IsSumMap r (taken_out r x e m)
 taken_out-keeps r m g l h e x w k named none fits room = by (slice_index m (left_at r x) == 0) refl (slice_index m (right_at r x) == 0) refl
   where
     names : Names (pool r) m g l h (suc x)
@@ -345,16 +351,20 @@ taken_out-keeps r m g l h e x w k named none fits room = by (slice_index m (left
     by false p true q = (_, spliced-holds r m g l h e x (slice_index m (left_at r x)) w k named (inr (grind (arith, nat_tests), refl)) none room)
     by false p false q = at (leftmost r m r.cells (right_at r x)).next refl (slice_index m (right_at r x)) refl (w.shape.names (tag r m x) (g.high x) (right_at r x) rl)
       where
-        at : (n : ℕ) → (leftmost r m r.cells (right_at r x)).next ≡ n → (v : ℕ) → slice_index m (right_at r x) ≡ v → Names (pool r) m g (tag r m x) (g.high x) v → IsSumMap r (replaced_by r x (leftmost r m r.cells (right_at r x)) m)
+        at : (n : ℕ) → (leftmost r m r.cells (right_at r x)).next ≡ n → (v : ℕ) → slice_index m (right_at r x) ≡ v
+            → Names (pool r) m g (tag r m x) (g.high x) v → IsSumMap r (replaced_by r x (leftmost r m r.cells (right_at r x)) m)
         at n c zero d nm = absurd (grind (arith, nat_tests))
         at zero c (suc j) d nm = absurd (least.none c j nm.0)
         at (suc y) c (suc j) d nm =
-            let ny : Names (pool r) m g (tag r m x) least.high (suc y) = subst (Names (pool r) m g (tag r m x) least.high) (least.word ∙ c) (w.shape.names (tag r m x) least.high (leftmost r m r.cells (right_at r x)).link least.link) in
+            let ny : Names (pool r) m g (tag r m x) least.high (suc y) = subst (Names (pool r) m g (tag r m x) least.high) (least.word ∙ c)
+            (w.shape.names (tag r m x) least.high (leftmost r m r.cells (right_at r x)).link least.link) in
             replaced-keeps r m g x y (leftmost r m r.cells (right_at r x)) w u none least c (fits y ny.0.inside) room
 
 -- WHAT THE LEAST IS, where there is something on the right
 pub least-facts : (r : SumMap) (m : List ℕ) (x v : ℕ) (p : Position) → HasRight r x v m → 0 < v → p ≡ leftmost r m r.cells (right_at r x) → (p.next ≢ 0) × (0 < p.tag) × (p.tag < top)
-least-facts r m x v p h lt e = subst (λ q. (q.next ≢ 0) × (0 < q.tag) × (q.tag < top)) (sym e) (by (leftmost r m r.cells (right_at r x)).next refl (slice_index m (right_at r x)) refl (h.well.1.shape.names (tag r m x) (h.well.0.high x) (right_at r x) rl))
+least-facts r m x v p h lt e =
+    subst (λ q. (q.next ≢ 0) × (0 < q.tag) × (q.tag < top)) (sym e) (by (leftmost r m r.cells (right_at r x)).next refl
+    (slice_index m (right_at r x)) refl (h.well.1.shape.names (tag r m x) (h.well.0.high x) (right_at r x) rl))
   where
     rl : LinkOf (pool r) m h.well.0 (tag r m x) (h.well.0.high x) (right_at r x)
     rl = inr (inr (x, refl, refl, refl, h.used))
@@ -367,7 +377,8 @@ least-facts r m x v p h lt e = subst (λ q. (q.next ≢ 0) × (0 < q.tag) × (q.
     by n q zero d nm = let z = h.right in absurd (omega arith)
     by zero q (suc j) d nm = absurd (f.none q j nm.0)
     by (suc y) q (suc j) d nm =
-        let ny : Names (pool r) m h.well.0 (tag r m x) f.high (suc y) = subst (Names (pool r) m h.well.0 (tag r m x) f.high) (f.word ∙ q) (h.well.1.shape.names (tag r m x) f.high (leftmost r m r.cells (right_at r x)).link f.link) in
+        let ny : Names (pool r) m h.well.0 (tag r m x) f.high (suc y) = subst (Names (pool r) m h.well.0 (tag r m x) f.high) (f.word ∙ q)
+        (h.well.1.shape.names (tag r m x) f.high (leftmost r m r.cells (right_at r x)).link f.link) in
         let t = (f.some y q).0 in let a = ny.0.above in let s = h.well.1.shape.small y ny.0.inside in
         ((λ z. absurd (omega arith)), omega arith, omega arith)
 
@@ -399,7 +410,9 @@ module _ (r : SumMap) (words x : ℕ) (p : Position) (y a b : ℕ) (m : List ℕ
   rx = inr (inr (x, refl, refl, refl, w.used))
 
   lm : Leftmost (pool r) m w.well.0 (tag r m x) (w.well.0.high x) p
-  lm = subst (Leftmost (pool r) m w.well.0 (tag r m x) (w.well.0.high x)) (sym w.place) (leftmost-found (pool r) m w.well.0 r.cells (tag r m x) (w.well.0.high x) (right_at r x) w.well.1.shape rx (how_many-most _ r.cells))
+  lm =
+      subst (Leftmost (pool r) m w.well.0 (tag r m x) (w.well.0.high x)) (sym w.place)
+      (leftmost-found (pool r) m w.well.0 r.cells (tag r m x) (w.well.0.high x) (right_at r x) w.well.1.shape rx (how_many-most _ r.cells))
 
   ny : Names (pool r) m w.well.0 (tag r m x) lm.high (suc y)
   ny = subst (Names (pool r) m w.well.0 (tag r m x) lm.high) (lm.word ∙ next) (w.well.1.shape.names (tag r m x) lm.high p.link lm.link)
@@ -410,7 +423,9 @@ module _ (r : SumMap) (words x : ℕ) (p : Position) (y a b : ℕ) (m : List ℕ
   pub taking-links : LinksFrom r (right_at r x) (valued r x y b m)
   taking-links =
       let t : tag r m y ≡ suc (less_one p.tag) = (let q = (lm.some y next).0 in let c = ny.0.above in sym (less-one p.tag (omega arith) ∙ q)) in
-      let l : LinksInside r (valued r x y (value r m y) m) = tree-links r (valued r x y (value r m y) m) w.well.0 (k-tree r m w.well.0 x y lm.high p.link (less_one p.tag) w.well.1 w.used w.none lm.link (lm.word ∙ next) (lm.some y next).1 t fit (let e = w.long in omega arith)) in
+      let l : LinksInside r (valued r x y (value r m y) m) = tree-links r (valued r x y (value r m y) m) w.well.0
+      (k-tree r m w.well.0 x y lm.high p.link (less_one p.tag) w.well.1 w.used w.none lm.link (lm.word ∙ next) (lm.some y next).1 t fit
+      (let e = w.long in omega arith)) in
       subst (λ z. LinksFrom r (right_at r x) (valued r x y z m)) (sym w.held) (record { links = l; from = (l.1 x w.used.inside).1 })
 
   pub taking-is : (z : List ℕ) → z ≡ retagged r x p.tag (spliced r y p.link a (mended r (p.tag - 1) (step_to b 0) r.cells (right_at r x) (valued r x y b m))) → (least_taken r x m ≡ changed true z) × IsSumMap r z
@@ -449,14 +464,18 @@ walks-cut good words l k j r x e u v s reads ws turns cut =
     walks-turns good words l k j (λ m z. Cutting r words x e u v m × (z ≡ m)) (λ m z. (taken_in r x e m ≡ changed true z) × IsSumMap r z) (spliced r x e s) w0 turns
     (λ m z h. subst (λ i. (taken_in r x e m ≡ changed true (spliced r x e s i)) × IsSumMap r (spliced r x e s i)) (sym h.1) (cut m h.0))
 
-pub out-right : (r : SumMap) (m : List ℕ) (x e u v : ℕ) → IsEmptied r x e m → r.at + 1 + 5 * r.cells ≤ length m → u ≡ slice_index m (left_at r x) → u ≡ 0 → v ≡ slice_index m (right_at r x) → (taken_in r x e m ≡ changed true (spliced r x e v m)) × IsSumMap r (spliced r x e v m)
+pub out-right : (r : SumMap) (m : List ℕ) (x e u v : ℕ) → IsEmptied r x e m → r.at + 1 + 5 * r.cells ≤ length m
+    → u ≡ slice_index m (left_at r x) → u ≡ 0 → v ≡ slice_index m (right_at r x)
+    → (taken_in r x e m ≡ changed true (spliced r x e v m)) × IsSumMap r (spliced r x e v m)
 out-right r m x e u v w room a z b =
     let o = emptied-link r m w.well.0 e w.link in
     let n : slice_index m (left_at r x) ≡ 0 = sym a ∙ z in
     let q : (slice_index m (left_at r x) == 0) ≡ true = grind (arith, nat_tests) in
     (rw (q, b) refl, (_, spliced-holds r m w.well.0 o.0 o.1 e x v w.well.1 o.2 w.named (inl (n, sym b)) w.none room))
 
-pub out-left : (r : SumMap) (m : List ℕ) (x e u v : ℕ) → IsEmptied r x e m → r.at + 1 + 5 * r.cells ≤ length m → u ≡ slice_index m (left_at r x) → u ≢ 0 → v ≡ slice_index m (right_at r x) → v ≡ 0 → (taken_in r x e m ≡ changed true (spliced r x e u m)) × IsSumMap r (spliced r x e u m)
+pub out-left : (r : SumMap) (m : List ℕ) (x e u v : ℕ) → IsEmptied r x e m → r.at + 1 + 5 * r.cells ≤ length m
+    → u ≡ slice_index m (left_at r x) → u ≢ 0 → v ≡ slice_index m (right_at r x) → v ≡ 0
+    → (taken_in r x e m ≡ changed true (spliced r x e u m)) × IsSumMap r (spliced r x e u m)
 out-left r m x e u v w room a d b z =
     let o = emptied-link r m w.well.0 e w.link in
     let n : slice_index m (right_at r x) ≡ 0 = sym b ∙ z in
@@ -471,8 +490,17 @@ out-both r m x e u v a d b f =
     rw (q, p) refl
 
 -- a key's cell, once its value is 0, is still named by the link that the find gave
-pub emptied-of : (r : SumMap) (m : List ℕ) (key j : ℕ) (s : Position) → IsSumMap r m → key < 2 ^ 32 → s ≡ position_of r m key → s.next ≡ suc j → r.at + 1 + 5 * r.cells ≤ length m → IsSumMap r (replaced_in r key 0 j m).memory → IsEmptied r j s.link (replaced_in r key 0 j m).memory
-emptied-of r m key j s w small e n room after = record { well = after; link = moved f.link; named = words ∙ (f.word ∙ n); none = mended-value r key (step_to (value r m j) 0) r.cells r.at (set m (value_at r j) 0) j ∙ get_or-set_same m (value_at r j) 0 0 (let i = inside in omega arith) }
+pub emptied-of : (r : SumMap) (m : List ℕ) (key j : ℕ) (s : Position) → IsSumMap r m → key < 2 ^ 32 → s ≡ position_of r m key
+    → s.next ≡ suc j → r.at + 1 + 5 * r.cells ≤ length m → IsSumMap r (replaced_in r key 0 j m).memory
+    → IsEmptied r j s.link (replaced_in r key 0 j m).memory
+emptied-of r m key j s w small e n room after =
+    record {
+      well = after;
+      link = moved f.link;
+      named = words ∙ (f.word ∙ n);
+      none = mended-value r key (step_to (value r m j) 0) r.cells r.at (set m (value_at r j) 0) j
+          ∙ get_or-set_same m (value_at r j) 0 0 (let i = inside in omega arith);
+    }
   where
     f : Found (pool r) m w.0 key s
     f = subst (Found (pool r) m w.0 key) (sym e) (position-found (pool r) m w.0 key w.1.shape small)

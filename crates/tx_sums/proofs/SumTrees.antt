@@ -89,7 +89,9 @@ part-out r m l h c out = by (ltb l (tag r m c)) refl (ltb (tag r m c) h) refl
     by false p b q = refl
 
 -- a cell whose value stays counts in two ranges alike, if it is in both or in neither
-pub part-same : (r : SumMap) (m k : List ℕ) (l h l' h' c : ℕ) → value r k c ≡ value r m c → (l < tag r m c → tag r m c < h → (l' < tag r k c) × (tag r k c < h')) → (l' < tag r k c → tag r k c < h' → (l < tag r m c) × (tag r m c < h)) → part r k l' h' c ≡ part r m l h c
+pub part-same : (r : SumMap) (m k : List ℕ) (l h l' h' c : ℕ) → value r k c ≡ value r m c
+    → (l < tag r m c → tag r m c < h → (l' < tag r k c) × (tag r k c < h'))
+    → (l' < tag r k c → tag r k c < h' → (l < tag r m c) × (tag r m c < h)) → part r k l' h' c ≡ part r m l h c
 part-same r m k l h l' h' c v to from = by (ltb l (tag r m c)) refl (ltb (tag r m c) h) refl
   where
     off : (l < tag r m c → tag r m c < h → ⊥) → part r k l' h' c ≡ part r m l h c

@@ -29,7 +29,9 @@ module _ (good : List ℕ → Type 0) (words : ℕ) (l : Log) where
       let p = h m g len (t.explains m ex) in
       (p.0, subst (Q (overlay m l.writes)) (sym (t.left m)) (next (overlay m l.writes) (overlay m k.writes) p.1))
 
-  pub walks-does : {A : Type 0} (k j : Log) (good' : List ℕ → Type 0) (words' : ℕ) (P Q : List ℕ → List ℕ → Type 0) (effect : List ℕ → Effect A) (v : A) → Walks good words l k P → SameMemories good good' → words' ≡ words → DoesOver good' words' effect k v j
+  pub walks-does : {A : Type 0} (k j : Log) (good' : List ℕ → Type 0) (words' : ℕ) (P Q : List ℕ → List ℕ → Type 0)
+      (effect : List ℕ → Effect A) (v : A) → Walks good words l k P → SameMemories good good' → words' ≡ words
+      → DoesOver good' words' effect k v j
       → ((m x : List ℕ) → P m x → v ≡ (effect x).reply → Q m (effect x).memory) → Walks good words l j Q
   walks-does k j good' words' P Q effect v h same w does next = λ m g len ex.
       let d = does m ((same m).0 g) (len ∙ sym w) ex in
@@ -64,14 +66,18 @@ not-true true e = absurd cc
 not-true false e = refl
 
 -- a call that wrote left a log with writes
-pub does-wrote : {A : Type 0} (good : List ℕ → Type 0) (words : ℕ) (k j : Log) (good' : List ℕ → Type 0) (words' : ℕ) (effect : List ℕ → Effect A) (v : A) → DoesOver good words effect k v j → SameMemories good good' → words' ≡ words → IsExplained good' words' j
+pub does-wrote : {A : Type 0} (good : List ℕ → Type 0) (words : ℕ) (k j : Log) (good' : List ℕ → Type 0) (words' : ℕ)
+    (effect : List ℕ → Effect A) (v : A) → DoesOver good words effect k v j → SameMemories good good' → words' ≡ words
+    → IsExplained good' words' j
     → ((m : List ℕ) → (effect m).wrote ≡ true) → is_empty j.writes ≡ false
 does-wrote good words k j good' words' effect v does same w seen wrote =
     let d = does seen.0 ((same seen.0).1 seen.1) (seen.2 ∙ w) seen.3 in
     not-true (is_empty j.writes) (d.wrote ∙ (ap (λ b. not (is_empty k.writes) || b) (wrote (overlay seen.0 k.writes)) ∙ not-or (not (is_empty k.writes))))
 
 -- and one after a write
-pub does-after : {A : Type 0} (good : List ℕ → Type 0) (words : ℕ) (k j : Log) (good' : List ℕ → Type 0) (words' : ℕ) (effect : List ℕ → Effect A) (v : A) → DoesOver good words effect k v j → SameMemories good good' → words' ≡ words → IsExplained good' words' j
+pub does-after : {A : Type 0} (good : List ℕ → Type 0) (words : ℕ) (k j : Log) (good' : List ℕ → Type 0) (words' : ℕ)
+    (effect : List ℕ → Effect A) (v : A) → DoesOver good words effect k v j → SameMemories good good' → words' ≡ words
+    → IsExplained good' words' j
     → is_empty k.writes ≡ false → is_empty j.writes ≡ false
 does-after good words k j good' words' effect v does same w seen wrote =
     let d = does seen.0 ((same seen.0).1 seen.1) (seen.2 ∙ w) seen.3 in
@@ -136,7 +142,12 @@ mending-on r from key d v (suc n) less j t a u b m x w e k z y f h =
     let s : n ≡ less = omega arith in
     let step : from_word r key d (suc n) v x ≡ mended r key d n (side_at r x key j) (raised r d j x) = rw (e, q) refl in
     record {
-      on = w.on ∙ (step ∙ (from-is r key d n (side_at r x key j) (raised r d j x) ∙ (ap (λ i. from_word r key d n (slice_index (raised r d j x) i) (raised r d j x)) (sym side) ∙ (ap (λ i. from_word r key d n i (raised r d j x)) (sym h) ∙ ap (λ i. from_word r key d i u (raised r d j x)) s))));
+      on =
+          w.on
+          ∙ (step
+          ∙ (from-is r key d n (side_at r x key j) (raised r d j x)
+          ∙ (ap (λ i. from_word r key d n (slice_index (raised r d j x) i) (raised r d j x)) (sym side)
+          ∙ (ap (λ i. from_word r key d n i (raised r d j x)) (sym h) ∙ ap (λ i. from_word r key d i u (raised r d j x)) s))));
       links = raised-links r d j x w.links;
       first = w.first;
     }
@@ -148,7 +159,8 @@ side-most r key t j a x w lt e = by (ltb key t) e
     by true e = subst (λ i. slice_index x i ≤ r.cells) (sym e) (w.1 j lt).0
     by false e = subst (λ i. slice_index x i ≤ r.cells) (sym e) (w.1 j lt).1
 
-pub word-most : (r : SumMap) (from key d v n j t a u : ℕ) (b : Bool) (m x : List ℕ) → Mending r from key d v n b m x → j < r.cells → a ≡ (if ltb key t then left_at r j else right_at r j) → u ≡ slice_index (raised r d j x) a → u ≤ r.cells
+pub word-most : (r : SumMap) (from key d v n j t a u : ℕ) (b : Bool) (m x : List ℕ) → Mending r from key d v n b m x → j < r.cells
+    → a ≡ (if ltb key t then left_at r j else right_at r j) → u ≡ slice_index (raised r d j x) a → u ≤ r.cells
 word-most r from key d v n j t a u b m x w lt f h = let y = side-most r key t j a (raised r d j x) (raised-links r d j x w.links) lt f in omega arith
 
 pub mended-is : (r : SumMap) (from key d : ℕ) (b : Bool) (m x : List ℕ) → mended r key d r.cells from m ≡ x → not (slice_index m from == 0) ≡ b → mended_in r from key d m ≡ record { reply = b; memory = x; wrote = b }
@@ -171,6 +183,8 @@ wrote-end i l k b v (inl x) z = let q : (v == 0) ≡ true = (let y = z x.0 in gr
 wrote-end i l k b v (inr x) z = wrote-here l k b x.0 x.1
 
 -- a walk that has no more to mend
-pub mending-over : (good : List ℕ → Type 0) (words : ℕ) (l k : Log) (r : SumMap) (from key d v n i : ℕ) (b : Bool) → Walks good words l k (Mending r from key d v n b) → Wrote i l k b v → (i ≡ 0 → v ≡ 0) → ((x : List ℕ) → from_word r key d n v x ≡ x) → DoesOver good words (mended_in r from key d) l b k
+pub mending-over : (good : List ℕ → Type 0) (words : ℕ) (l k : Log) (r : SumMap) (from key d v n i : ℕ) (b : Bool)
+    → Walks good words l k (Mending r from key d v n b) → Wrote i l k b v → (i ≡ 0 → v ≡ 0) → ((x : List ℕ) → from_word r key d n v x ≡ x)
+    → DoesOver good words (mended_in r from key d) l b k
 mending-over good words l k r from key d v n i b walks wrote empty over =
     walks-end good words l k (mended_in r from key d) b b (wrote-end i l k b v wrote empty) (λ m fine len ex. let p = walks m fine len ex in (p.0, mended-is r from key d b _ _ (p.1.on ∙ over _) p.1.first))

@@ -17,7 +17,8 @@ use Rattle.tx_sums.proofs.SumTakes.{less-one, k-tree, emptied-link, emptied-of, 
 use Rattle.tx_sums.proofs.SumWords.{Kept, kept-self, kept-set, kept-mended, kept-spliced}
 
 -- the cell x gets value and tag of y, the least on its right; o is a memory before
-least-kept : (r : SumMap) (o m : List ℕ) (g : Ranges) (x y : ℕ) (s : Position) → Kept r o m → Holds r m g → Used r m x → value r m x ≡ 0 → Leftmost (pool r) m g (tag r m x) (g.high x) s → s.next ≡ suc y → r.at + 1 + 5 * r.cells ≤ length o
+least-kept : (r : SumMap) (o m : List ℕ) (g : Ranges) (x y : ℕ) (s : Position) → Kept r o m → Holds r m g → Used r m x → value r m x ≡ 0
+    → Leftmost (pool r) m g (tag r m x) (g.high x) s → s.next ≡ suc y → r.at + 1 + 5 * r.cells ≤ length o
     → Kept r o (replaced_by r x s m)
 least-kept r o m g x y s kept w u none f e room =
     subst (λ z. Kept r o (retagged r x s.tag (spliced r z s.link (slice_index m (right_at r z)) (moved_up r x z (less_one s.tag) m)))) (sym (ap less_one e))
@@ -51,7 +52,8 @@ least-kept r o m g x y s kept w u none f e room =
         kept-spliced r o _ y s.link (slice_index m (right_at r y)) moved room names.0.inside p.0 p.1 (λ i q. (link-off r m g (tag r m x) f.high s.link f.link i).0 (sym q))
 
 -- a cell taken out that has no value
-taken-kept : (r : SumMap) (o m : List ℕ) (g : Ranges) (l h e x : ℕ) → Kept r o m → Holds r m g → LinkOf (pool r) m g l h e → slice_index m e ≡ suc x → value r m x ≡ 0 → r.at + 1 + 5 * r.cells ≤ length o → Kept r o (taken_out r x e m)
+taken-kept : (r : SumMap) (o m : List ℕ) (g : Ranges) (l h e x : ℕ) → Kept r o m → Holds r m g → LinkOf (pool r) m g l h e
+    → slice_index m e ≡ suc x → value r m x ≡ 0 → r.at + 1 + 5 * r.cells ≤ length o → Kept r o (taken_out r x e m)
 taken-kept r o m g l h e x kept w k named none room = by (slice_index m (left_at r x) == 0) (slice_index m (right_at r x) == 0) refl
   where
     u : Used r m x
@@ -72,7 +74,8 @@ taken-kept r o m g l h e x kept w k named none room = by (slice_index m (left_at
     by false true q = cut (slice_index m (left_at r x))
     by false false q = at (leftmost r m r.cells (right_at r x)).next refl (slice_index m (right_at r x)) refl (w.shape.names (tag r m x) (g.high x) (right_at r x) rl)
       where
-        at : (n : ℕ) → (leftmost r m r.cells (right_at r x)).next ≡ n → (v : ℕ) → slice_index m (right_at r x) ≡ v → Names (pool r) m g (tag r m x) (g.high x) v → Kept r o (replaced_by r x (leftmost r m r.cells (right_at r x)) m)
+        at : (n : ℕ) → (leftmost r m r.cells (right_at r x)).next ≡ n → (v : ℕ) → slice_index m (right_at r x) ≡ v
+            → Names (pool r) m g (tag r m x) (g.high x) v → Kept r o (replaced_by r x (leftmost r m r.cells (right_at r x)) m)
         at n c zero d nm = absurd (grind (arith, nat_tests))
         at zero c (suc j) d nm = absurd (least.none c j nm.0)
         at (suc y) c (suc j) d nm = least-kept r o m g x y (leftmost r m r.cells (right_at r x)) kept w u none least c room

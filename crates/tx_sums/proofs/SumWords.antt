@@ -28,7 +28,10 @@ kept-set r m k a v w room lo hi ok = record {
 }
   where
     by : (v < 2 ^ 64) ⊎ ((i : ℕ) → value_at r i ≢ a) → (i : ℕ) → value r k i < 2 ^ 64 → (b : Bool) → (value_at r i == a) ≡ b → value r (set k a v) i < 2 ^ 64
-    by (inl s) i h true q = let e : value_at r i ≡ a = grind (arith, nat_tests) in let l = w.long in subst (λ z. get_or (set k a v) z 0 < 2 ^ 64) (sym e) (subst (λ z. z < 2 ^ 64) (sym (get_or-set_same k a v 0 (omega arith))) s)
+    by (inl s) i h true q =
+        let e : value_at r i ≡ a = grind (arith, nat_tests) in
+        let l = w.long in
+        subst (λ z. get_or (set k a v) z 0 < 2 ^ 64) (sym e) (subst (λ z. z < 2 ^ 64) (sym (get_or-set_same k a v 0 (omega arith))) s)
     by (inr d) i h true q = absurd (d i (grind (arith, nat_tests)))
     by ok i h false q = let e : value_at r i ≢ a = grind (arith, nat_tests) in subst (λ z. z < 2 ^ 64) (sym (get_or-set_other k a (value_at r i) v 0 e)) h
 
@@ -39,7 +42,8 @@ kept-mended r m k key d n a w links le = record {
   long = mended-length r key d n a k ∙ w.long;
 }
 
-pub kept-spliced : (r : SumMap) (m k : List ℕ) (y e v : ℕ) → Kept r m k → r.at + 1 + 5 * r.cells ≤ length m → y < r.cells → r.at ≤ e → e < r.at + 1 + 5 * r.cells → ((i : ℕ) → value_at r i ≢ e) → Kept r m (spliced r y e v k)
+pub kept-spliced : (r : SumMap) (m k : List ℕ) (y e v : ℕ) → Kept r m k → r.at + 1 + 5 * r.cells ≤ length m → y < r.cells → r.at ≤ e
+    → e < r.at + 1 + 5 * r.cells → ((i : ℕ) → value_at r i ≢ e) → Kept r m (spliced r y e v k)
 kept-spliced r m k y e v w room lt lo hi d =
     let a = kept-set r m k e v w room lo hi (inr d) in
     let b = kept-set r m _ (tag_at r y) 0 a room (omega arith) (omega arith) (inl (omega arith)) in

@@ -32,7 +32,9 @@ DependsOnOwnWords = (r : SumMap) (m k : List ℕ) → IsSumMap r m → ((x : ℕ
 
 -- a put changes no word outside the region
 abbrev pub ChangesOwnWords : Type 0
-ChangesOwnWords = (r : SumMap) (m : List ℕ) (key v x : ℕ) → IsSumMap r m → SumMapFits r (length m) → ((i : ℕ) → i < r.cells → value r m i < 2 ^ 64) → key < 2 ^ 32 → (x < r.at) ⊎ (r.at + 1 + 5 * r.cells ≤ x) → slice_index (put_in r key v m).memory x ≡ slice_index m x
+ChangesOwnWords =
+    (r : SumMap) (m : List ℕ) (key v x : ℕ) → IsSumMap r m → SumMapFits r (length m) → ((i : ℕ) → i < r.cells → value r m i < 2 ^ 64)
+    → key < 2 ^ 32 → (x < r.at) ⊎ (r.at + 1 + 5 * r.cells ≤ x) → slice_index (put_in r key v m).memory x ≡ slice_index m x
 
 -- a removal leaves the map well formed, and changes no word outside the region
 abbrev pub RemovesWithin : Type 0

@@ -2,8 +2,9 @@
 //! sums from the least key on, each by one walk of at most four reads a cell; differences modulo 2^64 are right where
 //! sums wrap. A sum between bounds that cross reads a word all the same, so that its answer is of a memory too.
 ghost use Rattle.std.specs.Prelude.{◌≡◌, ◌<◌, ◌≤◌, ◌%◌, ◌^◌, true, None, Some, IfOk, OnOk, IfErr};
-ghost use Rattle.stm_model.specs.Logs.{SameMemories, IsExplained, IsReadStop};
-ghost use Rattle.tx_effects.specs.Effects.{DoesOver, Under, Shows, Turns};
+ghost use Rattle.stm_model.specs.Logs.{SameMemories, IsReadStop};
+ghost use Rattle.tx_effects.specs.Effects.{Turns};
+ghost use Rattle.tx_effects.specs.Accesses.{DoesFor, ExplainedFor, HoldsFor, ShowsFor};
 ghost use Rattle.tx_tree.specs.Shapes.{top};
 ghost use Rattle.tx_sums.specs.Sums.{SumMapFits, IsSumMap, sum_within, sum_under, passed, summed_in, put_in, raised_in, mended_in, got_in, LinksFrom, HasKey, HasRight, IsEmptied, replaced_in, spliced, least_taken, taken_in, removed_in};
 ghost use Rattle.tx_sums.specs.declared.sum_map.MapPut.TheVariants.{Replaced};
@@ -57,8 +58,9 @@ impl SumMap {
         requires going { A.stopped acc.old ≡ None }
         requires within { SumMapFits self.now (A.words acc.old) }
         requires cell { cell < self.now.cells }
-        ensures reply { IfOk result (λ r. DoesOver (A.good acc.old) (A.words acc.old) (raised_in self.now by cell) (A.log acc.old) r (A.log acc.new)) }
-        ensures explained { OnOk result (IsExplained (A.good acc.new) (A.words acc.new) (A.log acc.new)) }
+        ensures reply { IfOk result
+            (DoesFor A.Access acc.old acc.new (raised_in self.now by cell)) }
+        ensures explained { OnOk result (ExplainedFor A.Access acc.new) }
         ensures goes { OnOk result (A.stopped acc.new ≡ None) }
         ensures stops { IfErr result (λ s. A.stopped acc.new ≡ Some s) }
         ensures good { SameMemories (A.good acc.old) (A.good acc.new) }
@@ -79,10 +81,10 @@ impl SumMap {
     pub fn get<A: Access>(&self, acc: &mut A, key: u32) -> Result<Option<u64>, Stop>
         requires going { A.stopped acc.old ≡ None }
         requires within { SumMapFits self.now (A.words acc.old) }
-        requires well { Under (A.good acc.old) (A.words acc.old) (A.log acc.old) (IsSumMap self.now) }
-        ensures reply { IfOk result (λ r. DoesOver (A.good acc.old) (A.words acc.old) (got_in self.now key) (A.log acc.old) r (A.log acc.new)) }
-        ensures well { OnOk result (Under (A.good acc.new) (A.words acc.new) (A.log acc.new) (IsSumMap self.now)) }
-        ensures explained { OnOk result (IsExplained (A.good acc.new) (A.words acc.new) (A.log acc.new)) }
+        requires well { HoldsFor A.Access acc.old (IsSumMap self.now) }
+        ensures reply { IfOk result (DoesFor A.Access acc.old acc.new (got_in self.now key)) }
+        ensures well { OnOk result (HoldsFor A.Access acc.new (IsSumMap self.now)) }
+        ensures explained { OnOk result (ExplainedFor A.Access acc.new) }
         ensures goes { OnOk result (A.stopped acc.new ≡ None) }
         ensures stops { IfErr result (λ s. A.stopped acc.new ≡ Some s) }
         ensures cause { IfErr result IsReadStop }
@@ -115,10 +117,10 @@ impl SumMap {
     pub fn put<A: Access>(&self, acc: &mut A, key: u32, value: u64) -> Result<MapPut, Stop>
         requires going { A.stopped acc.old ≡ None }
         requires within { SumMapFits self.now (A.words acc.old) }
-        requires well { Under (A.good acc.old) (A.words acc.old) (A.log acc.old) (IsSumMap self.now) }
-        ensures reply { IfOk result (λ r. DoesOver (A.good acc.old) (A.words acc.old) (put_in self.now key value) (A.log acc.old) r (A.log acc.new)) }
-        ensures well { OnOk result (Under (A.good acc.new) (A.words acc.new) (A.log acc.new) (IsSumMap self.now)) }
-        ensures explained { OnOk result (IsExplained (A.good acc.new) (A.words acc.new) (A.log acc.new)) }
+        requires well { HoldsFor A.Access acc.old (IsSumMap self.now) }
+        ensures reply { IfOk result (DoesFor A.Access acc.old acc.new (put_in self.now key value)) }
+        ensures well { OnOk result (HoldsFor A.Access acc.new (IsSumMap self.now)) }
+        ensures explained { OnOk result (ExplainedFor A.Access acc.new) }
         ensures goes { OnOk result (A.stopped acc.new ≡ None) }
         ensures stops { IfErr result (λ s. A.stopped acc.new ≡ Some s) }
         ensures good { SameMemories (A.good acc.old) (A.good acc.new) }
@@ -158,10 +160,11 @@ impl SumMap {
     fn replace<A: Access>(&self, acc: &mut A, key: u32, cell: usize, value: u64) -> Result<(), Stop>
         requires going { A.stopped acc.old ≡ None }
         requires within { (cell < self.now.cells) × SumMapFits self.now (A.words acc.old) }
-        requires well { Under (A.good acc.old) (A.words acc.old) (A.log acc.old) (HasKey self.now key cell) }
-        ensures reply { OnOk result (DoesOver (A.good acc.old) (A.words acc.old) (replaced_in self.now key value cell) (A.log acc.old) Replaced (A.log acc.new)) }
-        ensures well { OnOk result (Under (A.good acc.new) (A.words acc.new) (A.log acc.new) (IsSumMap self.now)) }
-        ensures explained { OnOk result (IsExplained (A.good acc.new) (A.words acc.new) (A.log acc.new)) }
+        requires well { HoldsFor A.Access acc.old (HasKey self.now key cell) }
+        ensures reply { OnOk result
+            (DoesFor A.Access acc.old acc.new (replaced_in self.now key value cell) Replaced) }
+        ensures well { OnOk result (HoldsFor A.Access acc.new (IsSumMap self.now)) }
+        ensures explained { OnOk result (ExplainedFor A.Access acc.new) }
         ensures goes { OnOk result (A.stopped acc.new ≡ None) }
         ensures stops { IfErr result (λ s. A.stopped acc.new ≡ Some s) }
         ensures good { SameMemories (A.good acc.old) (A.good acc.new) }
@@ -180,9 +183,10 @@ impl SumMap {
     fn mend<A: Access>(&self, acc: &mut A, from: usize, key: u32, by: u64) -> Result<bool, Stop>
         requires going { A.stopped acc.old ≡ None }
         requires within { (from < A.words acc.old) × SumMapFits self.now (A.words acc.old) }
-        requires links { Under (A.good acc.old) (A.words acc.old) (A.log acc.old) (LinksFrom self.now from) }
-        ensures reply { IfOk result (λ r. DoesOver (A.good acc.old) (A.words acc.old) (mended_in self.now from key by) (A.log acc.old) r (A.log acc.new)) }
-        ensures explained { OnOk result (IsExplained (A.good acc.new) (A.words acc.new) (A.log acc.new)) }
+        requires links { HoldsFor A.Access acc.old (LinksFrom self.now from) }
+        ensures reply { IfOk result
+            (DoesFor A.Access acc.old acc.new (mended_in self.now from key by)) }
+        ensures explained { OnOk result (ExplainedFor A.Access acc.new) }
         ensures goes { OnOk result (A.stopped acc.new ≡ None) }
         ensures stops { IfErr result (λ s. A.stopped acc.new ≡ Some s) }
         ensures good { SameMemories (A.good acc.old) (A.good acc.new) }
@@ -217,9 +221,11 @@ impl SumMap {
         word: u64,
     ) -> Result<(), Stop>
         requires going { A.stopped acc.old ≡ None }
-        requires within { (cell < self.now.cells) × (link < A.words acc.old) × SumMapFits self.now (A.words acc.old) }
-        ensures turns { OnOk result (Turns (A.log acc.old) (A.log acc.new) (spliced self.now cell link word)) }
-        ensures explained { OnOk result (IsExplained (A.good acc.new) (A.words acc.new) (A.log acc.new)) }
+        requires within { (cell < self.now.cells) × (link < A.words acc.old)
+            × SumMapFits self.now (A.words acc.old) }
+        ensures turns { OnOk result
+            (Turns (A.log acc.old) (A.log acc.new) (spliced self.now cell link word)) }
+        ensures explained { OnOk result (ExplainedFor A.Access acc.new) }
         ensures goes { OnOk result (A.stopped acc.new ≡ None) }
         ensures stops { IfErr result (λ s. A.stopped acc.new ≡ Some s) }
         ensures good { SameMemories (A.good acc.old) (A.good acc.new) }
@@ -241,12 +247,14 @@ impl SumMap {
     /// the way at most, four reads and nine writes.
     fn take_least<A: Access>(&self, acc: &mut A, cell: usize, greater: u64) -> Result<(), Stop>
         requires going { A.stopped acc.old ≡ None }
-        requires within { (cell < self.now.cells) × (0 < greater) × (greater ≤ self.now.cells) × SumMapFits self.now (A.words acc.old) }
-        requires explained { IsExplained (A.good acc.old) (A.words acc.old) (A.log acc.old) }
-        requires well { Under (A.good acc.old) (A.words acc.old) (A.log acc.old) (HasRight self.now cell greater) }
-        ensures reply { OnOk result (DoesOver (A.good acc.old) (A.words acc.old) (least_taken self.now cell) (A.log acc.old) true (A.log acc.new)) }
-        ensures well { OnOk result (Under (A.good acc.new) (A.words acc.new) (A.log acc.new) (IsSumMap self.now)) }
-        ensures explained { OnOk result (IsExplained (A.good acc.new) (A.words acc.new) (A.log acc.new)) }
+        requires within { (cell < self.now.cells) × (0 < greater) × (greater ≤ self.now.cells)
+            × SumMapFits self.now (A.words acc.old) }
+        requires explained { ExplainedFor A.Access acc.old }
+        requires well { HoldsFor A.Access acc.old (HasRight self.now cell greater) }
+        ensures reply { OnOk result
+            (DoesFor A.Access acc.old acc.new (least_taken self.now cell) true) }
+        ensures well { OnOk result (HoldsFor A.Access acc.new (IsSumMap self.now)) }
+        ensures explained { OnOk result (ExplainedFor A.Access acc.new) }
         ensures goes { OnOk result (A.stopped acc.new ≡ None) }
         ensures stops { IfErr result (λ s. A.stopped acc.new ≡ Some s) }
         ensures good { SameMemories (A.good acc.old) (A.good acc.new) }
@@ -280,11 +288,13 @@ impl SumMap {
     /// spliced out, the link to it becomes its own; of one with two, the least on its right takes the place.
     fn take_out<A: Access>(&self, acc: &mut A, cell: usize, link: usize) -> Result<(), Stop>
         requires going { A.stopped acc.old ≡ None }
-        requires within { (cell < self.now.cells) × (link < A.words acc.old) × SumMapFits self.now (A.words acc.old) }
-        requires well { Under (A.good acc.old) (A.words acc.old) (A.log acc.old) (IsEmptied self.now cell link) }
-        ensures reply { OnOk result (DoesOver (A.good acc.old) (A.words acc.old) (taken_in self.now cell link) (A.log acc.old) true (A.log acc.new)) }
-        ensures well { OnOk result (Under (A.good acc.new) (A.words acc.new) (A.log acc.new) (IsSumMap self.now)) }
-        ensures explained { OnOk result (IsExplained (A.good acc.new) (A.words acc.new) (A.log acc.new)) }
+        requires within { (cell < self.now.cells) × (link < A.words acc.old)
+            × SumMapFits self.now (A.words acc.old) }
+        requires well { HoldsFor A.Access acc.old (IsEmptied self.now cell link) }
+        ensures reply { OnOk result
+            (DoesFor A.Access acc.old acc.new (taken_in self.now cell link) true) }
+        ensures well { OnOk result (HoldsFor A.Access acc.new (IsSumMap self.now)) }
+        ensures explained { OnOk result (ExplainedFor A.Access acc.new) }
         ensures goes { OnOk result (A.stopped acc.new ≡ None) }
         ensures stops { IfErr result (λ s. A.stopped acc.new ≡ Some s) }
         ensures good { SameMemories (A.good acc.old) (A.good acc.new) }
@@ -315,10 +325,10 @@ impl SumMap {
     pub fn remove<A: Access>(&self, acc: &mut A, key: u32) -> Result<bool, Stop>
         requires going { A.stopped acc.old ≡ None }
         requires within { SumMapFits self.now (A.words acc.old) }
-        requires well { Under (A.good acc.old) (A.words acc.old) (A.log acc.old) (IsSumMap self.now) }
-        ensures reply { IfOk result (λ b. DoesOver (A.good acc.old) (A.words acc.old) (removed_in self.now key) (A.log acc.old) b (A.log acc.new)) }
-        ensures well { OnOk result (Under (A.good acc.new) (A.words acc.new) (A.log acc.new) (IsSumMap self.now)) }
-        ensures explained { OnOk result (IsExplained (A.good acc.new) (A.words acc.new) (A.log acc.new)) }
+        requires well { HoldsFor A.Access acc.old (IsSumMap self.now) }
+        ensures reply { IfOk result (DoesFor A.Access acc.old acc.new (removed_in self.now key)) }
+        ensures well { OnOk result (HoldsFor A.Access acc.new (IsSumMap self.now)) }
+        ensures explained { OnOk result (ExplainedFor A.Access acc.new) }
         ensures goes { OnOk result (A.stopped acc.new ≡ None) }
         ensures stops { IfErr result (λ s. A.stopped acc.new ≡ Some s) }
         ensures good { SameMemories (A.good acc.old) (A.good acc.new) }
@@ -344,10 +354,11 @@ impl SumMap {
     fn sum_under<A: Access>(&self, acc: &mut A, link: u64) -> Result<u64, Stop>
         requires going { A.stopped acc.old ≡ None }
         requires within { (link ≤ self.now.cells) × SumMapFits self.now (A.words acc.old) }
-        requires explained { IsExplained (A.good acc.old) (A.words acc.old) (A.log acc.old) }
-        ensures sums { IfOk result (λ s. Shows (A.good acc.old) (A.words acc.old) (A.log acc.old) (A.log acc.new) (λ m. s ≡ sum_under self.now m link)) }
+        requires explained { ExplainedFor A.Access acc.old }
+        ensures sums { IfOk result
+            (ShowsFor A.Access acc.old acc.new (λ m. sum_under self.now m link)) }
         ensures writes { OnOk result ((A.log acc.new).writes ≡ (A.log acc.old).writes) }
-        ensures explained { OnOk result (IsExplained (A.good acc.new) (A.words acc.new) (A.log acc.new)) }
+        ensures explained { OnOk result (ExplainedFor A.Access acc.new) }
         ensures goes { OnOk result (A.stopped acc.new ≡ None) }
         ensures stops { IfErr result (λ s. A.stopped acc.new ≡ Some s) }
         ensures cause { IfErr result IsReadStop }
@@ -368,11 +379,12 @@ impl SumMap {
     fn pass<A: Access>(&self, acc: &mut A, cell: usize, bound: u64) -> Result<Passed, Stop>
         requires going { A.stopped acc.old ≡ None }
         requires within { (cell < self.now.cells) × SumMapFits self.now (A.words acc.old) }
-        requires well { Under (A.good acc.old) (A.words acc.old) (A.log acc.old) (IsSumMap self.now) }
-        ensures passes { IfOk result (λ p. Shows (A.good acc.old) (A.words acc.old) (A.log acc.old) (A.log acc.new) (λ m. p ≡ passed self.now m bound cell)) }
+        requires well { HoldsFor A.Access acc.old (IsSumMap self.now) }
+        ensures passes { IfOk result
+            (ShowsFor A.Access acc.old acc.new (λ m. passed self.now m bound cell)) }
         ensures inside { IfOk result (λ p. p.next ≤ self.now.cells) }
         ensures writes { OnOk result ((A.log acc.new).writes ≡ (A.log acc.old).writes) }
-        ensures explained { OnOk result (IsExplained (A.good acc.new) (A.words acc.new) (A.log acc.new)) }
+        ensures explained { OnOk result (ExplainedFor A.Access acc.new) }
         ensures goes { OnOk result (A.stopped acc.new ≡ None) }
         ensures stops { IfErr result (λ s. A.stopped acc.new ≡ Some s) }
         ensures cause { IfErr result IsReadStop }
@@ -401,10 +413,11 @@ impl SumMap {
         requires going { A.stopped acc.old ≡ None }
         requires bound { (0 < bound) × (bound ≤ top) }
         requires within { SumMapFits self.now (A.words acc.old) }
-        requires well { Under (A.good acc.old) (A.words acc.old) (A.log acc.old) (IsSumMap self.now) }
-        ensures sums { IfOk result (λ s. Shows (A.good acc.old) (A.words acc.old) (A.log acc.old) (A.log acc.new) (λ m. s ≡ sum_within self.now m 0 bound self.now.cells % 2 ^ 64)) }
+        requires well { HoldsFor A.Access acc.old (IsSumMap self.now) }
+        ensures sums { IfOk result (ShowsFor A.Access acc.old acc.new (λ m.
+            sum_within self.now m 0 bound self.now.cells % 2 ^ 64)) }
         ensures writes { OnOk result ((A.log acc.new).writes ≡ (A.log acc.old).writes) }
-        ensures explained { OnOk result (IsExplained (A.good acc.new) (A.words acc.new) (A.log acc.new)) }
+        ensures explained { OnOk result (ExplainedFor A.Access acc.new) }
         ensures goes { OnOk result (A.stopped acc.new ≡ None) }
         ensures stops { IfErr result (λ s. A.stopped acc.new ≡ Some s) }
         ensures cause { IfErr result IsReadStop }
@@ -434,10 +447,10 @@ impl SumMap {
     pub fn sum<A: Access>(&self, acc: &mut A, lo: u32, hi: u32) -> Result<u64, Stop>
         requires going { A.stopped acc.old ≡ None }
         requires within { SumMapFits self.now (A.words acc.old) }
-        requires well { Under (A.good acc.old) (A.words acc.old) (A.log acc.old) (IsSumMap self.now) }
-        ensures reply { IfOk result (λ r. DoesOver (A.good acc.old) (A.words acc.old) (summed_in self.now lo hi) (A.log acc.old) r (A.log acc.new)) }
-        ensures well { OnOk result (Under (A.good acc.new) (A.words acc.new) (A.log acc.new) (IsSumMap self.now)) }
-        ensures explained { OnOk result (IsExplained (A.good acc.new) (A.words acc.new) (A.log acc.new)) }
+        requires well { HoldsFor A.Access acc.old (IsSumMap self.now) }
+        ensures reply { IfOk result (DoesFor A.Access acc.old acc.new (summed_in self.now lo hi)) }
+        ensures well { OnOk result (HoldsFor A.Access acc.new (IsSumMap self.now)) }
+        ensures explained { OnOk result (ExplainedFor A.Access acc.new) }
         ensures goes { OnOk result (A.stopped acc.new ≡ None) }
         ensures stops { IfErr result (λ s. A.stopped acc.new ≡ Some s) }
         ensures good { SameMemories (A.good acc.old) (A.good acc.new) }

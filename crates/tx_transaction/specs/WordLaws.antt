@@ -57,13 +57,15 @@ found words m l (r ∷ rs) k len read ex =
     (here.0, (here.1, subst (λ ws. Explains (overlay m ws) rs) read.2.0 more.1))
 
 -- where nothing was done before, what was read is known
-pub known-first : (good good' : List ℕ → Type 0) (words words' : ℕ) (l k : Log) (rs : List (ℕ × ℕ)) → AllRead words l rs k → SameMemories good good' → words' ≡ words → IsExplained good' words' k → l ≡ nothing → IsKnown good words rs
+pub known-first : (good good' : List ℕ → Type 0) (words words' : ℕ) (l k : Log) (rs : List (ℕ × ℕ)) → AllRead words l rs k
+    → SameMemories good good' → words' ≡ words → IsExplained good' words' k → l ≡ nothing → IsKnown good words rs
 known-first good good' words words' l k rs read same count seen fresh =
     let len = seen.2 ∙ count in
     let ex = (found words seen.0 l rs k len read seen.3).1 in
     (seen.0, (same seen.0).1 seen.1, len, subst (λ (j : Log). Explains (overlay seen.0 j.writes) rs) fresh ex)
 
-read-more : (words : ℕ) (l : Log) (start : ℕ) (vs : List ℕ) (k j : Log) (a v : ℕ) → AllRead words l (placed start vs) k → a ≡ start + length vs → a < words → Reads k a v j → AllRead words l (placed start (vs ++ v ∷ [])) j
+read-more : (words : ℕ) (l : Log) (start : ℕ) (vs : List ℕ) (k j : Log) (a v : ℕ) → AllRead words l (placed start vs) k
+    → a ≡ start + length vs → a < words → Reads k a v j → AllRead words l (placed start (vs ++ v ∷ [])) j
 read-more words l start [] k j a v read at lt one =
     let here : a ≡ start = omega arith in
     subst (λ (x : ℕ). (x < words) × (i : Log) × Reads l x v i × (i ≡ j)) here (lt, j, subst (λ (i : Log). Reads i a v j) (sym read) one, refl)
@@ -97,7 +99,9 @@ sum-is words l start end total k r m ex le =
     let is = taken m start r.found ex (let all = r.all in omega arith) in
     r.adds ∙ ap (λ (xs : List ℕ). sum xs % 2 ^ 64) (sym (ap (λ (n : ℕ). take n (drop start m)) many ∙ is))
 
-pub sum-known : (good good' : List ℕ → Type 0) (words words' : ℕ) (l : Log) (start end total : ℕ) (k : Log) → SumRead words l start end total k → end ≤ words → SameMemories good good' → words' ≡ words → IsExplained good' words' k → l ≡ nothing → HasSum good words start end total
+pub sum-known : (good good' : List ℕ → Type 0) (words words' : ℕ) (l : Log) (start end total : ℕ) (k : Log)
+    → SumRead words l start end total k → end ≤ words → SameMemories good good' → words' ≡ words → IsExplained good' words' k → l ≡ nothing
+    → HasSum good words start end total
 sum-known good good' words words' l start end total k r le same count seen fresh =
     let known = known-first good good' words words' l k (placed start r.found) r.read same count seen fresh in
     (known.0, known.1, known.2, sum-is words l start end total k r known.0 known.3 (let len = known.2 in omega arith))
@@ -133,7 +137,8 @@ module _ (rule good : List ℕ → Type 0) (words : ℕ) (same : SameMemories go
       → ((m : List ℕ) → IsSound rule words m → Explains m rs → effect m ≡ changed reply (written m (w ∷ ws))) → DoesOver rule words effect nothing reply j
   does-write effect reply w ws j wrote is =
       has-effect rule good words same l fresh effect reply j
-      (does-change good words l effect k j reply (IsSound rule words) (sound-first rule good words same l fresh) (only-read words l rs k read) (λ m. Explains m rs) shows (λ m. written m (w ∷ ws)) (turns-all k w ws j wrote) is)
+      (does-change good words l effect k j reply (IsSound rule words) (sound-first rule good words same l fresh)
+      (only-read words l rs k read) (λ m. Explains m rs) shows (λ m. written m (w ∷ ws)) (turns-all k w ws j wrote) is)
 
   -- so it keeps the rule where each memory of words under the rule that has what was read is led to one under the rule
   pub keeps-write : (w : ℕ × ℕ) (ws : List (ℕ × ℕ)) (j : Log) → AllWritten k (w ∷ ws) j → ((m : List ℕ) → IsSound rule words m → Explains m rs → AreWords m → rule (written m (w ∷ ws))) → Keeps rule words j
@@ -145,7 +150,9 @@ module _ (rule good : List ℕ → Type 0) (words : ℕ) (same : SameMemories go
       subst rule (sym (turns.left m ∙ ap (λ (x : List ℕ). written x (w ∷ ws)) before)) (leads m (g, len) seen small)
 
 -- such an attempt read a range's words, whose sum is a word in each memory under the rule
-module _ (rule good : List ℕ → Type 0) (words : ℕ) (same : SameMemories good rule) (l : Log) (fresh : l ≡ nothing) (start end total : ℕ) (k : Log) (r : SumRead words l start end total k) (low : end ≤ words) (fits : (m : List ℕ) → IsSound rule words m → sum_in start end m < 2 ^ 64) where
+module _ (rule good : List ℕ → Type 0) (words : ℕ) (same : SameMemories good rule) (l : Log) (fresh : l ≡ nothing) (start end total : ℕ)
+    (k : Log) (r : SumRead words l start end total k) (low : end ≤ words)
+    (fits : (m : List ℕ) → IsSound rule words m → sum_in start end m < 2 ^ 64) where
   sum-at : (m : List ℕ) → IsSound rule words m → Explains m (placed start r.found) → total ≡ sum_in start end m
   sum-at m s ex =
       let is = sum-is words l start end total k r m ex (let long = s.1 in omega arith) in
@@ -155,7 +162,8 @@ module _ (rule good : List ℕ → Type 0) (words : ℕ) (same : SameMemories go
   does-sum = does-read rule good words same l fresh (placed start r.found) k r.read (λ m. unchanged (sum_in start end m) m) total (λ m s ex. ap (λ (x : ℕ). unchanged x m) (sym (sum-at m s ex)))
 
   -- and what is so of each such sum is so of the answer
-  pub known-sum : (good' : List ℕ → Type 0) (words' : ℕ) → SameMemories good good' → words' ≡ words → IsExplained good' words' k → (P : ℕ → Type 0) → ((m : List ℕ) → IsSound rule words m → P (sum_in start end m)) → P total
+  pub known-sum : (good' : List ℕ → Type 0) (words' : ℕ) → SameMemories good good' → words' ≡ words → IsExplained good' words' k
+      → (P : ℕ → Type 0) → ((m : List ℕ) → IsSound rule words m → P (sum_in start end m)) → P total
   known-sum good' words' also count seen P then = known rule good words same l fresh (placed start r.found) k r.read good' words' also count seen (P total) (λ m s ex. subst P (sym (sum-at m s ex)) (then m s))
 
 -- a word of the first n is a part of their sum, which a write of it changes by as much

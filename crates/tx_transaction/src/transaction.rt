@@ -32,8 +32,10 @@ pub trait Transaction<K: MemRule> {
         requires fresh { A.log memory.old ≡ nothing }
         requires good { SameMemories (A.good memory.old) (K.good rule.now) }
         requires precondition { precondition self.now rule.now (A.words memory.old) }
-        ensures kept { OnOk result (Keeps (K.good rule.now) (A.words memory.old) (A.log memory.new)) }
-        ensures postcondition { IfOk result (λ r. postcondition self.now rule.now (A.words memory.old) r (A.log memory.new)) }
+        ensures kept { OnOk result
+            (Keeps (K.good rule.now) (A.words memory.old) (A.log memory.new)) }
+        ensures postcondition { IfOk result (λ r.
+            postcondition self.now rule.now (A.words memory.old) r (A.log memory.new)) }
         ensures goes { OnOk result (A.stopped memory.new ≡ None) }
         ensures stops { IfErr result (λ s. A.stopped memory.new ≡ Some s) }
         ensures keeps { A.keeps memory.old memory.new };

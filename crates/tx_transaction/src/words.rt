@@ -1,6 +1,7 @@
 //! Some words read or written one after the other, for transactions that read what they need and then write.
 ghost use Rattle.std.specs.Prelude.{◌≡◌, ◌<◌, ◌≤◌, [], ◌∷◌, None, Some, IfOk, OnOk, IfErr};
-ghost use Rattle.stm_model.specs.Logs.{SameMemories, IsExplained};
+ghost use Rattle.stm_model.specs.Logs.{SameMemories};
+ghost use Rattle.tx_effects.specs.Accesses.{ExplainedFor};
 ghost use Rattle.tx_effects.specs.FreshLaws.{nothing};
 ghost use Rattle.tx_transaction.specs.WordLaws.{AllRead, AllWritten, IsKnown, HasSum, SumRead};
 
@@ -15,9 +16,13 @@ use stm_model::stop::Stop;
 pub fn read_two<A: Access>(memory: &mut A, a: usize, b: usize) -> Result<(u64, u64), Stop>
     requires going { A.stopped memory.old ≡ None }
     requires within { (a < A.words memory.old) × (b < A.words memory.old) }
-    ensures read { IfOk result (λ v. AllRead (A.words memory.old) (A.log memory.old) ((a, v.0) ∷ (b, v.1) ∷ []) (A.log memory.new)) }
-    ensures known { A.log memory.old ≡ nothing → IfOk result (λ v. IsKnown (A.good memory.old) (A.words memory.old) ((a, v.0) ∷ (b, v.1) ∷ [])) }
-    ensures explained { OnOk result (IsExplained (A.good memory.new) (A.words memory.new) (A.log memory.new)) }
+    ensures read { IfOk result (λ v.
+        AllRead (A.words memory.old) (A.log memory.old) ((a, v.0) ∷ (b, v.1) ∷ [])
+        (A.log memory.new)) }
+    ensures known { A.log memory.old ≡ nothing
+        → IfOk result (λ v.
+        IsKnown (A.good memory.old) (A.words memory.old) ((a, v.0) ∷ (b, v.1) ∷ [])) }
+    ensures explained { OnOk result (ExplainedFor A.Access memory.new) }
     ensures goes { OnOk result (A.stopped memory.new ≡ None) }
     ensures stops { IfErr result (λ s. A.stopped memory.new ≡ Some s) }
     ensures good { SameMemories (A.good memory.old) (A.good memory.new) }
@@ -40,10 +45,15 @@ pub fn read_three<A: Access>(
     c: usize,
 ) -> Result<(u64, u64, u64), Stop>
     requires going { A.stopped memory.old ≡ None }
-    requires within { (a < A.words memory.old) × (b < A.words memory.old) × (c < A.words memory.old) }
-    ensures read { IfOk result (λ v. AllRead (A.words memory.old) (A.log memory.old) ((a, v.0) ∷ (b, v.1) ∷ (c, v.2) ∷ []) (A.log memory.new)) }
-    ensures known { A.log memory.old ≡ nothing → IfOk result (λ v. IsKnown (A.good memory.old) (A.words memory.old) ((a, v.0) ∷ (b, v.1) ∷ (c, v.2) ∷ [])) }
-    ensures explained { OnOk result (IsExplained (A.good memory.new) (A.words memory.new) (A.log memory.new)) }
+    requires within { (a < A.words memory.old) × (b < A.words memory.old)
+        × (c < A.words memory.old) }
+    ensures read { IfOk result (λ v.
+        AllRead (A.words memory.old) (A.log memory.old) ((a, v.0) ∷ (b, v.1) ∷ (c, v.2) ∷ [])
+        (A.log memory.new)) }
+    ensures known { A.log memory.old ≡ nothing
+        → IfOk result (λ v.
+        IsKnown (A.good memory.old) (A.words memory.old) ((a, v.0) ∷ (b, v.1) ∷ (c, v.2) ∷ [])) }
+    ensures explained { OnOk result (ExplainedFor A.Access memory.new) }
     ensures goes { OnOk result (A.stopped memory.new ≡ None) }
     ensures stops { IfErr result (λ s. A.stopped memory.new ≡ Some s) }
     ensures good { SameMemories (A.good memory.old) (A.good memory.new) }
@@ -64,10 +74,14 @@ pub fn read_three<A: Access>(
 pub fn read_sum<A: Access>(memory: &mut A, range: Range<usize>) -> Result<u64, Stop>
     requires going { A.stopped memory.old ≡ None }
     requires within { (range.start < range.end) × (range.end ≤ A.words memory.old) }
-    ensures read { IfOk result (λ sum. SumRead (A.words memory.old) (A.log memory.old) range.start range.end sum (A.log memory.new)) }
-    ensures known { A.log memory.old ≡ nothing → IfOk result (λ sum. HasSum (A.good memory.old) (A.words memory.old) range.start range.end sum) }
+    ensures read { IfOk result (λ sum.
+        SumRead (A.words memory.old) (A.log memory.old) range.start range.end sum
+        (A.log memory.new)) }
+    ensures known { A.log memory.old ≡ nothing
+        → IfOk result (λ sum.
+        HasSum (A.good memory.old) (A.words memory.old) range.start range.end sum) }
     ensures writes { OnOk result ((A.log memory.new).writes ≡ (A.log memory.old).writes) }
-    ensures explained { OnOk result (IsExplained (A.good memory.new) (A.words memory.new) (A.log memory.new)) }
+    ensures explained { OnOk result (ExplainedFor A.Access memory.new) }
     ensures goes { OnOk result (A.stopped memory.new ≡ None) }
     ensures stops { IfErr result (λ s. A.stopped memory.new ≡ Some s) }
     ensures good { SameMemories (A.good memory.old) (A.good memory.new) }
@@ -90,7 +104,7 @@ pub fn write_two<A: Access>(memory: &mut A, a: (usize, u64), b: (usize, u64)) ->
     requires going { A.stopped memory.old ≡ None }
     requires within { (a.0 < A.words memory.old) × (b.0 < A.words memory.old) }
     ensures wrote { OnOk result (AllWritten (A.log memory.old) (a ∷ b ∷ []) (A.log memory.new)) }
-    ensures explained { OnOk result (IsExplained (A.good memory.new) (A.words memory.new) (A.log memory.new)) }
+    ensures explained { OnOk result (ExplainedFor A.Access memory.new) }
     ensures goes { OnOk result (A.stopped memory.new ≡ None) }
     ensures stops { IfErr result (λ s. A.stopped memory.new ≡ Some s) }
     ensures good { SameMemories (A.good memory.old) (A.good memory.new) }
@@ -113,9 +127,11 @@ pub fn write_three<A: Access>(
     c: (usize, u64),
 ) -> Result<(), Stop>
     requires going { A.stopped memory.old ≡ None }
-    requires within { (a.0 < A.words memory.old) × (b.0 < A.words memory.old) × (c.0 < A.words memory.old) }
-    ensures wrote { OnOk result (AllWritten (A.log memory.old) (a ∷ b ∷ c ∷ []) (A.log memory.new)) }
-    ensures explained { OnOk result (IsExplained (A.good memory.new) (A.words memory.new) (A.log memory.new)) }
+    requires within { (a.0 < A.words memory.old) × (b.0 < A.words memory.old)
+        × (c.0 < A.words memory.old) }
+    ensures wrote { OnOk result
+        (AllWritten (A.log memory.old) (a ∷ b ∷ c ∷ []) (A.log memory.new)) }
+    ensures explained { OnOk result (ExplainedFor A.Access memory.new) }
     ensures goes { OnOk result (A.stopped memory.new ≡ None) }
     ensures stops { IfErr result (λ s. A.stopped memory.new ≡ Some s) }
     ensures good { SameMemories (A.good memory.old) (A.good memory.new) }

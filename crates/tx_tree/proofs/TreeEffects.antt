@@ -79,7 +79,8 @@ module _ (r : Tree) (m : List ℕ) (key : ℕ) (w : IsTree r m) (small : key < 2
     removed-left u v a z b o = takes ∙ (let q : (slice_index m (left_at r c) == 0) ≡ false = (let x : slice_index m (left_at r c) ≢ 0 = λ y. z (a ∙ y) in grind (arith, nat_tests)) in
         let p : (slice_index m (right_at r c) == 0) ≡ true = (let x : slice_index m (right_at r c) ≡ 0 = sym b ∙ o in grind (arith, nat_tests)) in rw (q, p, a) refl)
 
-    pub removed-both : (u v : ℕ) (p : Position) (y a : ℕ) → u ≡ slice_index m (left_at r c) → u ≢ 0 → v ≡ slice_index m (right_at r c) → v ≢ 0 → p ≡ leftmost r m r.cells (right_at r c) → p.next ≡ suc y → a ≡ slice_index m (right_at r y)
+    pub removed-both : (u v : ℕ) (p : Position) (y a : ℕ) → u ≡ slice_index m (left_at r c) → u ≢ 0 → v ≡ slice_index m (right_at r c)
+        → v ≢ 0 → p ≡ leftmost r m r.cells (right_at r c) → p.next ≡ suc y → a ≡ slice_index m (right_at r y)
         → removed_in r key m ≡ changed true (retagged r c p.tag (spliced r y p.link a m))
     removed-both u v p y a f z b o l i w' = takes ∙ (let q : (slice_index m (left_at r c) == 0) ≡ false = (let x : slice_index m (left_at r c) ≢ 0 = λ j. z (f ∙ j) in grind (arith, nat_tests)) in
         let k : (slice_index m (right_at r c) == 0) ≡ false = (let x : slice_index m (right_at r c) ≢ 0 = λ j. o (b ∙ j) in grind (arith, nat_tests)) in
@@ -114,5 +115,9 @@ pub record Opened (r : Tree) (key : ℕ) (s : Position) (u v : ℕ) (m : List �
   pub right : v ≡ slice_index m (right_at r (s.next - 1))
 
 -- a removal keeps the tree, in a memory that code holds
-pub removal-keeps : (good good' : List ℕ → Type 0) (words words' : ℕ) (log log' : Log) (r : Tree) (key : ℕ) (b : Bool) → key < 2 ^ 32 → r.at + 1 + 3 * r.cells ≤ words → Under good words log (IsTree r) → DoesOver good words (removed_in r key) log b log' → SameMemories good good' → words' ≡ words → Under good' words' log' (IsTree r)
-removal-keeps good good' words words' log log' r key b small room well does same long = under-after good words log (removed_in r key) _ _ _ b (IsTree r) (IsTree r) does well same long (λ m len w. removed-keeps r m key w small (omega arith))
+pub removal-keeps : (good good' : List ℕ → Type 0) (words words' : ℕ) (log log' : Log) (r : Tree) (key : ℕ) (b : Bool) → key < 2 ^ 32
+    → r.at + 1 + 3 * r.cells ≤ words → Under good words log (IsTree r) → DoesOver good words (removed_in r key) log b log'
+    → SameMemories good good' → words' ≡ words → Under good' words' log' (IsTree r)
+removal-keeps good good' words words' log log' r key b small room well does same long =
+    under-after good words log (removed_in r key) _ _ _ b (IsTree r) (IsTree r) does well same long (λ m len w.
+    removed-keeps r m key w small (omega arith))

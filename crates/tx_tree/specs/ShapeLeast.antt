@@ -84,7 +84,10 @@ leftmost-some r m g x w u d = (λ z. filled (slice_index m (right_at r x)) refl 
 
     small : (n : ℕ) → (leftmost r m r.cells (right_at r x)).next ≡ n → (leftmost r m r.cells (right_at r x)).tag < top
     small zero e = absurd (filled (slice_index m (right_at r x)) refl (w.names (tag r m x) (g.high x) (right_at r x) rl) (least.none e))
-    small (suc j) e = let q = (least.some j e).0 in let nm : Names r m g (tag r m x) least.high (suc j) = subst (Names r m g (tag r m x) least.high) (least.word ∙ e) (w.names (tag r m x) least.high (leftmost r m r.cells (right_at r x)).link least.link) in
+    small (suc j) e =
+        let q = (least.some j e).0 in
+        let nm : Names r m g (tag r m x) least.high (suc j) = subst (Names r m g (tag r m x) least.high) (least.word ∙ e)
+        (w.names (tag r m x) least.high (leftmost r m r.cells (right_at r x)).link least.link) in
         let s = w.small j nm.0.inside in omega arith
 
 -- the walk to the least, a step at a time
@@ -92,10 +95,18 @@ pub leftmost-end : (r : Pool) (m : List ℕ) (n a v : ℕ) → v ≡ slice_index
 leftmost-end r m zero a v e z = rw z refl
 leftmost-end r m (suc n) a v e z = let q : slice_index m a ≡ 0 = sym e ∙ z in rw (z, q) refl
 
-pub leftmost-stop : (r : Pool) (m : List ℕ) (n a v j u t : ℕ) → 0 < n → v ≡ slice_index m a → v ≡ suc j → u ≡ slice_index m (left_at r j) → u ≡ 0 → t ≡ tag r m j → record { link = a; next = v; tag = t } ≡ leftmost r m n a
+pub leftmost-stop : (r : Pool) (m : List ℕ) (n a v j u t : ℕ) → 0 < n → v ≡ slice_index m a → v ≡ suc j → u ≡ slice_index m (left_at r j)
+    → u ≡ 0 → t ≡ tag r m j → record { link = a; next = v; tag = t } ≡ leftmost r m n a
 leftmost-stop r m zero a v j u t lt e z s g o = absurd (omega arith)
-leftmost-stop r m (suc n) a v j u t lt e z s g o = let q : slice_index m a ≡ suc j = sym e ∙ z in let p : (slice_index m (left_at r j) == 0) ≡ true = (let x : slice_index m (left_at r j) ≡ 0 = sym s ∙ g in grind (arith, nat_tests)) in rw (z, q, o, p) refl
+leftmost-stop r m (suc n) a v j u t lt e z s g o =
+    let q : slice_index m a ≡ suc j = sym e ∙ z in
+    let p : (slice_index m (left_at r j) == 0) ≡ true = (let x : slice_index m (left_at r j) ≡ 0 = sym s ∙ g in grind (arith, nat_tests)) in
+    rw (z, q, o, p) refl
 
 pub leftmost-on : (r : Pool) (m : List ℕ) (n less a v j u : ℕ) → n ≡ suc less → v ≡ slice_index m a → v ≡ suc j → u ≡ slice_index m (left_at r j) → u ≢ 0 → leftmost r m n a ≡ leftmost r m less (left_at r j)
 leftmost-on r m zero less a v j u k e z s g = absurd (omega arith)
-leftmost-on r m (suc n) less a v j u k e z s g = let q : slice_index m a ≡ suc j = sym e ∙ z in let p : (slice_index m (left_at r j) == 0) ≡ false = (let x : slice_index m (left_at r j) ≢ 0 = λ y. g (s ∙ y) in grind (arith, nat_tests)) in let d : n ≡ less = omega arith in rw (q, p, d) refl
+leftmost-on r m (suc n) less a v j u k e z s g =
+    let q : slice_index m a ≡ suc j = sym e ∙ z in
+    let p : (slice_index m (left_at r j) == 0) ≡ false =
+    (let x : slice_index m (left_at r j) ≢ 0 = λ y. g (s ∙ y) in grind (arith, nat_tests)) in
+    let d : n ≡ less = omega arith in rw (q, p, d) refl

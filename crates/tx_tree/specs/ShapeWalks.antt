@@ -131,7 +131,10 @@ find-stop r m key (suc n) a v j t lt e z s g = let q : slice_index m a ≡ suc j
 
 pub find-on : (r : Pool) (m : List ℕ) (key n less a v j t : ℕ) → n ≡ suc less → v ≡ slice_index m a → v ≡ suc j → t ≡ tag r m j → t ≢ key + 1 → find r m key n a ≡ find r m key less (side_at r m key j)
 find-on r m key zero less a v j t k e z s g = absurd (omega arith)
-find-on r m key (suc n) less a v j t k e z s g = let q : slice_index m a ≡ suc j = sym e ∙ z in let p : (tag r m j == suc key) ≡ false = (let x : tag r m j ≢ suc key = λ y. g (omega arith) in grind (arith, nat_tests)) in let d : n ≡ less = omega arith in rw (q, p, d) refl
+find-on r m key (suc n) less a v j t k e z s g =
+    let q : slice_index m a ≡ suc j = sym e ∙ z in
+    let p : (tag r m j == suc key) ≡ false = (let x : tag r m j ≢ suc key = λ y. g (omega arith) in grind (arith, nat_tests)) in
+    let d : n ≡ less = omega arith in rw (q, p, d) refl
 
 -- the side that the code takes
 pub side-is : (r : Pool) (m : List ℕ) (key j t d : ℕ) → t ≡ tag r m j → d ≡ (if ltb key t then left_at r j else right_at r j) → d ≡ side_at r m key j

@@ -1,7 +1,7 @@
 //! The walks through a binary search tree, whatever else its cells hold, over any access.
 ghost use Rattle.std.specs.Prelude.{◌≡◌, ◌<◌, ◌≤◌, ◌+◌, ◌^◌, None, Some, IfOk, OnOk, IfErr, ltb, if◌then◌else◌};
-ghost use Rattle.stm_model.specs.Logs.{SameMemories, IsExplained, IsReadStop};
-ghost use Rattle.tx_effects.specs.Effects.{Under, Shows};
+ghost use Rattle.stm_model.specs.Logs.{SameMemories, IsReadStop};
+ghost use Rattle.tx_effects.specs.Accesses.{ExplainedFor, HoldsFor, ShowsFor};
 ghost use Rattle.tx_tree.specs.Shapes.{PoolFits, IsShape, IsAt, position_of, leftmost};
 
 use stm_model::access::Access;
@@ -39,11 +39,13 @@ impl Pool {
     pub fn find<A: Access>(&self, acc: &mut A, key: u32) -> Result<Position, Stop>
         requires going { A.stopped acc.old ≡ None }
         requires within { PoolFits self.now (A.words acc.old) }
-        requires well { Under (A.good acc.old) (A.words acc.old) (A.log acc.old) (IsShape self.now) }
-        ensures finds { IfOk result (λ s. Shows (A.good acc.old) (A.words acc.old) (A.log acc.old) (A.log acc.new) (λ m. s ≡ position_of self.now m key)) }
-        ensures inside { IfOk result (λ s. (s.link < A.words acc.old) × (s.next ≤ self.now.cells) × (s.next ≡ 0 → s.tag ≡ 0)) }
+        requires well { HoldsFor A.Access acc.old (IsShape self.now) }
+        ensures finds { IfOk result
+            (ShowsFor A.Access acc.old acc.new (λ m. position_of self.now m key)) }
+        ensures inside { IfOk result (λ s.
+            (s.link < A.words acc.old) × (s.next ≤ self.now.cells) × (s.next ≡ 0 → s.tag ≡ 0)) }
         ensures writes { OnOk result ((A.log acc.new).writes ≡ (A.log acc.old).writes) }
-        ensures explained { OnOk result (IsExplained (A.good acc.new) (A.words acc.new) (A.log acc.new)) }
+        ensures explained { OnOk result (ExplainedFor A.Access acc.new) }
         ensures goes { OnOk result (A.stopped acc.new ≡ None) }
         ensures stops { IfErr result (λ s. A.stopped acc.new ≡ Some s) }
         ensures cause { IfErr result IsReadStop }
@@ -81,13 +83,15 @@ impl Pool {
         first: u64,
     ) -> Result<Position, Stop>
         requires going { A.stopped acc.old ≡ None }
-        requires within { (from < A.words acc.old) × (first ≤ self.now.cells) × PoolFits self.now (A.words acc.old) }
-        requires explained { IsExplained (A.good acc.old) (A.words acc.old) (A.log acc.old) }
-        requires well { Under (A.good acc.old) (A.words acc.old) (A.log acc.old) (IsAt self.now from first) }
-        ensures finds { IfOk result (λ s. Shows (A.good acc.old) (A.words acc.old) (A.log acc.old) (A.log acc.new) (λ m. s ≡ leftmost self.now m self.now.cells from)) }
+        requires within { (from < A.words acc.old) × (first ≤ self.now.cells)
+            × PoolFits self.now (A.words acc.old) }
+        requires explained { ExplainedFor A.Access acc.old }
+        requires well { HoldsFor A.Access acc.old (IsAt self.now from first) }
+        ensures finds { IfOk result
+            (ShowsFor A.Access acc.old acc.new (λ m. leftmost self.now m self.now.cells from)) }
         ensures inside { IfOk result (λ s. (s.link < A.words acc.old) × (s.next ≤ self.now.cells)) }
         ensures writes { OnOk result ((A.log acc.new).writes ≡ (A.log acc.old).writes) }
-        ensures explained { OnOk result (IsExplained (A.good acc.new) (A.words acc.new) (A.log acc.new)) }
+        ensures explained { OnOk result (ExplainedFor A.Access acc.new) }
         ensures cause { IfErr result IsReadStop }
         ensures goes { OnOk result (A.stopped acc.new ≡ None) }
         ensures stops { IfErr result (λ s. A.stopped acc.new ≡ Some s) }

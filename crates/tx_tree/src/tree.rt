@@ -1,7 +1,8 @@
 //! A set of keys in a plain binary search tree, over any access.
 ghost use Rattle.std.specs.Prelude.{◌≡◌, ◌<◌, None, Some, IfOk, OnOk, IfErr};
-ghost use Rattle.stm_model.specs.Logs.{SameMemories, IsExplained, IsReadStop};
-ghost use Rattle.tx_effects.specs.Effects.{DoesOver, Under, Turns};
+ghost use Rattle.stm_model.specs.Logs.{SameMemories, IsReadStop};
+ghost use Rattle.tx_effects.specs.Effects.{Turns};
+ghost use Rattle.tx_effects.specs.Accesses.{DoesFor, ExplainedFor, HoldsFor};
 ghost use Rattle.tx_tree.specs.Trees.{TreeFits, IsTree, spliced, contained_in, inserted_in, removed_in, least_in};
 
 use crate::pool::Pool;
@@ -36,10 +37,10 @@ impl Tree {
     pub fn contains<A: Access>(&self, acc: &mut A, key: u32) -> Result<bool, Stop>
         requires going { A.stopped acc.old ≡ None }
         requires within { TreeFits self.now (A.words acc.old) }
-        requires well { Under (A.good acc.old) (A.words acc.old) (A.log acc.old) (IsTree self.now) }
-        ensures reply { IfOk result (λ b. DoesOver (A.good acc.old) (A.words acc.old) (contained_in self.now key) (A.log acc.old) b (A.log acc.new)) }
-        ensures well { OnOk result (Under (A.good acc.new) (A.words acc.new) (A.log acc.new) (IsTree self.now)) }
-        ensures explained { OnOk result (IsExplained (A.good acc.new) (A.words acc.new) (A.log acc.new)) }
+        requires well { HoldsFor A.Access acc.old (IsTree self.now) }
+        ensures reply { IfOk result (DoesFor A.Access acc.old acc.new (contained_in self.now key)) }
+        ensures well { OnOk result (HoldsFor A.Access acc.new (IsTree self.now)) }
+        ensures explained { OnOk result (ExplainedFor A.Access acc.new) }
         ensures goes { OnOk result (A.stopped acc.new ≡ None) }
         ensures stops { IfErr result (λ s. A.stopped acc.new ≡ Some s) }
         ensures cause { IfErr result IsReadStop }
@@ -64,10 +65,10 @@ impl Tree {
     pub fn insert<A: Access>(&self, acc: &mut A, key: u32) -> Result<Insert, Stop>
         requires going { A.stopped acc.old ≡ None }
         requires within { TreeFits self.now (A.words acc.old) }
-        requires well { Under (A.good acc.old) (A.words acc.old) (A.log acc.old) (IsTree self.now) }
-        ensures reply { IfOk result (λ r. DoesOver (A.good acc.old) (A.words acc.old) (inserted_in self.now key) (A.log acc.old) r (A.log acc.new)) }
-        ensures well { OnOk result (Under (A.good acc.new) (A.words acc.new) (A.log acc.new) (IsTree self.now)) }
-        ensures explained { OnOk result (IsExplained (A.good acc.new) (A.words acc.new) (A.log acc.new)) }
+        requires well { HoldsFor A.Access acc.old (IsTree self.now) }
+        ensures reply { IfOk result (DoesFor A.Access acc.old acc.new (inserted_in self.now key)) }
+        ensures well { OnOk result (HoldsFor A.Access acc.new (IsTree self.now)) }
+        ensures explained { OnOk result (ExplainedFor A.Access acc.new) }
         ensures goes { OnOk result (A.stopped acc.new ≡ None) }
         ensures stops { IfErr result (λ s. A.stopped acc.new ≡ Some s) }
         ensures good { SameMemories (A.good acc.old) (A.good acc.new) }
@@ -108,9 +109,11 @@ impl Tree {
         word: u64,
     ) -> Result<(), Stop>
         requires going { A.stopped acc.old ≡ None }
-        requires within { (cell < self.now.cells) × (link < A.words acc.old) × TreeFits self.now (A.words acc.old) }
-        ensures turns { OnOk result (Turns (A.log acc.old) (A.log acc.new) (spliced self.now cell link word)) }
-        ensures explained { OnOk result (IsExplained (A.good acc.new) (A.words acc.new) (A.log acc.new)) }
+        requires within { (cell < self.now.cells) × (link < A.words acc.old)
+            × TreeFits self.now (A.words acc.old) }
+        ensures turns { OnOk result
+            (Turns (A.log acc.old) (A.log acc.new) (spliced self.now cell link word)) }
+        ensures explained { OnOk result (ExplainedFor A.Access acc.new) }
         ensures goes { OnOk result (A.stopped acc.new ≡ None) }
         ensures stops { IfErr result (λ s. A.stopped acc.new ≡ Some s) }
         ensures good { SameMemories (A.good acc.old) (A.good acc.new) }
@@ -134,10 +137,10 @@ impl Tree {
     pub fn remove<A: Access>(&self, acc: &mut A, key: u32) -> Result<bool, Stop>
         requires going { A.stopped acc.old ≡ None }
         requires within { TreeFits self.now (A.words acc.old) }
-        requires well { Under (A.good acc.old) (A.words acc.old) (A.log acc.old) (IsTree self.now) }
-        ensures reply { IfOk result (λ b. DoesOver (A.good acc.old) (A.words acc.old) (removed_in self.now key) (A.log acc.old) b (A.log acc.new)) }
-        ensures well { OnOk result (Under (A.good acc.new) (A.words acc.new) (A.log acc.new) (IsTree self.now)) }
-        ensures explained { OnOk result (IsExplained (A.good acc.new) (A.words acc.new) (A.log acc.new)) }
+        requires well { HoldsFor A.Access acc.old (IsTree self.now) }
+        ensures reply { IfOk result (DoesFor A.Access acc.old acc.new (removed_in self.now key)) }
+        ensures well { OnOk result (HoldsFor A.Access acc.new (IsTree self.now)) }
+        ensures explained { OnOk result (ExplainedFor A.Access acc.new) }
         ensures goes { OnOk result (A.stopped acc.new ≡ None) }
         ensures stops { IfErr result (λ s. A.stopped acc.new ≡ Some s) }
         ensures good { SameMemories (A.good acc.old) (A.good acc.new) }
@@ -183,10 +186,10 @@ impl Tree {
     pub fn min<A: Access>(&self, acc: &mut A) -> Result<Option<u32>, Stop>
         requires going { A.stopped acc.old ≡ None }
         requires within { TreeFits self.now (A.words acc.old) }
-        requires well { Under (A.good acc.old) (A.words acc.old) (A.log acc.old) (IsTree self.now) }
-        ensures reply { IfOk result (λ r. DoesOver (A.good acc.old) (A.words acc.old) (least_in self.now) (A.log acc.old) r (A.log acc.new)) }
-        ensures well { OnOk result (Under (A.good acc.new) (A.words acc.new) (A.log acc.new) (IsTree self.now)) }
-        ensures explained { OnOk result (IsExplained (A.good acc.new) (A.words acc.new) (A.log acc.new)) }
+        requires well { HoldsFor A.Access acc.old (IsTree self.now) }
+        ensures reply { IfOk result (DoesFor A.Access acc.old acc.new (least_in self.now)) }
+        ensures well { OnOk result (HoldsFor A.Access acc.new (IsTree self.now)) }
+        ensures explained { OnOk result (ExplainedFor A.Access acc.new) }
         ensures cause { IfErr result IsReadStop }
         ensures goes { OnOk result (A.stopped acc.new ≡ None) }
         ensures stops { IfErr result (λ s. A.stopped acc.new ≡ Some s) }

@@ -47,7 +47,16 @@ raise_clock_item least found = record { place = Clock; act = Raise least; found 
 module _ (c : Config) (l : Local) (v : View) (k : CanGiveBack c l v) where
   -- no record is held
   pub gives-none : length l.locks.items ≡ 0 → GivesBack v v
-  gives-none none = record { owned = v.owned; rises = v.steps.rises; more = []; is = refl; handed = no-items v.owned.held (sym k.locks ∙ length-none l.locks.items none); rose = (omega arith, omega arith); level = λ e. refl }
+  gives-none none =
+      record {
+        owned = v.owned;
+        rises = v.steps.rises;
+        more = [];
+        is = refl;
+        handed = no-items v.owned.held (sym k.locks ∙ length-none l.locks.items none);
+        rose = (omega arith, omega arith);
+        level = λ e. refl;
+      }
 
   pub may-restore : CanRestoreAll c l v
   may-restore = record { has = k.opens.has; undo = k.undo; undoable = k.undoable; words = k.words }
@@ -83,9 +92,26 @@ module _ (c : Config) (l : Local) (v : View) (k : CanGiveBack c l v) where
       risen b = record v { owned = record v.owned { in_place = []; undo = []; raised = true }; steps = record v.steps { rises = raised b; step_trace = raise_clock_item least found ∷ (h.more ++ v.steps.step_trace) } }
 
       raise_clock_path : w ≡ risen (ltb found least)
-      raise_clock_path = t.2 ∙ (ap (λ (y : View). record y { owned = clock_raised y.owned; steps = record (if ltb found least then record y.steps { rises = y.steps.rises + 1 } else y.steps) { step_trace = raise_clock_item least found ∷ (if ltb found least then record y.steps { rises = y.steps.rises + 1 } else y.steps).step_trace } }) h.is ∙ by (ltb found least))
+      raise_clock_path =
+          t.2
+          ∙ (ap (λ (y : View).
+          record y {
+            owned = clock_raised y.owned;
+            steps = record (if ltb found least then record y.steps { rises = y.steps.rises + 1 } else y.steps) {
+              step_trace =
+                  raise_clock_item least found ∷ (if ltb found least then record y.steps { rises = y.steps.rises + 1 } else y.steps).step_trace;
+            };
+          })
+          h.is ∙ by (ltb found least))
         where
-          by : (b : Bool) → record restored { owned = clock_raised restored.owned; steps = record (if b then record restored.steps { rises = restored.steps.rises + 1 } else restored.steps) { step_trace = raise_clock_item least found ∷ (if b then record restored.steps { rises = restored.steps.rises + 1 } else restored.steps).step_trace } } ≡ risen b
+          by : (b : Bool)
+              → record restored {
+                owned = clock_raised restored.owned;
+                steps = record (if b then record restored.steps { rises = restored.steps.rises + 1 } else restored.steps) {
+                  step_trace = raise_clock_item least found
+                      ∷ (if b then record restored.steps { rises = restored.steps.rises + 1 } else restored.steps).step_trace;
+                };
+              } ≡ risen b
           by true = refl
           by false = refl
 
@@ -107,7 +133,13 @@ module _ (c : Config) (l : Local) (v : View) (k : CanGiveBack c l v) where
         rises = raised (ltb found least);
         more = q.more ++ raise_clock_item least found ∷ h.more;
         is = q.is ∙ (ap (λ (y : View). holding_still y [] q.more) raise_clock_path
-            ∙ ap (λ (s : List TracedStep). record v { owned = record v.owned { in_place = []; undo = []; raised = true; held = [] }; steps = record v.steps { rises = raised (ltb found least); step_trace = s } }) (sym (append_assoc q.more (raise_clock_item least found ∷ h.more) v.steps.step_trace)));
+            ∙ ap
+            (λ (s : List TracedStep).
+            record v {
+              owned = record v.owned { in_place = []; undo = []; raised = true; held = [] };
+              steps = record v.steps { rises = raised (ltb found least); step_trace = s };
+            })
+            (sym (append_assoc q.more (raise_clock_item least found ∷ h.more) v.steps.step_trace)));
         handed = refl;
         rose = by (ltb found least);
         level = λ e. absurd (let f : l.locks.items ≡ [] = k.locks ∙ ap items e in let g = ap (λ (ws : List (ℕ × ℕ)). length ws) f in omega arith);
@@ -137,7 +169,20 @@ module _ (c : Config) (l : Local) (v : View) (k : CanAbortEager c l v) (u : View
   takes-back n z out is = record {
     outside = out;
     before = u;
-    unmade = subst (IsUnmade v) (sym h.is) (record { carried = record { named = refl; base = refl; installs = refl; fence = refl; step_trace = (h.more, refl); unlocked = k.unlocked; unwritten = k.unwritten }; history = refl });
+    unmade =
+        subst (IsUnmade v) (sym h.is)
+        (record {
+          carried = record {
+            named = refl;
+            base = refl;
+            installs = refl;
+            fence = refl;
+            step_trace = (h.more, refl);
+            unlocked = k.unlocked;
+            unwritten = k.unwritten;
+          };
+          history = refl;
+        });
     rose = subst (λ (y : View). (v.steps.rises ≤ y.steps.rises) × (y.steps.rises ≤ v.steps.rises + 1)) (sym h.is) h.rose;
     level = λ e. ap (λ (y : View). y.steps.rises) h.is ∙ h.level e;
     is = is;

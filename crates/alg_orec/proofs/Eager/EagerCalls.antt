@@ -32,7 +32,7 @@ module _ {K : Type 0} (good : K → List ℕ → Type 0) (c : Config) (rule : K)
       eager : d.view.gate.algorithm ≡ OrecEager
       eager = subst (λ (p : Handle K). (known p).alg ≡ OrecEager) (sym same) algorithm
 
-      pub runs-plain : l.granted ≡ false → Stands (good_by good d.who.rule) d.who.config n l d.view → RunsEager (good rule) c n l d.view
+      runs-plain : l.granted ≡ false → Stands (good_by good d.who.rule) d.who.config n l d.view → RunsEager (good rule) c n l d.view
       runs-plain plain stands = let i = inside stands in record {
         inside = i;
         eager = eager;

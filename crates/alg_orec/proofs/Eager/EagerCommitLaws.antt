@@ -74,7 +74,8 @@ module _ {good : List ℕ → Type 0} {c : Config} {n : ℕ} {l : Local} {v : Vi
   versions r version e = let f = item-some v.owned.held r version (sym (ap (λ (ws : List (ℕ × ℕ)). item_at r ws) k.locks) ∙ e) in let b = k.below r f.0 in let s = f.1 in omega arith
 
   -- it may be taken back after steps that changed nothing of it
-  pub may-take : (m : Local) (check : Validation) (more : List TracedStep) → m.locks ≡ l.locks → m.undo ≡ l.undo → CanAbortEager c m (record v { check = check; steps = record v.steps { step_trace = more ++ v.steps.step_trace } })
+  pub may-take : (m : Local) (check : Validation) (more : List TracedStep) → m.locks ≡ l.locks → m.undo ≡ l.undo
+      → CanAbortEager c m (record v { check = check; steps = record v.steps { step_trace = more ++ v.steps.step_trace } })
   may-take m check more locks undo = record {
     gives = record {
       opens = record { has = record { runs = record { phase = p.inside.phase; algorithm = ap has_records p.eager; plain = k.optimistic.ungranted }; inside = k.inside }; open_yet = k.open_yet };
@@ -124,7 +125,16 @@ module _ {good : List ℕ → Type 0} {c : Config} {n : ℕ} {l : Local} {v : Vi
   tells-unwritten unwritten z o g = let t = tells-cancelled z o g in (t.0, (t.1, t.2), proving.wrote-known c l v k p.eager v o refl refl ∙ unwritten)
 
   pub may-commit : l.wrote ≡ true → Stands good c n l v → CanCommitPlaced good c n l v
-  may-commit wrote stands = record { inside = p.inside; eager = sym p.inside.named ∙ p.eager; plain = p.plain; wrote = wrote; running = running-by good c n l v p.inside.phase stands; holds = stands.holds; lengths = stands.lengths }
+  may-commit wrote stands =
+      record {
+        inside = p.inside;
+        eager = sym p.inside.named ∙ p.eager;
+        plain = p.plain;
+        wrote = wrote;
+        running = running-by good c n l v p.inside.phase stands;
+        holds = stands.holds;
+        lengths = stands.lengths;
+      }
 
   -- READ ONLY
   module _ (unwritten : l.wrote ≡ false) (handed : v.owned.held ≡ []) where
@@ -198,10 +208,23 @@ module _ {good : List ℕ → Type 0} {c : Config} {n : ℕ} {l : Local} {v : Vi
   pub may-take-full : (b : Bool) (clock : ℕ) (u : View) → Tells orec_limit (FindsClock c) v clock u → CanAbortEager c (record l { committing = b }) u
   may-take-full b clock u t = subst (CanAbortEager c (record l { committing = b })) (sym t.2) (may-take here (record l { committing = b }) v.check (load_of Clock clock ∷ []) refl refl)
 
-  pub tells-full : (o : Own) (clock : ℕ) (u z : View) → CLOCK_LIMIT ≤ l.start → Tells orec_limit (FindsClock c) v clock u → AbortsEager n u z → Commits good c n (commits.ClockFull clock) (known_of v o) (known_of z (with_commit false o))
+  pub tells-full : (o : Own) (clock : ℕ) (u z : View) → CLOCK_LIMIT ≤ l.start → Tells orec_limit (FindsClock c) v clock u
+      → AbortsEager n u z → Commits good c n (commits.ClockFull clock) (known_of v o) (known_of z (with_commit false o))
   tells-full o clock u z high t g = let f = proving.ended-by n u z g in (
     proving.quits-back n v u z o eager kept.optimistic.ungranted kept.optimistic.rises (ap (λ (y : View). y.steps.rises) t.2) (λ e. ap (λ (y : View). y.owned.held) t.2 ∙ clean here o e) g
-        (subst (IsUnmade v) (sym t.2) (record { carried = record { named = refl; base = refl; installs = refl; fence = refl; step_trace = (load_of Clock clock ∷ [], refl); unlocked = kept.optimistic.unlocked; unwritten = kept.optimistic.unwritten }; history = refl })),
+        (subst (IsUnmade v) (sym t.2)
+        (record {
+          carried = record {
+            named = refl;
+            base = refl;
+            installs = refl;
+            fence = refl;
+            step_trace = (load_of Clock clock ∷ [], refl);
+            unlocked = kept.optimistic.unlocked;
+            unwritten = kept.optimistic.unwritten;
+          };
+          history = refl;
+        })),
     ap asks_at_commit eager,
     wrote_is o,
     finds-full clock v z o (with_commit false o) (let a = t.1.started in let b = i.start in omega arith)
@@ -258,7 +281,8 @@ module _ {good : List ℕ → Type 0} {c : Config} {n : ℕ} {l : Local} {v : Vi
       by false = refl
 
   -- it didn't: the attempt stands as before
-  pub refused_path : (now : ℕ) (u : View) → now ≢ l.start → Tells (orec_commit n l.start ws []) (FindsCommit rule c n l.start ws) v now u → u ≡ record v { steps = record v.steps { step_trace = tried l.start now ∷ v.steps.step_trace } }
+  pub refused_path : (now : ℕ) (u : View) → now ≢ l.start → Tells (orec_commit n l.start ws []) (FindsCommit rule c n l.start ws) v now u
+      → u ≡ record v { steps = record v.steps { step_trace = tried l.start now ∷ v.steps.step_trace } }
   refused_path now u apart t = exchange_path now u false (grind (arith, nat_tests)) t
 
   pub refused-others : n < c.callers → (now : ℕ) (u : View) → now ≢ l.start → Tells (orec_commit n l.start ws []) (FindsCommit rule c n l.start ws) v now u → 1 < c.callers
@@ -306,7 +330,20 @@ module _ {good : List ℕ → Type 0} {c : Config} {n : ℕ} {l : Local} {v : Vi
 
       pub tells-committed : (o : Own) (z : View) → z ≡ left n y → CommitsAt good c n (l.start + 1) (known_of v o) (known_of z (with_commit false o))
       tells-committed o z is = subst (λ (x : View). CommitsAt good c n (l.start + 1) (known_of v o) (known_of x (with_commit false o))) (sym (is ∙ ap (left n) y_path)) (record {
-        ends = record { idle = (refl, refl, refl, refl, unlocked-of v.gate.algorithm v.lock.taken v.tml.writer kept.optimistic.unlocked kept.optimistic.unwritten); grows = grown; alg = refl; base = refl; installs = refl };
+        ends =
+            record {
+              idle = (
+                refl,
+                refl,
+                refl,
+                refl,
+                unlocked-of v.gate.algorithm v.lock.taken v.tml.writer kept.optimistic.unlocked kept.optimistic.unwritten,
+              );
+              grows = grown;
+              alg = refl;
+              base = refl;
+              installs = refl;
+            };
         rises = (let f = kept.optimistic.rises in let d : entry_rise v.gate.algorithm ≡ 1 = ap entry_rise eager in omega arith);
         wrote = wrote_is o;
         made = ap (λ (x : public.Entry). public_history v.history.made ++ x ∷ []) as_entry;
@@ -328,7 +365,17 @@ module _ {good : List ℕ → Type 0} {c : Config} {n : ℕ} {l : Local} {v : Vi
           as_entry = λ j. record { time = l.start + 1; caller = n; number = sym (length-public_history v.history.made) j; reads = items v.attempt.reads; writes = sym (written_is o) j }
 
           step_trace : (more : List TracedStep) × ((left n gives).steps.step_trace ≡ more ++ gives.steps.step_trace)
-          step_trace = step_trace-left n gives gives (record { named = refl; base = refl; installs = refl; fence = refl; step_trace = ([], refl); unlocked = kept.optimistic.unlocked; unwritten = kept.optimistic.unwritten })
+          step_trace =
+              step_trace-left n gives gives
+              (record {
+                named = refl;
+                base = refl;
+                installs = refl;
+                fence = refl;
+                step_trace = ([], refl);
+                unlocked = kept.optimistic.unlocked;
+                unwritten = kept.optimistic.unwritten;
+              })
 
           grown : Grows (known_of v o) (known_of (left n gives) (with_commit false o))
           grown = record {
@@ -338,7 +385,10 @@ module _ {good : List ℕ → Type 0} {c : Config} {n : ℕ} {l : Local} {v : Vi
             up_to = (omega arith, tt);
             front_rose = (let a = i.front in omega arith);
             more = step_trace.0 ++ (q.more ++ tried l.start now ∷ []);
-            step_trace = step_trace.1 ∙ (ap (λ (s : List TracedStep). step_trace.0 ++ s) (sym (append_assoc q.more (tried l.start now ∷ []) v.steps.step_trace)) ∙ sym (append_assoc step_trace.0 (q.more ++ tried l.start now ∷ []) v.steps.step_trace));
+            step_trace =
+                step_trace.1
+                ∙ (ap (λ (s : List TracedStep). step_trace.0 ++ s) (sym (append_assoc q.more (tried l.start now ∷ []) v.steps.step_trace))
+                ∙ sym (append_assoc step_trace.0 (q.more ++ tried l.start now ∷ []) v.steps.step_trace));
             reads_limit = refl;
             writes_limit = refl;
             fenced = refl;
@@ -352,7 +402,9 @@ module _ {good : List ℕ → Type 0} {c : Config} {n : ℕ} {l : Local} {v : Vi
     abbrev y : View
     y = readied v seen start v.owned.held loaded check more
 
-    stays-at : Legal rule c seen → Below seen (start + 1) → Explains (word_now seen) v.attempt.reads → ((r : ℕ) → touches v.owned.held r ≡ true → over v.owned.held r 0 ≤ start) → (c.callers ≡ 1 → start ≡ c.clock + v.steps.rises_at_begin) → IsInside good c n q y
+    stays-at : Legal rule c seen → Below seen (start + 1) → Explains (word_now seen) v.attempt.reads
+        → ((r : ℕ) → touches v.owned.held r ≡ true → over v.owned.held r 0 ≤ start)
+        → (c.callers ≡ 1 → start ≡ c.clock + v.steps.rises_at_begin) → IsInside good c n q y
     stays-at legal below sees olds sole = record {
       phase = i.phase;
       named = i.named;
@@ -366,10 +418,25 @@ module _ {good : List ℕ → Type 0} {c : Config} {n : ℕ} {l : Local} {v : Vi
       reads_inside = i.reads_inside;
       looked = λ e. let h = i.looked e in record { low = h.low; seen = h.seen; unseen = h.unseen };
       granted = i.granted;
-      steady = λ e. absurd (let f : (not (asks_at_commit OrecEager) || false) ≡ true = subst (λ (b : Bool). (not (asks_at_commit OrecEager) || b) ≡ true) can.plain (subst (λ (a : Alg). (not (asks_at_commit a) || l.granted) ≡ true) can.eager e) in cc);
+      steady =
+          λ e.
+          absurd (let f : (not (asks_at_commit OrecEager) || false) ≡ true = subst
+          (λ (b : Bool). (not (asks_at_commit OrecEager) || b) ≡ true) can.plain
+          (subst (λ (a : Alg). (not (asks_at_commit a) || l.granted) ≡ true) can.eager e) in
+          cc);
       spared = record { is = i.spared.is; fits = i.spared.fits };
       keeps = subst (λ (a : Alg). attempts.Keeps c a l.granted q y) (sym can.eager) (subst (λ (b : Bool). attempts.Keeps c OrecEager b q y) (sym can.plain) (record {
-        optimistic = record { unlocked = kept.optimistic.unlocked; unfixed = kept.optimistic.unfixed; unwritten = kept.optimistic.unwritten; uncommitted = kept.optimistic.uncommitted; ungranted = kept.optimistic.ungranted; not_quiescent = kept.optimistic.not_quiescent; unstored = kept.optimistic.unstored; rises = kept.optimistic.rises };
+        optimistic =
+            record {
+              unlocked = kept.optimistic.unlocked;
+              unfixed = kept.optimistic.unfixed;
+              unwritten = kept.optimistic.unwritten;
+              uncommitted = kept.optimistic.uncommitted;
+              ungranted = kept.optimistic.ungranted;
+              not_quiescent = kept.optimistic.not_quiescent;
+              unstored = kept.optimistic.unstored;
+              rises = kept.optimistic.rises;
+            };
         inside = kept.inside;
         eager = kept.eager;
         open_yet = kept.open_yet;
@@ -399,7 +466,13 @@ module _ {good : List ℕ → Type 0} {c : Config} {n : ℕ} {l : Local} {v : Vi
 
   -- AGAIN: it is in the middle
   pub stays-on : (more : List TracedStep) → IsInside good c n (record l { committing = true }) (record v { steps = record v.steps { step_trace = more ++ v.steps.step_trace } })
-  stays-on more = subst (IsInside good c n (record l { committing = true })) (λ j. record v { history = record v.history { front = sym i.front j }; attempt = record v.attempt { start = sym i.start j }; steps = record v.steps { step_trace = more ++ v.steps.step_trace } })
+  stays-on more =
+      subst (IsInside good c n (record l { committing = true })) (λ j.
+      record v {
+        history = record v.history { front = sym i.front j };
+        attempt = record v.attempt { start = sym i.start j };
+        steps = record v.steps { step_trace = more ++ v.steps.step_trace };
+      })
       (stays-at l.start true v.history.seen v.sample.loaded v.check more i.legal i.below i.sees kept.olds kept.sole)
 
   -- THE VALIDATION: it wasn't asked for
@@ -503,10 +576,24 @@ module _ {good : List ℕ → Type 0} {c : Config} {n : ℕ} {l : Local} {v : Vi
   pub may-take-overrun : (cause : causes.the_data) (m : Local) (w : View) → IsOverrun good c n cause l v m w → CanAbortEager c m w
   may-take-overrun cause m w h = subst (λ (d : Local). CanAbortEager c d w) (sym h.local) (subst (CanAbortEager c l) (sym h.is) (may-take here l h.check h.more refl refl))
 
-  pub tells-stopped : (o : Own) → o.committing ≡ l.committing → (cause : causes.the_data) (m : Local) (u z : View) → IsOverrun good c n cause l v m u → AbortsEager n u z → Commits good c n (commits.Conflict cause) (known_of v o) (known_of z (with_commit false o))
+  pub tells-stopped : (o : Own) → o.committing ≡ l.committing → (cause : causes.the_data) (m : Local) (u z : View)
+      → IsOverrun good c n cause l v m u → AbortsEager n u z
+      → Commits good c n (commits.Conflict cause) (known_of v o) (known_of z (with_commit false o))
   tells-stopped o mid cause m u z h g = let t = proving.ended-by n u z g in (
     proving.quits-back n v u z o eager kept.optimistic.ungranted kept.optimistic.rises (ap (λ (y : View). y.steps.rises) h.is) (λ e. ap (λ (y : View). y.owned.held) h.is ∙ clean here o e) g
-        (subst (IsUnmade v) (sym h.is) (record { carried = record { named = refl; base = refl; installs = refl; fence = refl; step_trace = (h.more, refl); unlocked = kept.optimistic.unlocked; unwritten = kept.optimistic.unwritten }; history = refl })),
+        (subst (IsUnmade v) (sym h.is)
+        (record {
+          carried = record {
+            named = refl;
+            base = refl;
+            installs = refl;
+            fence = refl;
+            step_trace = (h.more, refl);
+            unlocked = kept.optimistic.unlocked;
+            unwritten = kept.optimistic.unwritten;
+          };
+          history = refl;
+        })),
     proving.conflicts-later c n ToCommit cause (known_of v o) (known_of u o) (known_of z (with_commit false o)) (ap has_records eager) t.0 t.1 (h.conflicts o o mid),
     h.others,
     wrote_is o,
@@ -560,7 +647,8 @@ module _ {good : List ℕ → Type 0} {c : Config} {n : ℕ} {l : Local} {v : Vi
   keeps-ready o keeps wrote = let a = leads-ready o in subst (λ (g : Log). logs.Keeps good c.words g) (sym a.log) (keeps (ap (λ (g : Log). not (is_empty g.writes)) (sym a.log) ∙ wrote))
 
   -- the ends after it, as seen from the call
-  pub full-call : (o : Own) (clock : ℕ) (u z : View) → CLOCK_LIMIT ≤ m.start → Tells orec_limit (FindsClock c) w clock u → AbortsEager n u z → Commits good c n (commits.ClockFull clock) (known_of v o) (known_of z (with_commit false o))
+  pub full-call : (o : Own) (clock : ℕ) (u z : View) → CLOCK_LIMIT ≤ m.start → Tells orec_limit (FindsClock c) w clock u → AbortsEager n u z
+      → Commits good c n (commits.ClockFull clock) (known_of v o) (known_of z (with_commit false o))
   full-call o clock u z high t g = let q = tells-full can-ready o clock u z high t g in (
     quits-leads (known_of v o) (known_of w o) (known_of z (with_commit false o)) (leads-ready o) q.0,
     ap asks_at_commit named,
@@ -592,7 +680,9 @@ module _ {good : List ℕ → Type 0} {c : Config} {n : ℕ} {l : Local} {v : Vi
 
     pub tells-again : n < c.callers → (o : Own) → o.committing ≡ l.committing → Commits good c n (commits.Again 0 m.start now) (known_of v o) (known_of u (with_commit true o))
     tells-again low o mid = (
-      again.goes-on v r.more r.is now still_path c OrecEager o named can.inside.phase begins (r.grows o) (again.start-moves v r.more r.is now still_path c o l.start can.inside.start (⊎_elim (λ s. inl s) (λ f. inr (f.0 o, inl (mid ∙ f.1))) r.start)),
+      again.goes-on v r.more r.is now still_path c OrecEager o named can.inside.phase begins (r.grows o)
+          (again.start-moves v r.more r.is now still_path c o l.start can.inside.start
+          (⊎_elim (λ s. inl s) (λ f. inr (f.0 o, inl (mid ∙ f.1))) r.start)),
       refl,
       log_at o p u (ap (λ (y : View). y.gate) path) (ap (λ (y : View). y.attempt.reads) path) (ap (λ (y : View). y.owned.in_place) path),
       kept_at o p u (ap (λ (y : View). y.gate) path) (ap (λ (y : View). y.owned.undo) path),

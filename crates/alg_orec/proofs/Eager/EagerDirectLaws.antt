@@ -292,7 +292,11 @@ module _ (c : Config) (l : Local) (v : View) (k : CanGiveAbove c l v) where
             gate = record v.gate { time = max found least; rebased = false; completed = false };
             attempt = record { start = max found least; reads = []; stores = []; entered = false };
             owned = clock_raised v.owned;
-            steps = record (if b then record v.steps { rises = v.steps.rises + 1 } else v.steps) { step_trace = raise_clock_item least found ∷ (if b then record v.steps { rises = v.steps.rises + 1 } else v.steps).step_trace };
+            steps =
+                record (if b then record v.steps { rises = v.steps.rises + 1 } else v.steps) {
+                  step_trace =
+                      raise_clock_item least found ∷ (if b then record v.steps { rises = v.steps.rises + 1 } else v.steps).step_trace;
+                };
           } ≡ risen b
           by true = refl
           by false = refl
@@ -301,7 +305,18 @@ module _ (c : Config) (l : Local) (v : View) (k : CanGiveAbove c l v) where
       raise_clock-step_trace = ap (λ (y : View). y.steps.step_trace) raise_clock_path
 
       pub is-clock_raised : IsClockRaised c l w
-      is-clock_raised = subst (IsClockRaised c l) (sym raise_clock_path) (record { phase = k.phase; granted = k.granted; eager = k.eager; unentered = refl; raised = refl; locks = k.locks; places = k.places; below = k.below })
+      is-clock_raised =
+          subst (IsClockRaised c l) (sym raise_clock_path)
+          (record {
+            phase = k.phase;
+            granted = k.granted;
+            eager = k.eager;
+            unentered = refl;
+            raised = refl;
+            locks = k.locks;
+            places = k.places;
+            below = k.below;
+          })
 
       pub gives-above : (z : View) → ReleasesAll w z → GivesAbove v z
       gives-above z q = subst (GivesAbove v) (sym (q.is ∙ ap (λ (y : View). holding_still y [] q.more) raise_clock_path)) (record {

@@ -64,7 +64,9 @@ module _ {good : List ℕ → Type 0} {c : Config} {n : ℕ} {l : Local} {v : Vi
     unentered = can.inside.unentered;
   }))
 
-  pub tells-refused : {refusal : irrevs.the_data} {m : Local} {u : View} → IsNotPromoted c n refusal l v m u → (z : View) (p : Local) → p ≡ ended (record m { committing = false }) → AbortsEager n u z → Grants good c n refusal (known_of v (own_of l)) (known_of z (own_of p))
+  pub tells-refused : {refusal : irrevs.the_data} {m : Local} {u : View} → IsNotPromoted c n refusal l v m u → (z : View) (p : Local)
+      → p ≡ ended (record m { committing = false }) → AbortsEager n u z
+      → Grants good c n refusal (known_of v (own_of l)) (known_of z (own_of p))
   tells-refused {refusal} {m} {u} q z p idle g = opening.tells-refused can refl q z p idle
       (quits-back n v u z (own_of l) can.under k.optimistic.ungranted k.optimistic.rises (ap (λ (y : View). y.steps.rises) q.is) unheld g (opening.unmade can refl q)) (ended-by n u z g)
     where

@@ -86,7 +86,8 @@ module _ (good : List ℕ → Type 0) (c : Config) (n : ℕ) (l : Local) (v : Vi
     pub opens : HasOpen v
     opens = record { has = record { runs = record { phase = i.phase; algorithm = ap has_records eager; plain = ungranted }; inside = k.inside }; open_yet = k.open_yet }
 
-    pub may-take : (m : Local) (start : ℕ) (seen : List Entry) (rs : List Cell) (sample : Sample) (check : Validation) (more : List TracedStep) → m.locks ≡ l.locks → m.undo ≡ l.undo → CanAbortEager c m (moved v start seen rs sample check more)
+    pub may-take : (m : Local) (start : ℕ) (seen : List Entry) (rs : List Cell) (sample : Sample) (check : Validation)
+        (more : List TracedStep) → m.locks ≡ l.locks → m.undo ≡ l.undo → CanAbortEager c m (moved v start seen rs sample check more)
     may-take m start seen rs sample check more locks undo = record {
       gives = record {
         opens = record { has = record { runs = record { phase = i.phase; algorithm = ap has_records eager; plain = ungranted }; inside = k.inside }; open_yet = k.open_yet };
@@ -114,7 +115,9 @@ module _ (good : List ℕ → Type 0) (c : Config) (n : ℕ) (l : Local) (v : Vi
     clean u gate owned e = ap (λ (h : Ownership). h.held) owned ∙ proving.never-held c l v k eager u o gate (ap (λ (h : Ownership). h.undo) owned) e
 
     -- the attempt ended from a view that the load came to
-    pub quits-moved : (start : ℕ) (seen : List Entry) (rs : List Cell) (sample : Sample) (check : Validation) (more : List TracedStep) (w : View) → MayMove rule c n start seen more v → AbortsEager n (moved v start seen rs sample check more) w → Quits (known_of v o) (known_of w o)
+    pub quits-moved : (start : ℕ) (seen : List Entry) (rs : List Cell) (sample : Sample) (check : Validation) (more : List TracedStep)
+        (w : View) → MayMove rule c n start seen more v → AbortsEager n (moved v start seen rs sample check more) w
+        → Quits (known_of v o) (known_of w o)
     quits-moved start seen rs sample check more w moves g = subst (λ (y : View). Quits (known_of v o) (known_of y o)) (sym g.is) (reads.quits-moved reading start seen more moves rs sample check g.before g.unmade
         (proving.rose n v (moved v start seen rs sample check more) w o eager ungranted k.optimistic.rises refl (clean v refl refl) g))
 
@@ -141,13 +144,17 @@ module _ (good : List ℕ → Type 0) (c : Config) (n : ℕ) (l : Local) (v : Vi
     pub may-take-refused : (a : ℕ) (cause : Cause) (m : Local) (u : View) → RefusesRead rule c n a cause l v m u → CanAbortEager c m u
     may-take-refused a cause m u h = subst (CanAbortEager c m) (sym h.is) (may-take m m.start h.seen v.attempt.reads u.sample u.check h.more (ap (λ (q : Local). q.locks) h.local) (ap (λ (q : Local). q.undo) h.local))
 
-    pub reads-refused : (a : ℕ) (cause : Cause) (m : Local) (u w : View) → item_at a l.writes.items ≡ None → item_at a l.reads.items ≡ None → length l.reads.items ≢ l.reads.len → RefusesRead rule c n a cause l v m u → AbortsEager n u w
+    pub reads-refused : (a : ℕ) (cause : Cause) (m : Local) (u w : View) → item_at a l.writes.items ≡ None → item_at a l.reads.items ≡ None
+        → length l.reads.items ≢ l.reads.len → RefusesRead rule c n a cause l v m u → AbortsEager n u w
         → HasRead good c n a (answers.Conflict cause) (known_of v o) (known_of w o)
-    reads-refused a cause m u w unwritten unread room h g = subst (λ (y : View). HasRead good c n a (answers.Conflict cause) (known_of v o) (known_of y o)) (sym g.is) (reads.reads-refused reading a cause m u g.before unwritten unread room h g.unmade
+    reads-refused a cause m u w unwritten unread room h g =
+        subst (λ (y : View). HasRead good c n a (answers.Conflict cause) (known_of v o) (known_of y o)) (sym g.is) (reads.reads-refused
+        reading a cause m u g.before unwritten unread room h g.unmade
         (subst (λ (y : View). Quits (known_of v o) (known_of y o)) g.is (quits-moved m.start h.seen v.attempt.reads u.sample u.check h.more w h.moves (subst (λ (y : View). AbortsEager n y w) h.is g))))
 
     -- the attempt stands where the load came to, and its descriptor has what was read
-    pub stays-moved : (start : ℕ) (seen : List Entry) (rs : List Cell) (sample : Sample) (check : Validation) (more : List TracedStep) (log : LogState) → MayMove rule c n start seen more v → Legal rule c seen → Below seen (start + 1) → Explains (word_now seen) rs
+    pub stays-moved : (start : ℕ) (seen : List Entry) (rs : List Cell) (sample : Sample) (check : Validation) (more : List TracedStep)
+        (log : LogState) → MayMove rule c n start seen more v → Legal rule c seen → Below seen (start + 1) → Explains (word_now seen) rs
         → Inside c.words rs → log.items ≡ items rs → IsInside good c n (record l { start = start; reads = log }) (moved v start seen rs sample check more)
     stays-moved start seen rs sample check more log moves legal below sees inside is = reads.stays-moved reading start seen more moves rs sample check log legal below sees inside
         (keeps-eager (record {
@@ -188,9 +195,13 @@ module _ (good : List ℕ → Type 0) (c : Config) (n : ℕ) (l : Local) (v : Vi
         keeps-eager p = subst (λ (b : Alg). attempts.Keeps c b l.granted q u) (sym (sym i.named ∙ eager)) (subst (λ (b : Bool). attempts.Keeps c OrecEager b q u) (sym runs.plain) p)
 
     -- with the read in its log
-    pub stays-read : (a x : ℕ) (m : Local) (w : View) (log : LogState) → a < c.words → item_at a l.reads.items ≡ None → log ≡ record l.reads { items = l.reads.items ++ (a, x) ∷ [] } → HasLoaded rule c n a x l v m w → IsInside good c n (record m { reads = log }) w
+    pub stays-read : (a x : ℕ) (m : Local) (w : View) (log : LogState) → a < c.words → item_at a l.reads.items ≡ None
+        → log ≡ record l.reads { items = l.reads.items ++ (a, x) ∷ [] } → HasLoaded rule c n a x l v m w
+        → IsInside good c n (record m { reads = log }) w
     stays-read a x m w log low unread is h = subst (λ (y : View). IsInside good c n (record m { reads = log }) y) (sym h.is) (subst (λ (q : Local). IsInside good c n (record q { reads = log }) u) (sym h.local)
-        (stays-moved m.start h.seen reads no_sample no_check h.more log h.moves h.legal h.below h.sees (inside-more c.words (record { at = a; value = x }) v.attempt.reads low i.reads_inside) (ap (λ (q : LogState). q.items) is ∙ (sym (put-new a x l.reads.items unread) ∙ ap (put a x) k.reads))))
+        (stays-moved m.start h.seen reads no_sample no_check h.more log h.moves h.legal h.below h.sees
+        (inside-more c.words (record { at = a; value = x }) v.attempt.reads low i.reads_inside)
+        (ap (λ (q : LogState). q.items) is ∙ (sym (put-new a x l.reads.items unread) ∙ ap (put a x) k.reads))))
       where
         reads : List Cell
         reads = record { at = a; value = x } ∷ v.attempt.reads
@@ -199,7 +210,8 @@ module _ (good : List ℕ → Type 0) (c : Config) (n : ℕ) (l : Local) (v : Vi
         u = moved v m.start h.seen reads no_sample no_check h.more
 
 -- BEGIN
-pub tells-started : (good : List ℕ → Type 0) (c : Config) (n : ℕ) (v : View) → CanBegin OrecEager v → (clock : ℕ) (w : View) → Tells orec_begin (FindsStart (of_words good c.words) c) v clock w → StartsAt good c n OrecEager clock v w
+pub tells-started : (good : List ℕ → Type 0) (c : Config) (n : ℕ) (v : View) → CanBegin OrecEager v → (clock : ℕ) (w : View)
+    → Tells orec_begin (FindsStart (of_words good c.words) c) v clock w → StartsAt good c n OrecEager clock v w
 tells-started good c n v can clock w t = reads.tells-started good c n OrecEager (inr refl) v can clock w t (λ l. record {
   optimistic = reads.optimistic-begun good c n OrecEager (inr refl) v can clock w t;
   inside = refl;

@@ -54,7 +54,12 @@ length-none (w ∷ ws) l = absurd (omega arith)
 
 -- who, as contracts see it, never wrote has no old value
 pub none-saved : (w : View) (p : Own) → w.gate.algorithm ≡ OrecEager → has_written (known_of w p) ≡ false → w.owned.undo ≡ []
-none-saved w p eager e = no-items w.owned.undo (no-addresses (items w.owned.undo) (ap (λ (a : Alg). kept_under a w p) (sym eager) ∙ none-kept (known_of w p).kept (no-not (is_none (known_of w p).kept) (no-or (wrote (known_of w p)) (not (is_none (known_of w p).kept)) e).1)))
+none-saved w p eager e =
+    no-items w.owned.undo
+    (no-addresses (items w.owned.undo)
+    (ap (λ (a : Alg). kept_under a w p) (sym eager)
+    ∙ none-kept (known_of w p).kept
+    (no-not (is_none (known_of w p).kept) (no-or (wrote (known_of w p)) (not (is_none (known_of w p).kept)) e).1)))
 
 module _ (c : Config) (l : Local) (v : View) (k : IsEager c l v) where
   -- who wrote nothing has nothing in place, and holds nothing unless it was rolled back
@@ -112,7 +117,8 @@ module _ (good : List ℕ → Type 0) (c : Config) (n : ℕ) (l : Local) (v : Vi
       (λ j. irrevocable_under (eager j) (granted_under (eager j) v.gate v.lock) (wrote (known_of v o))) ∙ here
 
 -- more steps were taken
-pub conflicts-later : (c : Config) (n : ℕ) (asked : Asked) (cause : causes.the_data) (v u w : CallerState) → has_records v.alg ≡ true → (more : List TracedStep) → w.step_trace ≡ more ++ u.step_trace → Conflicts c n asked cause v u → Conflicts c n asked cause v w
+pub conflicts-later : (c : Config) (n : ℕ) (asked : Asked) (cause : causes.the_data) (v u w : CallerState) → has_records v.alg ≡ true
+    → (more : List TracedStep) → w.step_trace ≡ more ++ u.step_trace → Conflicts c n asked cause v u → Conflicts c n asked cause v w
 conflicts-later = conflicts-by-records
 
 -- until it ended
@@ -125,9 +131,15 @@ rose-by a true base rises e one none = let q : quit_rise a true ≡ 1 = ap (λ (
 rose-by a false base rises e one none = let z = none refl in omega arith
 
 -- an attempt of OrecEager that was taken back
-module _ (n : ℕ) (v u z : View) (o : Own) (eager : v.gate.algorithm ≡ OrecEager) (plain : v.gate.granted ≡ false) (level : v.steps.rises ≡ v.steps.rises_at_begin) (rises : u.steps.rises ≡ v.steps.rises) (clean : has_written (known_of v o) ≡ false → u.owned.held ≡ []) (g : AbortsEager n u z) where
+module _ (n : ℕ) (v u z : View) (o : Own) (eager : v.gate.algorithm ≡ OrecEager) (plain : v.gate.granted ≡ false)
+    (level : v.steps.rises ≡ v.steps.rises_at_begin) (rises : u.steps.rises ≡ v.steps.rises)
+    (clean : has_written (known_of v o) ≡ false → u.owned.held ≡ []) (g : AbortsEager n u z) where
   pub rose : (v.steps.rises_at_begin ≤ g.before.steps.rises) × (g.before.steps.rises ≤ v.steps.rises_at_begin + quit_rise v.gate.algorithm (has_written (known_of v o)))
-  rose = ((let a = g.rose.0 in omega arith), rose-by v.gate.algorithm (has_written (known_of v o)) v.steps.rises_at_begin g.before.steps.rises eager (let a = g.rose.1 in omega arith) (λ e. let q = g.level (clean e) in omega arith))
+  rose = (
+    (let a = g.rose.0 in omega arith),
+    rose-by v.gate.algorithm (has_written (known_of v o)) v.steps.rises_at_begin g.before.steps.rises eager
+        (let a = g.rose.1 in omega arith) (λ e. let q = g.level (clean e) in omega arith),
+  )
 
   pub quits-back : IsUnmade v u → Quits (known_of v o) (known_of z (with_commit false o))
   quits-back m = quits-own v z o (with_commit false o) refl refl (subst (λ (y : View). Quits (known_of v o) (known_of y o)) (sym g.is)

@@ -64,10 +64,16 @@ use Rattle.alg_orec.specs.Validating.{load_of}
 abbrev MovesBy : Config → ℕ → CallerState → CallerState → Type 0
 MovesBy c at v w = (w.start ≡ v.start) ⊎ (Found Clock w.start v w × FindsNewer c at v w)
 
-moves-on : (c : Config) (at : ℕ) (u v w : CallerState) → u.start ≤ v.start → (more : List TracedStep) → v.step_trace ≡ more ++ u.step_trace → (late : List TracedStep) → w.step_trace ≡ late ++ v.step_trace → MovesBy c at u v → MovesBy c at v w → MovesBy c at u w
+moves-on : (c : Config) (at : ℕ) (u v w : CallerState) → u.start ≤ v.start → (more : List TracedStep) → v.step_trace ≡ more ++ u.step_trace
+    → (late : List TracedStep) → w.step_trace ≡ late ++ v.step_trace → MovesBy c at u v → MovesBy c at v w → MovesBy c at u w
 moves-on c at u v w low more t late s a (inr f) = let d = f.1 in inr (found-earlier Clock w.start u v w f.0 more t, (d.0, found-earlier (Record (at % c.records)) d.0 u v w d.1 more t, d.2, (let e = d.3 in omega arith)))
 moves-on c at u v w low more t late s (inl e) (inl f) = inl (f ∙ e)
-moves-on c at u v w low more t late s (inr e) (inl f) = let d = e.1 in inr (subst (λ (x : ℕ). Found Clock x u w) (sym f) (found-later Clock v.start u v w e.0 late s), (d.0, found-later (Record (at % c.records)) d.0 u v w d.1 late s, d.2, d.3))
+moves-on c at u v w low more t late s (inr e) (inl f) =
+    let d = e.1 in
+    inr (
+      subst (λ (x : ℕ). Found Clock x u w) (sym f) (found-later Clock v.start u v w e.0 late s),
+      (d.0, found-later (Record (at % c.records)) d.0 u v w d.1 late s, d.2, d.3),
+    )
 
 -- who reads under OrecEager doesn't raise the clock
 level-reads : {c : Config} {asked : Asked} → (v u : CallerState) → v.alg ≡ OrecEager → GoesOn c asked v u → u.rises ≡ v.rises
@@ -108,7 +114,11 @@ module _ {c : Config} {at : ℕ} (v u : CallerState) (eager : v.alg ≡ OrecEage
         depth = q.depth ∙ k.depth;
         locked = lock-trans v u w k.alg k.locked q.locked;
       };
-      start = subst (λ (r : Alg). StartMoves c (ForWord at) r v w) (sym eager) (moves-on c at v u w k.later k.grows.more k.grows.step_trace q.grows.more q.grows.step_trace (subst (λ (r : Alg). StartMoves c (ForWord at) r v u) eager a.start) (subst (λ (r : Alg). StartMoves c (ForWord at) r u w) (k.alg ∙ eager) b.start));
+      start =
+          subst (λ (r : Alg). StartMoves c (ForWord at) r v w) (sym eager)
+          (moves-on c at v u w k.later k.grows.more k.grows.step_trace q.grows.more q.grows.step_trace
+          (subst (λ (r : Alg). StartMoves c (ForWord at) r v u) eager a.start)
+          (subst (λ (r : Alg). StartMoves c (ForWord at) r u w) (k.alg ∙ eager) b.start));
       granted = b.granted ∙ a.granted;
       holds = b.holds ∙ a.holds;
       checked = b.checked ∙ a.checked;
@@ -124,7 +134,11 @@ module _ {c : Config} {at : ℕ} (v u : CallerState) (eager : v.alg ≡ OrecEage
       made = b.made ∙ k.made;
       rises = (
         let e = k.base in let r = b.rises.0 in omega arith,
-        let e = k.base in let r = b.rises.1 in let q : quit_rise u.alg (has_written u) ≡ quit_rise v.alg (has_written v) = (λ j. quit_rise (k.alg j) (not (is_empty (log j).writes) || not (is_none (kept j)))) in omega arith,
+        let e = k.base in
+            let r = b.rises.1 in
+            let q : quit_rise u.alg (has_written u) ≡ quit_rise v.alg (has_written v) =
+            (λ j. quit_rise (k.alg j) (not (is_empty (log j).writes) || not (is_none (kept j)))) in
+            omega arith,
       );
       revocable = sym same-irrevocable ∙ b.revocable;
     }
@@ -134,7 +148,8 @@ module _ (good : List ℕ → Type 0) (c : Config) (n a word x : ℕ) where
   at = a % c.records
 
   -- the record was sampled, the word loaded, the record confirmed
-  pub reads-apart : (v s u w : CallerState) (r : Read) → v.alg ≡ OrecEager → FindsFree good c n a word v s → GoesOnReading good c n a (load_of (Heap a) x ∷ []) s u → Confirms good c n a word x r u w → HasRead good c n a r v w
+  pub reads-apart : (v s u w : CallerState) (r : Read) → v.alg ≡ OrecEager → FindsFree good c n a word v s
+      → GoesOnReading good c n a (load_of (Heap a) x ∷ []) s u → Confirms good c n a word x r u w → HasRead good c n a r v w
   reads-apart v s u w r eager f l k = by r k
     where
       found : GoesOnReading good c n a (f.0 ++ load_of (Record at) word ∷ []) v s
@@ -156,7 +171,18 @@ module _ (good : List ℕ → Type 0) (c : Config) (n a word x : ℕ) where
       step_trace = l.step_trace ∙ ap (λ (t : List TracedStep). load_of (Heap a) x ∷ t) (found.step_trace ∙ append_assoc f.0 (load_of (Record at) word ∷ []) v.step_trace)
 
       by : (r : reads.the_data) → Confirms good c n a word x r u w → HasRead good c n a r v w
-      by (reads.Value y) q = subst (λ (z : ℕ). HasRead good c n a (reads.Value z) v w) (sym q.0) (let h = q.1 in (goes-then v u eager goes log kept w h.0, h.1, subst (λ (g : Log). Reads g a x w.log) log h.2, h.3, h.4, room, h.6 ∙ level-reads v u eager goes, h.7 ∙ kept))
+      by (reads.Value y) q =
+          subst (λ (z : ℕ). HasRead good c n a (reads.Value z) v w) (sym q.0)
+          (let h = q.1 in (
+            goes-then v u eager goes log kept w h.0,
+            h.1,
+            subst (λ (g : Log). Reads g a x w.log) log h.2,
+            h.3,
+            h.4,
+            room,
+            h.6 ∙ level-reads v u eager goes,
+            h.7 ∙ kept,
+          ))
       by (reads.Conflict cause) q = (
         quits-then v u eager goes log kept w q.quits,
         subst (λ (z : Cause). Conflicts c n (ForWord a) z v w) (sym q.is) (
@@ -185,9 +211,13 @@ module _ {K : Type 0} (good : List ℕ → Type 0) (c : Config) (a : ℕ) where
   refused-first n (reads.Conflict cause) d e s = s
   refused-first n (reads.Full limit) d e s = s
 
-  pub reads-together : (word x : ℕ) (r : Read) (d s u w : Handle K) → IsSameCaller d s → IsSameCaller s u → (known d).alg ≡ OrecEager → FindsFree good c (number d) a word (known d) (known s) → GoesOnReading good c (number s) a (load_of (Heap a) x ∷ []) (known s) (known u)
+  pub reads-together : (word x : ℕ) (r : Read) (d s u w : Handle K) → IsSameCaller d s → IsSameCaller s u → (known d).alg ≡ OrecEager
+      → FindsFree good c (number d) a word (known d) (known s)
+      → GoesOnReading good c (number s) a (load_of (Heap a) x ∷ []) (known s) (known u)
       → Confirms good c (number u) a word x r (known u) (known w) → HasRead good c (number d) a r (known d) (known w)
-  reads-together word x r d s u w p q eager f l k = reads-apart good c (number d) a word x (known d) (known s) (known u) (known w) r eager f (subst (λ (n : ℕ). GoesOnReading good c n a (load_of (Heap a) x ∷ []) (known s) (known u)) first l)
+  reads-together word x r d s u w p q eager f l k =
+      reads-apart good c (number d) a word x (known d) (known s) (known u) (known w) r eager f
+      (subst (λ (n : ℕ). GoesOnReading good c n a (load_of (Heap a) x ∷ []) (known s) (known u)) first l)
       (subst (λ (n : ℕ). Confirms good c n a word x r (known u) (known w)) (ap (λ (y : Who K). caller_of y.role) q.who ∙ first) k)
     where
       first : number s ≡ number d
@@ -221,19 +251,35 @@ module _ (good : List ℕ → Type 0) (c : Config) (n : ℕ) (l : Local) (v : Vi
   unread-of a e = ap (item_at a) k.reads ∙ e
 
   pub new-of : (a : ℕ) → item_at a l.writes.items ≡ None → item_at a l.reads.items ≡ None → length l.reads.items ≢ l.reads.len → IsNew a (known_of v o)
-  new-of a unwritten unread room = record { unwritten = ap (item_at a) (laws.written-here good c n l v runs) ∙ unwritten; unread = ap (item_at a) (sym k.reads) ∙ unread; room = records.full-by (laws.reading good c n l v runs) a false unwritten unread (grind (arith, nat_tests)) }
+  new-of a unwritten unread room =
+      record {
+        unwritten = ap (item_at a) (laws.written-here good c n l v runs) ∙ unwritten;
+        unread = ap (item_at a) (sym k.reads) ∙ unread;
+        room = records.full-by (laws.reading good c n l v runs) a false unwritten unread (grind (arith, nat_tests));
+      }
 
   pub room-of : (a : ℕ) → IsNew a (known_of v o) → length l.reads.items ≢ l.reads.len
-  room-of a new e = absurd (let full : reads_full a (known_of v o) ≡ true = records.full-by (laws.reading good c n l v runs) a true (unwritten-of a new.unwritten) (unread-of a new.unread) (grind (arith, nat_tests)) in let q : true ≡ false = sym full ∙ new.room in cc)
+  room-of a new e =
+      absurd (let full : reads_full a (known_of v o) ≡ true = records.full-by (laws.reading good c n l v runs) a true
+      (unwritten-of a new.unwritten) (unread-of a new.unread) (grind (arith, nat_tests)) in
+      let q : true ≡ false = sym full ∙ new.room in cc)
 
   pub unread-new : (a : ℕ) → IsNew a (known_of v o) → IsUnread l a
   unread-new a new = record { unwritten = unwritten-of a new.unwritten; unread = unread-of a new.unread; room = room-of a new }
 
-  stays : (start : ℕ) (seen : List Entry) (sample : Sample) (check : Validation) (more : List TracedStep) → MayMove rule c n start seen more v → IsInside good c n (record l { start = start; reads = l.reads }) (moved v start seen v.attempt.reads sample check more)
-  stays start seen sample check more moves = laws.stays-moved good c n l v runs start seen v.attempt.reads sample check more l.reads moves (records.legal-at (laws.reading good c n l v runs) start seen more moves) (records.below-at (laws.reading good c n l v runs) start seen more moves) (records.sees-at (laws.reading good c n l v runs) start seen more moves) i.reads_inside k.reads
+  stays : (start : ℕ) (seen : List Entry) (sample : Sample) (check : Validation) (more : List TracedStep)
+      → MayMove rule c n start seen more v
+      → IsInside good c n (record l { start = start; reads = l.reads }) (moved v start seen v.attempt.reads sample check more)
+  stays start seen sample check more moves =
+      laws.stays-moved good c n l v runs start seen v.attempt.reads sample check more l.reads moves
+      (records.legal-at (laws.reading good c n l v runs) start seen more moves)
+      (records.below-at (laws.reading good c n l v runs) start seen more moves)
+      (records.sees-at (laws.reading good c n l v runs) start seen more moves) i.reads_inside k.reads
 
   -- it goes on where it came to, and has yet to read a
-  reads-on : (a start : ℕ) (seen : List Entry) (sample : Sample) (check : Validation) (more : List TracedStep) → MayMove rule c n start seen more v → MovesOwed c a start more v → IsNew a (known_of v o) → GoesOnReading good c n a more (known_of v o) (known_of (moved v start seen v.attempt.reads sample check more) o)
+  reads-on : (a start : ℕ) (seen : List Entry) (sample : Sample) (check : Validation) (more : List TracedStep)
+      → MayMove rule c n start seen more v → MovesOwed c a start more v → IsNew a (known_of v o)
+      → GoesOnReading good c n a more (known_of v o) (known_of (moved v start seen v.attempt.reads sample check more) o)
   reads-on a start seen sample check more moves owed new = record {
     goes = goes;
     uncommitted = runs.quiet;
@@ -254,8 +300,22 @@ module _ (good : List ℕ → Type 0) (c : Config) (n : ℕ) (l : Local) (v : Vi
       log = λ j. record { reads = items v.attempt.reads; writes = (written c l v k runs.eager w o refl refl ∙ sym (written c l v k runs.eager v o refl refl)) j }
 
   -- where the start stayed
-  stays-here : (rs : List Cell) (sample : Sample) (check : Validation) (more : List TracedStep) → record v { attempt = record v.attempt { reads = rs }; sample = sample; check = check; steps = record v.steps { step_trace = more ++ v.steps.step_trace } } ≡ moved v l.start v.history.seen rs sample check more
-  stays-here rs sample check more = λ j. record v { history = record v.history { front = i.front j }; attempt = record v.attempt { start = i.start j; reads = rs }; sample = sample; check = check; steps = record v.steps { step_trace = more ++ v.steps.step_trace } }
+  stays-here : (rs : List Cell) (sample : Sample) (check : Validation) (more : List TracedStep)
+      → record v {
+        attempt = record v.attempt { reads = rs };
+        sample = sample;
+        check = check;
+        steps = record v.steps { step_trace = more ++ v.steps.step_trace };
+      } ≡ moved v l.start v.history.seen rs sample check more
+  stays-here rs sample check more =
+      λ j.
+      record v {
+        history = record v.history { front = i.front j };
+        attempt = record v.attempt { start = i.start j; reads = rs };
+        sample = sample;
+        check = check;
+        steps = record v.steps { step_trace = more ++ v.steps.step_trace };
+      }
 
   -- SAMPLE
   pub may-sample : (a : ℕ) → a < c.words → item_at a l.writes.items ≡ None → item_at (a % c.records) l.locks.items ≡ None → CanLoadValid c a l v
@@ -273,10 +333,18 @@ module _ (good : List ℕ → Type 0) (c : Config) (n : ℕ) (l : Local) (v : Vi
         by (inr q) = inr (Contains-append_left h.late (load_of (Record (a % c.records)) word ∷ []) (load_of Clock m.start) q.0, q.1, q.2)
 
     pub stays-sampled : IsInside good c n m w
-    stays-sampled = subst (λ (q : Local). IsInside good c n q w) (sym h.local) (subst (λ (y : View). IsInside good c n (record l { start = m.start }) y) (sym h.is) (stays m.start h.seen (sampled_at a (version_of word)) w.check all moves))
+    stays-sampled =
+        subst (λ (q : Local). IsInside good c n q w) (sym h.local)
+        (subst (λ (y : View). IsInside good c n (record l { start = m.start }) y) (sym h.is)
+        (stays m.start h.seen (sampled_at a (version_of word)) w.check all moves))
 
     pub finds-free : IsNew a (known_of v o) → FindsFree good c n a word (known_of v o) (known_of w o)
-    finds-free new = (h.late, h.loads, subst (λ (y : View). GoesOnReading good c n a all (known_of v o) (known_of y o)) (sym h.is) (reads-on a m.start h.seen (sampled_at a (version_of word)) w.check all moves h.owed new))
+    finds-free new = (
+      h.late,
+      h.loads,
+      subst (λ (y : View). GoesOnReading good c n a all (known_of v o) (known_of y o)) (sym h.is)
+          (reads-on a m.start h.seen (sampled_at a (version_of word)) w.check all moves h.owed new),
+    )
 
     pub is-sampled : IsSampled c a word w
     is-sampled = subst (IsSampled c a word) (sym h.is) (record {
@@ -307,7 +375,9 @@ module _ (good : List ℕ → Type 0) (c : Config) (n : ℕ) (l : Local) (v : Vi
     stays-loaded = subst (IsInside good c n l) (sym load_path) (stays l.start v.history.seen sample_loaded v.check loading (inl (sym i.start, refl)))
 
     pub reads-loaded : IsNew a (known_of v o) → GoesOnReading good c n a loading (known_of v o) (known_of w o)
-    reads-loaded new = subst (λ (y : View). GoesOnReading good c n a loading (known_of v o) (known_of y o)) (sym load_path) (reads-on a l.start v.history.seen sample_loaded v.check loading (inl (sym i.start, refl)) (inl (sym i.start)) new)
+    reads-loaded new =
+        subst (λ (y : View). GoesOnReading good c n a loading (known_of v o) (known_of y o)) (sym load_path)
+        (reads-on a l.start v.history.seen sample_loaded v.check loading (inl (sym i.start, refl)) (inl (sym i.start)) new)
 
     pub is-loaded : LoadsSampled c a x v w
     is-loaded word s = subst (IsLoaded c a word x) (sym t.2) (record { loaded = refl; from = s.has.from; before = s.before; value = refl; left = s.left })
@@ -331,7 +401,15 @@ module _ (good : List ℕ → Type 0) (c : Config) (n : ℕ) (l : Local) (v : Vi
       read_if b = if b then reading v.sample.from v.sample.value else v.attempt.reads
 
       path : (b : Bool) → (after == free_record v.sample.version) ≡ b → w ≡ moved v l.start v.history.seen (read_if b) no_sample no_check again
-      path b e = t.2 ∙ (ap (λ (d : Bool). record v { attempt = record v.attempt { reads = read_if d }; sample = no_sample; check = no_check; steps = record v.steps { step_trace = again ++ v.steps.step_trace } }) e ∙ stays-here (read_if b) no_sample no_check again)
+      path b e =
+          t.2
+          ∙ (ap (λ (d : Bool).
+          record v {
+            attempt = record v.attempt { reads = read_if d };
+            sample = no_sample;
+            check = no_check;
+            steps = record v.steps { step_trace = again ++ v.steps.step_trace };
+          }) e ∙ stays-here (read_if b) no_sample no_check again)
 
       -- where nothing moved
       pub loads-same : after ≡ word → HasLoaded rule c n a x l v l w

@@ -37,7 +37,9 @@ item-here (w ∷ ws) (suc i) p low once e = by (w.0 == p.0) refl (item-here ws i
 abbrev pub restore_item : ℕ → ℕ → TracedStep
 restore_item a x = record { place = Heap a; act = Store x; found = None }
 
-pub restored-step : {K : Type 0} → (first s t : SeatView K) (more : List TracedStep) (a x y : ℕ) (m : World) → s ≡ record first { view = restoring first.view s.view.owned.in_place more } → t ≡ record s { view = view_after (orec_restore a x) m s.view y }
+pub restored-step : {K : Type 0} → (first s t : SeatView K) (more : List TracedStep) (a x y : ℕ) (m : World)
+    → s ≡ record first { view = restoring first.view s.view.owned.in_place more }
+    → t ≡ record s { view = view_after (orec_restore a x) m s.view y }
     → t ≡ record first { view = restoring first.view t.view.owned.in_place (restore_item a x ∷ more) }
 restored-step {K} first s t more a x y m e p = p ∙ (ap (λ (z : SeatView K). record z { view = view_after (orec_restore a x) m z.view y }) e
     ∙ (λ i. record first { view = restoring first.view (sym in_place i) (restore_item a x ∷ more) }))
@@ -73,7 +75,9 @@ pub ahead-none : (us : List (ℕ × ℕ)) (i : ℕ) (in_place : List Cell) → l
 ahead-none us i in_place all ahead = untouched-none in_place (λ a t. let e : has_item a (drop i us) ≡ false = ap (has_item a) (drop-all us i all) in let no : true ≡ false = sym (ahead a t) ∙ e in cc)
 
 -- a record that a promoted attempt gives back
-pub direct-step : {K : Type 0} → (first s t : SeatView K) (more : List TracedStep) (r time x : ℕ) (m : World) → s ≡ record first { view = holding_still first.view s.view.owned.held more } → t ≡ record s { view = view_after (direct_release r time) m s.view x }
+pub direct-step : {K : Type 0} → (first s t : SeatView K) (more : List TracedStep) (r time x : ℕ) (m : World)
+    → s ≡ record first { view = holding_still first.view s.view.owned.held more }
+    → t ≡ record s { view = view_after (direct_release r time) m s.view x }
     → t ≡ record first { view = holding_still first.view t.view.owned.held (release_item r time ∷ more) }
 direct-step {K} first s t more r time x m e p = p ∙ (ap (λ (z : SeatView K). record z { view = view_after (direct_release r time) m z.view x }) e
     ∙ (λ i. record first { view = holding_still first.view (sym held i) (release_item r time ∷ more) }))
@@ -82,7 +86,9 @@ direct-step {K} first s t more r time x m e p = p ∙ (ap (λ (z : SeatView K). 
     held = ap (λ (z : SeatView K). z.view.owned.held) p
 
 -- or gives back one later than it was
-pub up-step : {K : Type 0} → (first s t : SeatView K) (more : List TracedStep) (r version x : ℕ) (m : World) → s ≡ record first { view = holding_still first.view s.view.owned.held more } → t ≡ record s { view = view_after (direct_up r version) m s.view x }
+pub up-step : {K : Type 0} → (first s t : SeatView K) (more : List TracedStep) (r version x : ℕ) (m : World)
+    → s ≡ record first { view = holding_still first.view s.view.owned.held more }
+    → t ≡ record s { view = view_after (direct_up r version) m s.view x }
     → t ≡ record first { view = holding_still first.view t.view.owned.held (release_item r version ∷ more) }
 up-step {K} first s t more r version x m e p = p ∙ (ap (λ (z : SeatView K). record z { view = view_after (direct_up r version) m z.view x }) e
     ∙ (λ i. record first { view = holding_still first.view (sym held i) (release_item r version ∷ more) }))

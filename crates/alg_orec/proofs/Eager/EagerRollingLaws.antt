@@ -36,7 +36,9 @@ use Rattle.alg_orec.specs.EagerEnding.{restoring}
 use Rattle.alg_orec.specs.EagerNesting.{CanRestoreAfter, RestoresAfter, CanPlaceAgain, PlacesAgain}
 
 -- a word is stored again
-pub again-step : {K : Type 0} → (first s t : SeatView K) (more : List TracedStep) (a x y : ℕ) (m : World) → s ≡ record first { view = restoring first.view s.view.owned.in_place more } → t ≡ record s { view = view_after (orec_place a x) m s.view y }
+pub again-step : {K : Type 0} → (first s t : SeatView K) (more : List TracedStep) (a x y : ℕ) (m : World)
+    → s ≡ record first { view = restoring first.view s.view.owned.in_place more }
+    → t ≡ record s { view = view_after (orec_place a x) m s.view y }
     → t ≡ record first { view = restoring first.view t.view.owned.in_place (restore_item a x ∷ more) }
 again-step {K} first s t more a x y m e p = p ∙ (ap (λ (z : SeatView K). record z { view = view_after (orec_place a x) m z.view y }) e
     ∙ (λ j. record first { view = restoring first.view (sym in_place j) (restore_item a x ∷ more) }))
@@ -107,7 +109,16 @@ module _ {good : List ℕ → Type 0} {c : Config} {n : ℕ} {l : Local} {v : Vi
       }
         where
           opens-still : HasOpen u
-          opens-still = subst HasOpen (sym back.is) (record { has = record { runs = record { phase = a.inside.phase; algorithm = ap has_records eager; plain = k.optimistic.ungranted }; inside = k.inside }; open_yet = k.open_yet })
+          opens-still =
+              subst HasOpen (sym back.is)
+              (record {
+                has = record {
+                  runs =
+                      record { phase = a.inside.phase; algorithm = ap has_records eager; plain = k.optimistic.ungranted };
+                  inside = k.inside;
+                };
+                open_yet = k.open_yet;
+              })
 
       -- and have the values that they had at the mark
       module _ (w : View) (again : PlacesAgain log.items u w) (wrote : Bool) (some : wrote ≡ not (is_empty log.items)) where
@@ -133,7 +144,17 @@ module _ {good : List ℕ → Type 0} {c : Config} {n : ℕ} {l : Local} {v : Vi
 
             keeps : IsEager c m (after in_place)
             keeps = record {
-              optimistic = record { unlocked = k.optimistic.unlocked; unfixed = k.optimistic.unfixed; unwritten = k.optimistic.unwritten; uncommitted = k.optimistic.uncommitted; ungranted = k.optimistic.ungranted; not_quiescent = k.optimistic.not_quiescent; unstored = k.optimistic.unstored; rises = k.optimistic.rises };
+              optimistic =
+                  record {
+                    unlocked = k.optimistic.unlocked;
+                    unfixed = k.optimistic.unfixed;
+                    unwritten = k.optimistic.unwritten;
+                    uncommitted = k.optimistic.uncommitted;
+                    ungranted = k.optimistic.ungranted;
+                    not_quiescent = k.optimistic.not_quiescent;
+                    unstored = k.optimistic.unstored;
+                    rises = k.optimistic.rises;
+                  };
               inside = k.inside;
               eager = k.eager;
               open_yet = k.open_yet;
@@ -164,7 +185,10 @@ module _ {good : List ℕ → Type 0} {c : Config} {n : ℕ} {l : Local} {v : Vi
         inside = inside-at a log wrote d w.owned.in_place more (keeps-at w.owned.in_place again.in_place again.small)
 
         pub stands-rolled : Stands good c n (record l { writes = log; wrote = wrote; depth = d }) w
-        stands-rolled = stands-on good c n l m v w a.inside.phase a.stands refl refl (ap (λ (y : LogState). y.len) is ∙ a.stands.lengths.0, a.stands.lengths.1) (ap (λ (y : View). y.gate.holds) path) (subst (λ (y : View). IsInside good c n m y) (sym path) inside)
+        stands-rolled =
+            stands-on good c n l m v w a.inside.phase a.stands refl refl
+            (ap (λ (y : LogState). y.len) is ∙ a.stands.lengths.0, a.stands.lengths.1) (ap (λ (y : View). y.gate.holds) path)
+            (subst (λ (y : View). IsInside good c n m y) (sym path) inside)
 
         pub rolls-back : Rolls good c n d Rolled (known_of v (own_of l)) (known_of w (own_of (record l { writes = log; wrote = wrote; depth = d })))
         rolls-back = subst (λ (y : View). Rolls good c n d Rolled (known_of v (own_of l)) (known_of y (own_of m))) (sym path)

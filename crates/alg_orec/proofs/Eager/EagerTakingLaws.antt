@@ -75,7 +75,16 @@ module _ (good : (ℕ → ℕ) → Type 0) (c : Config) (n a : ℕ) (l : Local) 
     local = refl;
     seen = v.history.seen;
     more = load_of (Heap a) x ∷ [];
-    is = t.2 ∙ (λ i. record v { history = record v.history { front = can.front i }; attempt = record v.attempt { start = can.can.start i; reads = record { at = a; value = x } ∷ v.attempt.reads }; sample = no_sample; check = no_check; steps = record v.steps { step_trace = load_of (Heap a) x ∷ v.steps.step_trace } });
+    is =
+        t.2
+        ∙ (λ i.
+        record v {
+          history = record v.history { front = can.front i };
+          attempt = record v.attempt { start = can.can.start i; reads = record { at = a; value = x } ∷ v.attempt.reads };
+          sample = no_sample;
+          check = no_check;
+          steps = record v.steps { step_trace = load_of (Heap a) x ∷ v.steps.step_trace };
+        });
     moves = inl (sym can.can.start, refl);
     owed = inl (sym can.can.start);
     sees = t.1.sees.sees;
@@ -89,8 +98,18 @@ module _ (good : (ℕ → ℕ) → Type 0) (c : Config) (n a : ℕ) (l : Local) 
 -- THE RECORD
 module _ {c : Config} {a : ℕ} {l : Local} {v : View} (can : CanTake c a l v) where
   -- where nothing moved
-  stays : (sample : Sample) (check : Validation) (more : List TracedStep) → record v { sample = sample; check = check; steps = record v.steps { step_trace = more ++ v.steps.step_trace } } ≡ moved v l.start v.history.seen v.attempt.reads sample check more
-  stays sample check more = λ i. record v { history = record v.history { front = can.front i }; attempt = record v.attempt { start = can.can.start i }; sample = sample; check = check; steps = record v.steps { step_trace = more ++ v.steps.step_trace } }
+  stays : (sample : Sample) (check : Validation) (more : List TracedStep)
+      → record v { sample = sample; check = check; steps = record v.steps { step_trace = more ++ v.steps.step_trace } }
+      ≡ moved v l.start v.history.seen v.attempt.reads sample check more
+  stays sample check more =
+      λ i.
+      record v {
+        history = record v.history { front = can.front i };
+        attempt = record v.attempt { start = can.can.start i };
+        sample = sample;
+        check = check;
+        steps = record v.steps { step_trace = more ++ v.steps.step_trace };
+      }
 
   -- it is held already
   pub taken-before : {good : (ℕ → ℕ) → Type 0} {n : ℕ} → touches v.owned.held (home_of c a) ≡ true → HasTaken good c n a l v l v
@@ -150,7 +169,15 @@ module _ {good : (ℕ → ℕ) → Type 0} {c : Config} {n a : ℕ} {l : Local} 
   pub may-sample : CanLoadValid c a l s
   may-sample = subst (CanLoadValid c a l) (sym t.2) (let k = can.can in record {
     can = record {
-      opens = record { has = record { runs = record { phase = k.opens.has.runs.phase; algorithm = k.opens.has.runs.algorithm; plain = k.opens.has.runs.plain }; inside = k.opens.has.inside }; open_yet = k.opens.open_yet };
+      opens =
+          record {
+            has = record {
+              runs =
+                  record { phase = k.opens.has.runs.phase; algorithm = k.opens.has.runs.algorithm; plain = k.opens.has.runs.plain };
+              inside = k.opens.has.inside;
+            };
+            open_yet = k.opens.open_yet;
+          };
       start = k.start;
       reads = k.reads;
       locks = k.locks;
@@ -166,7 +193,12 @@ module _ {good : (ℕ → ℕ) → Type 0} {c : Config} {n a : ℕ} {l : Local} 
   -- what comes after the load of the clock, as seen from before it
   move-earlier : (start : ℕ) (seen : List Entry) (more : List TracedStep) → MayMove good c n start seen more timed → MayMove good c n start seen (more ++ load_of Clock clock ∷ []) v
   move-earlier start seen more (inl q) = inl q
-  move-earlier start seen more (inr q) = inr (Contains-append_left more (load_of Clock clock ∷ []) (load_of Clock start) q.0, (let m = q.1 in record { legal = m.legal; below = m.below; seen = m.seen; front = m.front; limit = m.limit; sees = m.sees }), q.2)
+  move-earlier start seen more (inr q) =
+      inr (
+        Contains-append_left more (load_of Clock clock ∷ []) (load_of Clock start) q.0,
+        (let m = q.1 in record { legal = m.legal; below = m.below; seen = m.seen; front = m.front; limit = m.limit; sees = m.sees }),
+        q.2,
+      )
 
   join : (more : List TracedStep) → more ++ (load_of Clock clock ∷ v.steps.step_trace) ≡ (more ++ load_of Clock clock ∷ []) ++ v.steps.step_trace
   join more = sym (append_assoc more (load_of Clock clock ∷ []) v.steps.step_trace)
@@ -201,7 +233,12 @@ module _ {good : (ℕ → ℕ) → Type 0} {c : Config} {n a : ℕ} {l : Local} 
       middle = k.2.middle;
       act = k.2.act;
       late = k.2.late;
-      step_trace = k.2.step_trace ∙ ap (λ (q : List TracedStep). k.2.late ++ record { place = Record index; act = k.2.act; found = Some after } ∷ (k.2.middle ++ record { place = Record index; act = Load; found = Some before } ∷ q)) (join k.2.early);
+      step_trace =
+          k.2.step_trace
+          ∙ ap (λ (q : List TracedStep).
+          k.2.late
+          ++ record { place = Record index; act = k.2.act; found = Some after }
+          ∷ (k.2.middle ++ record { place = Record index; act = Load; found = Some before } ∷ q)) (join k.2.early);
       untouched = k.2.untouched;
       refused = k.2.refused;
     },
@@ -217,7 +254,16 @@ module _ {good : (ℕ → ℕ) → Type 0} {c : Config} {n a : ℕ} {l : Local} 
         local = k.local;
         seen = k.seen;
         more = k.more ++ load_of Clock clock ∷ [];
-        is = k.is ∙ ap (λ (q : List TracedStep). record v { history = record v.history { seen = k.seen; front = m.start }; attempt = record v.attempt { start = m.start }; sample = w.sample; check = w.check; steps = record v.steps { step_trace = q } }) (join k.more);
+        is =
+            k.is
+            ∙ ap (λ (q : List TracedStep).
+            record v {
+              history = record v.history { seen = k.seen; front = m.start };
+              attempt = record v.attempt { start = m.start };
+              sample = w.sample;
+              check = w.check;
+              steps = record v.steps { step_trace = q };
+            }) (join k.more);
         moves = move-earlier m.start k.seen k.more k.moves;
         why = λ o p. conflicts-earlier cause o p w (k.why o p);
         others = k.others;
@@ -246,7 +292,16 @@ module _ {good : (ℕ → ℕ) → Type 0} {c : Config} {n a : ℕ} {l : Local} 
     at_sample check more = moved v m.start h.seen v.attempt.reads (sampled_at a (version_of word)) check more
 
     u_path : u ≡ at_sample u.check all
-    u_path = h.is ∙ ap (λ (q : List TracedStep). record v { history = record v.history { seen = h.seen; front = m.start }; attempt = record v.attempt { start = m.start }; sample = sampled_at a (version_of word); check = u.check; steps = record v.steps { step_trace = q } }) (join late)
+    u_path =
+        h.is
+        ∙ ap (λ (q : List TracedStep).
+        record v {
+          history = record v.history { seen = h.seen; front = m.start };
+          attempt = record v.attempt { start = m.start };
+          sample = sampled_at a (version_of word);
+          check = u.check;
+          steps = record v.steps { step_trace = q };
+        }) (join late)
 
     -- the start moved to the limit
     pub full-later : CLOCK_LIMIT ≤ m.start → FindsLimit good c n m.start l v m u
@@ -265,7 +320,13 @@ module _ {good : (ℕ → ℕ) → Type 0} {c : Config} {n a : ℕ} {l : Local} 
         by (inr q) = Contains-append_left late (load_of Clock clock ∷ []) (load_of Clock m.start) q.0
 
     open_at : (check : Validation) → HasOpen (at_sample check all)
-    open_at check = let o = can.can.opens in record { has = record { runs = record { phase = o.has.runs.phase; algorithm = o.has.runs.algorithm; plain = o.has.runs.plain }; inside = o.has.inside }; open_yet = o.open_yet }
+    open_at check =
+        let o = can.can.opens in
+        record {
+          has = record
+              { runs = record { phase = o.has.runs.phase; algorithm = o.has.runs.algorithm; plain = o.has.runs.plain }; inside = o.has.inside };
+          open_yet = o.open_yet;
+        }
 
     pub version-old : version_of word ≤ m.start
     version-old = h.old
@@ -287,7 +348,11 @@ module _ {good : (ℕ → ℕ) → Type 0} {c : Config} {n a : ℕ} {l : Local} 
       is_free = free-word word h.free
 
       others : found ≢ word → (h.late ≡ []) ⊎ (1 < c.callers) → 1 < c.callers
-      others apart (inl none) = moved-others c n low k.0 u found r word k.1 (ap (λ (y : View). left_at r y.steps.step_trace) h.is ∙ (ap (λ (q : List TracedStep). left_at r ((q ++ load_of (Record r) word ∷ []) ++ timed.steps.step_trace)) none ∙ left-found r word timed.steps.step_trace)) apart
+      others apart (inl none) =
+          moved-others c n low k.0 u found r word k.1
+          (ap (λ (y : View). left_at r y.steps.step_trace) h.is
+          ∙ (ap (λ (q : List TracedStep). left_at r ((q ++ load_of (Record r) word ∷ []) ++ timed.steps.step_trace)) none
+          ∙ left-found r word timed.steps.step_trace)) apart
       others apart (inr many) = many
 
       moves_all : MayMove good c n m.start h.seen (step ∷ all) v
@@ -389,7 +454,15 @@ module _ (c : Config) (a x : ℕ) (l : Local) (v : View) (can : CanStoreFirst c 
   module _ (old : ℕ) (s : View) (t : Tells (orec_save a) Nothing v old s) where
     pub may-place : CanOrecPlace a s
     may-place = subst (CanOrecPlace a) (sym t.2) (record {
-      opens = record { has = record { runs = record { phase = can.opens.has.runs.phase; algorithm = can.opens.has.runs.algorithm; plain = can.opens.has.runs.plain }; inside = can.opens.has.inside }; open_yet = can.opens.open_yet };
+      opens =
+          record {
+            has = record {
+              runs =
+                  record { phase = can.opens.has.runs.phase; algorithm = can.opens.has.runs.algorithm; plain = can.opens.has.runs.plain };
+              inside = can.opens.has.inside;
+            };
+            open_yet = can.opens.open_yet;
+          };
       eager = can.eager;
       undoable = (let q : (a == a) ≡ true = grind (arith, nat_tests) in ap (λ (b : Bool). if b then true else touches v.owned.undo a) q);
     })

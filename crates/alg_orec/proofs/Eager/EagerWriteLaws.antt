@@ -75,7 +75,13 @@ some-put a x (w ∷ ws) = by (w.0 == a)
 
 -- two steps of a seat, one after the other
 pub seat-then : {K : Type 0} → (s u w : SeatView K) → u ≡ record s { view = u.view } → w ≡ record u { view = w.view } → w ≡ record s { view = w.view }
-seat-then {K} s u w e f = λ j. record { who = (ap (λ (y : SeatView K). y.who) f ∙ ap (λ (y : SeatView K). y.who) e) j; view = w.view; gathered = (ap (λ (y : SeatView K). y.gathered) f ∙ ap (λ (y : SeatView K). y.gathered) e) j }
+seat-then {K} s u w e f =
+    λ j.
+    record {
+      who = (ap (λ (y : SeatView K). y.who) f ∙ ap (λ (y : SeatView K). y.who) e) j;
+      view = w.view;
+      gathered = (ap (λ (y : SeatView K). y.gathered) f ∙ ap (λ (y : SeatView K). y.gathered) e) j;
+    }
 
 -- the view after a store of x at a
 abbrev pub stored : View → ℕ → List Entry → List Cell → Sample → Validation → ℕ → ℕ → List Cell → List TracedStep → View
@@ -193,7 +199,9 @@ module _ (good : List ℕ → Type 0) (c : Config) (n : ℕ) (l : Local) (v : Vi
       inside = low;
     }
 
-    pub writes-refused : (a x : ℕ) (cause : Cause) (m : Local) (u w : View) → item_at a l.undo.items ≡ None → length l.undo.items ≢ l.undo.len → RefusesRead rule c n a cause l v m u → AbortsEager n u w → HasWritten good c n a x (writes.Conflict cause) (known_of v o) (known_of w o)
+    pub writes-refused : (a x : ℕ) (cause : Cause) (m : Local) (u w : View) → item_at a l.undo.items ≡ None
+        → length l.undo.items ≢ l.undo.len → RefusesRead rule c n a cause l v m u → AbortsEager n u w
+        → HasWritten good c n a x (writes.Conflict cause) (known_of v o) (known_of w o)
     writes-refused a x cause m u w none room h g = (
       laws.quits-moved good c n l v runs m.start h.seen v.attempt.reads u.sample u.check h.more w h.moves (subst (λ (y : View). AbortsEager n y w) h.is g),
       subst (λ (y : View). Conflicts c n (ForWord a) cause (known_of v o) (known_of y o)) (sym g.is)
@@ -206,9 +214,14 @@ module _ (good : List ℕ → Type 0) (c : Config) (n : ℕ) (l : Local) (v : Vi
         more = step_trace-left n u g.before g.unmade.carried
 
     pub may-take-full : (clock : ℕ) (m : Local) (u : View) → FindsLimit rule c n clock l v m u → CanAbortEager c m u
-    may-take-full clock m u h = subst (CanAbortEager c m) (sym h.is) (laws.may-take good c n l v runs m m.start h.seen v.attempt.reads u.sample u.check h.more (ap (λ (q : Local). q.locks) h.local) (ap (λ (q : Local). q.undo) h.local))
+    may-take-full clock m u h =
+        subst (CanAbortEager c m) (sym h.is)
+        (laws.may-take good c n l v runs m m.start h.seen v.attempt.reads u.sample u.check h.more (ap (λ (q : Local). q.locks) h.local)
+        (ap (λ (q : Local). q.undo) h.local))
 
-    pub writes-limit : (a x clock : ℕ) (m : Local) (u w : View) → item_at a l.undo.items ≡ None → length l.undo.items ≢ l.undo.len → FindsLimit rule c n clock l v m u → AbortsEager n u w → HasWritten good c n a x (writes.ClockFull clock) (known_of v o) (known_of w o)
+    pub writes-limit : (a x clock : ℕ) (m : Local) (u w : View) → item_at a l.undo.items ≡ None → length l.undo.items ≢ l.undo.len
+        → FindsLimit rule c n clock l v m u → AbortsEager n u w
+        → HasWritten good c n a x (writes.ClockFull clock) (known_of v o) (known_of w o)
     writes-limit a x clock m u w none room h g = let more = proving.ended-by n u w g in (
       laws.quits-moved good c n l v runs m.start h.seen v.attempt.reads u.sample u.check h.more w h.moves (subst (λ (y : View). AbortsEager n y w) h.is g),
       ap asks_at_write eager,
@@ -229,14 +242,17 @@ module _ (good : List ℕ → Type 0) (c : Config) (n : ℕ) (l : Local) (v : Vi
     may-take-refusal a (writes.Full limit) m u h = absurd h
     may-take-refusal a (writes.ClockFull clock) m u h = may-take-full clock m u h
 
-    pub writes-refusal : (a x : ℕ) (refusal : Write) (m : Local) (u w : View) → item_at a l.undo.items ≡ None → length l.undo.items ≢ l.undo.len → RefusesTake rule c n a refusal l v m u → AbortsEager n u w → HasWritten good c n a x refusal (known_of v o) (known_of w o)
+    pub writes-refusal : (a x : ℕ) (refusal : Write) (m : Local) (u w : View) → item_at a l.undo.items ≡ None
+        → length l.undo.items ≢ l.undo.len → RefusesTake rule c n a refusal l v m u → AbortsEager n u w
+        → HasWritten good c n a x refusal (known_of v o) (known_of w o)
     writes-refusal a x writes.Done m u w none room h g = absurd h
     writes-refusal a x (writes.Conflict cause) m u w none room h g = writes-refused a x cause m u w none room h g
     writes-refusal a x (writes.Full limit) m u w none room h g = absurd h
     writes-refusal a x (writes.ClockFull clock) m u w none room h g = writes-limit a x clock m u w none room h g
 
     -- THE STORES: of a word under a record that was taken, or was held
-    pub may-store : (a : ℕ) (m : Local) (u : View) → fenced v.gate.fence a ≡ false → HasRoom l → item_at a l.writes.items ≡ None → item_at a l.undo.items ≡ None → length l.undo.items ≢ l.undo.len → HasTaken rule c n a l v m u → CanStoreFirst c a m u
+    pub may-store : (a : ℕ) (m : Local) (u : View) → fenced v.gate.fence a ≡ false → HasRoom l → item_at a l.writes.items ≡ None
+        → item_at a l.undo.items ≡ None → length l.undo.items ≢ l.undo.len → HasTaken rule c n a l v m u → CanStoreFirst c a m u
     may-store a m u spared lengths none new room h = subst (λ (y : View). CanStoreFirst c a m y) (sym h.is) (subst (λ (q : Local). CanStoreFirst c a q (laws_taken)) (sym h.local) (record {
       opens = record { has = record { runs = record { phase = i.phase; algorithm = ap has_records eager; plain = ungranted }; inside = k.inside }; open_yet = k.open_yet };
       eager = k.eager;
@@ -253,9 +269,18 @@ module _ (good : List ℕ → Type 0) (c : Config) (n : ℕ) (l : Local) (v : Vi
         low = let most = k.most in grind (arith, room, most)
 
         laws_taken : View
-        laws_taken = record v { history = record v.history { seen = h.seen; front = m.start }; attempt = record v.attempt { start = m.start }; owned = record v.owned { held = h.held }; sample = h.sample; check = h.check; steps = record v.steps { step_trace = h.more ++ v.steps.step_trace } }
+        laws_taken =
+            record v {
+              history = record v.history { seen = h.seen; front = m.start };
+              attempt = record v.attempt { start = m.start };
+              owned = record v.owned { held = h.held };
+              sample = h.sample;
+              check = h.check;
+              steps = record v.steps { step_trace = h.more ++ v.steps.step_trace };
+            }
 
-    pub stores-first : (a x : ℕ) (m q : Local) (u w : View) → a < c.words → item_at a l.writes.items ≡ None → item_at a l.undo.items ≡ None → length l.undo.items < l.undo.len → HasTaken rule c n a l v m u → StoresFirst a x m u q w → Stores a x q w
+    pub stores-first : (a x : ℕ) (m q : Local) (u w : View) → a < c.words → item_at a l.writes.items ≡ None → item_at a l.undo.items ≡ None
+        → length l.undo.items < l.undo.len → HasTaken rule c n a l v m u → StoresFirst a x m u q w → Stores a x q w
     stores-first a x m q u w low none new space h s = record {
       local = by;
       seen = h.seen;
@@ -264,7 +289,12 @@ module _ (good : List ℕ → Type 0) (c : Config) (n : ℕ) (l : Local) (v : Vi
       check = h.check;
       undo = record { at = a; value = s.old } ∷ v.owned.undo;
       more = s.more ++ h.more;
-      is = s.is ∙ (ap (λ (y : View). record y { owned = record y.owned { in_place = record { at = a; value = x } ∷ y.owned.in_place; undo = record { at = a; value = s.old } ∷ y.owned.undo }; steps = record y.steps { step_trace = s.more ++ y.steps.step_trace } }) h.is
+      is = s.is ∙ (ap (λ (y : View).
+          record y {
+            owned = record y.owned
+                { in_place = record { at = a; value = x } ∷ y.owned.in_place; undo = record { at = a; value = s.old } ∷ y.owned.undo };
+            steps = record y.steps { step_trace = s.more ++ y.steps.step_trace };
+          }) h.is
           ∙ ((λ j. stored_at (sym start_is j) (sym (append_assoc s.more h.more v.steps.step_trace) j))));
       moves = moves_all;
       owed = owed-later c a q.start h.more s.more v (subst (λ (t : ℕ). MovesOwed c a t h.more v) (sym start_is) h.owed);
@@ -332,7 +362,14 @@ module _ (good : List ℕ → Type 0) (c : Config) (n : ℕ) (l : Local) (v : Vi
         -- the descriptor's fields, one after the other
         by : q ≡ record l { start = q.start; locks = q.locks; undo = q.undo; writes = q.writes; wrote = true }
         by = s.local ∙ ap (λ (p : Local). record p { undo = record m.undo { items = m.undo.items ++ (a, s.old) ∷ [] }; writes = record m.writes { items = m.writes.items ++ (a, x) ∷ [] }; wrote = true }) h.local
-            ∙ sym (λ j. record l { start = ap (λ (p : Local). p.start) s.local j; locks = ap (λ (p : Local). p.locks) s.local j; undo = ap (λ (p : Local). p.undo) s.local j; writes = ap (λ (p : Local). p.writes) s.local j; wrote = true })
+            ∙ sym (λ j.
+            record l {
+              start = ap (λ (p : Local). p.start) s.local j;
+              locks = ap (λ (p : Local). p.locks) s.local j;
+              undo = ap (λ (p : Local). p.undo) s.local j;
+              writes = ap (λ (p : Local). p.writes) s.local j;
+              wrote = true;
+            })
 
     pub may-place : (a : ℕ) → is_some (item_at a l.undo.items) ≡ true → CanOrecPlace a v
     may-place a there = record {
@@ -342,7 +379,9 @@ module _ (good : List ℕ → Type 0) (c : Config) (n : ℕ) (l : Local) (v : Vi
     }
 
     -- of a word whose old value is kept
-    pub stores-again : (a x : ℕ) (log : LogState) (p : Push) (w : View) → HasRoom l → is_some (item_at a l.undo.items) ≡ true → Tells (orec_place a x) Nothing v x w → Pushes l.writes a (put a x l.writes.items) p log → Stores a x (record l { writes = log; wrote = true }) w
+    pub stores-again : (a x : ℕ) (log : LogState) (p : Push) (w : View) → HasRoom l → is_some (item_at a l.undo.items) ≡ true
+        → Tells (orec_place a x) Nothing v x w → Pushes l.writes a (put a x l.writes.items) p log
+        → Stores a x (record l { writes = log; wrote = true }) w
     stores-again a x log pushes.Done w room there t push = record {
       local = refl;
       seen = v.history.seen;
@@ -351,7 +390,15 @@ module _ (good : List ℕ → Type 0) (c : Config) (n : ℕ) (l : Local) (v : Vi
       check = v.check;
       undo = v.owned.undo;
       more = record { place = Heap a; act = Store x; found = None } ∷ [];
-      is = t.2 ∙ (λ j. record v { history = record v.history { front = i.front j }; attempt = record v.attempt { start = i.start j }; owned = record v.owned { in_place = record { at = a; value = x } ∷ v.owned.in_place }; steps = record v.steps { step_trace = record { place = Heap a; act = Store x; found = None } ∷ v.steps.step_trace } });
+      is =
+          t.2
+          ∙ (λ j.
+          record v {
+            history = record v.history { front = i.front j };
+            attempt = record v.attempt { start = i.start j };
+            owned = record v.owned { in_place = record { at = a; value = x } ∷ v.owned.in_place };
+            steps = record v.steps { step_trace = record { place = Heap a; act = Store x; found = None } ∷ v.steps.step_trace };
+          });
       moves = inl (sym i.start, refl);
       owed = inl (sym i.start);
       locks = k.locks;
@@ -391,9 +438,21 @@ module _ (good : List ℕ → Type 0) (c : Config) (n : ℕ) (l : Local) (v : Vi
 
       grown : Grows (known_of v o) (known_of y p)
       grown = let g = records.grown (laws.reading good c n l v runs) q.start s.seen s.more s.moves v.attempt.reads s.sample s.check p (ap (λ (d : Local). d.reads.len) s.local) s.undo_len in
-          record { later = g.later; is = g.is; ascending = g.ascending; up_to = g.up_to; front_rose = g.front_rose; more = g.more; step_trace = g.step_trace; reads_limit = g.reads_limit; writes_limit = g.writes_limit; fenced = g.fenced }
+          record {
+            later = g.later;
+            is = g.is;
+            ascending = g.ascending;
+            up_to = g.up_to;
+            front_rose = g.front_rose;
+            more = g.more;
+            step_trace = g.step_trace;
+            reads_limit = g.reads_limit;
+            writes_limit = g.writes_limit;
+            fenced = g.fenced;
+          }
 
-      start-moves : MayMove rule c n q.start s.seen s.more v → MovesOwed c a q.start s.more v → (q.start ≡ v.attempt.start) ⊎ (Found Clock q.start (known_of v o) (known_of y p) × FindsNewer c a (known_of v o) (known_of y p))
+      start-moves : MayMove rule c n q.start s.seen s.more v → MovesOwed c a q.start s.more v
+          → (q.start ≡ v.attempt.start) ⊎ (Found Clock q.start (known_of v o) (known_of y p) × FindsNewer c a (known_of v o) (known_of y p))
       start-moves (inl e) d = inl e.0
       start-moves (inr e) (inl d) = inl d
       start-moves (inr e) (inr d) = inr ((s.more, refl, Load, e.0), records.newer-shown c a s.more v y o p refl d)
@@ -404,7 +463,21 @@ module _ (good : List ℕ → Type 0) (c : Config) (n : ℕ) (l : Local) (v : Vi
       pub writes-done : writes_full a (known_of v o) ≡ false → HasWritten good c n a x writes.Done (known_of v o) (known_of w p)
       writes-done room = subst (λ (z : View). HasWritten good c n a x writes.Done (known_of v o) (known_of z p)) (sym s.is) (
         record {
-          continues = record { running = ap is_in i.phase; closing = ap is_closing i.phase; made = refl; grows = grown; alg = refl; fence = refl; base = refl; rises = (omega arith, omega arith); later = records.begins (laws.reading good c n l v runs) q.start s.seen s.more s.moves; installs = refl; depth = ap (λ (d : Local). d.depth) s.local; locked = inl refl };
+          continues =
+              record {
+                running = ap is_in i.phase;
+                closing = ap is_closing i.phase;
+                made = refl;
+                grows = grown;
+                alg = refl;
+                fence = refl;
+                base = refl;
+                rises = (omega arith, omega arith);
+                later = records.begins (laws.reading good c n l v runs) q.start s.seen s.more s.moves;
+                installs = refl;
+                depth = ap (λ (d : Local). d.depth) s.local;
+                locked = inl refl;
+              };
           start = subst (λ (b : Alg). StartMoves c (ForWord a) b (known_of v o) (known_of y p)) (sym eager) (start-moves s.moves s.owed);
           granted = refl;
           holds = refl;
@@ -413,7 +486,9 @@ module _ (good : List ℕ → Type 0) (c : Config) (n : ℕ) (l : Local) (v : Vi
         },
         ap (λ (d : Local). d.committing) s.local ∙ quiet,
         (refl, λ b. ap (item_at b) wrote-put),
-        opaque-at good c n y p q.start refl refl (records.legal-at (laws.reading good c n l v runs) q.start s.seen s.more s.moves) (records.below-at (laws.reading good c n l v runs) q.start s.seen s.more s.moves) (records.sees-at (laws.reading good c n l v runs) q.start s.seen s.more s.moves) i.reads_inside,
+        opaque-at good c n y p q.start refl refl (records.legal-at (laws.reading good c n l v runs) q.start s.seen s.more s.moves)
+            (records.below-at (laws.reading good c n l v runs) q.start s.seen s.more s.moves)
+            (records.sees-at (laws.reading good c n l v runs) q.start s.seen s.more s.moves) i.reads_inside,
         room,
         ap (λ (b : Alg). kept_under b y p) eager ∙ s.kept,
         λ tml free. absurd (let no : OrecEager ≡ Tml = sym eager ∙ tml in cc),
@@ -439,7 +514,17 @@ module _ (good : List ℕ → Type 0) (c : Config) (n : ℕ) (l : Local) (v : Vi
         steady = i.steady;
         spared = record { is = i.spared.is; fits = i.spared.fits };
         keeps = keeps-eager (record {
-          optimistic = record { unlocked = k.optimistic.unlocked; unfixed = k.optimistic.unfixed; unwritten = k.optimistic.unwritten; uncommitted = k.optimistic.uncommitted; ungranted = ungranted; not_quiescent = k.optimistic.not_quiescent; unstored = k.optimistic.unstored; rises = k.optimistic.rises };
+          optimistic =
+              record {
+                unlocked = k.optimistic.unlocked;
+                unfixed = k.optimistic.unfixed;
+                unwritten = k.optimistic.unwritten;
+                uncommitted = k.optimistic.uncommitted;
+                ungranted = ungranted;
+                not_quiescent = k.optimistic.not_quiescent;
+                unstored = k.optimistic.unstored;
+                rises = k.optimistic.rises;
+              };
           inside = k.inside;
           eager = k.eager;
           open_yet = k.open_yet;

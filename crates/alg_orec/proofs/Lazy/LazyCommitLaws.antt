@@ -83,7 +83,17 @@ module _ (good : List ℕ → Type 0) (c : Config) (n : ℕ) (low : n < c.caller
 
   pub may-lock_all : l.committing ≡ false → 0 < c.records → CanLockAll c l v
   may-lock_all free records = record {
-    can = record { opens = record { has = record { runs = record { phase = i.phase; algorithm = ap has_records lazy; plain = k.optimistic.ungranted }; inside = k.inside }; open_yet = k.open_yet }; lazy = k.lazy; unraised = k.unraised; locks = k.locks };
+    can =
+        record {
+          opens = record {
+            has =
+                record { runs = record { phase = i.phase; algorithm = ap has_records lazy; plain = k.optimistic.ungranted }; inside = k.inside };
+            open_yet = k.open_yet;
+          };
+          lazy = k.lazy;
+          unraised = k.unraised;
+          locks = k.locks;
+        };
     none = k.open_handed free;
     lengths = (let e = can.lengths.0 in let h = can.lengths.1 in omega arith);
     records = records;
@@ -104,7 +114,9 @@ module _ (good : List ℕ → Type 0) (c : Config) (n : ℕ) (low : n < c.caller
   }
 
   -- an attempt that holds records can be taken back
-  pub can-roll : (m : Local) (y : View) (held : List Cell) (check : Validation) (more : List TracedStep) → y ≡ record (holding_still v held more) { check = check } → m.locks.items ≡ items held → Inside c.records held → ((r : ℕ) → touches held r ≡ true → over held r 0 ≤ CLOCK_LIMIT) → CanAbortLazy c m y
+  pub can-roll : (m : Local) (y : View) (held : List Cell) (check : Validation) (more : List TracedStep)
+      → y ≡ record (holding_still v held more) { check = check } → m.locks.items ≡ items held → Inside c.records held
+      → ((r : ℕ) → touches held r ≡ true → over held r 0 ≤ CLOCK_LIMIT) → CanAbortLazy c m y
   can-roll m y held check more is locks places versions = subst (CanAbortLazy c m) (sym is) (record {
     opens = record { has = record { runs = record { phase = i.phase; algorithm = ap has_records lazy; plain = k.optimistic.ungranted }; inside = k.inside }; open_yet = k.open_yet };
     lazy = k.lazy;
@@ -130,7 +142,9 @@ module _ (good : List ℕ → Type 0) (c : Config) (n : ℕ) (low : n < c.caller
     abbrev y : View
     y = readied v seen start held loaded check more
 
-    pub stays-ready : locks.items ≡ items held → Inside c.records held → length locks.items ≤ l.writes.len → ((r : ℕ) → touches held r ≡ true → over held r 0 ≤ CLOCK_LIMIT) → ((a : ℕ) → touches (cells_of l.writes.items) a ≡ true → touches held (home_of c a) ≡ true)
+    pub stays-ready : locks.items ≡ items held → Inside c.records held → length locks.items ≤ l.writes.len
+        → ((r : ℕ) → touches held r ≡ true → over held r 0 ≤ CLOCK_LIMIT)
+        → ((a : ℕ) → touches (cells_of l.writes.items) a ≡ true → touches held (home_of c a) ≡ true)
         → ((r : ℕ) → touches held r ≡ true → over held r 0 ≤ start) → check.checking ≡ false → Legal (of_words good c.words) c seen → Below seen (start + 1) → Explains (word_now seen) v.attempt.reads
         → (c.callers ≡ 1 → start ≡ c.clock + v.steps.rises_at_begin) → IsInside good c n in_commit y
     stays-ready logs places few versions covered olds unchecked legal below sees sole = record {
@@ -218,7 +232,9 @@ module _ (good : List ℕ → Type 0) (c : Config) (n : ℕ) (low : n < c.caller
       path = h.is ∙ (λ j. record (holding_still v u.owned.held e.more) { history = record v.history { front = (i.front ∙ sym start) j }; attempt = record v.attempt { start = (i.start ∙ sym start) j } })
 
   -- where all reads were validated
-  pub ready-valid : (m q : Local) (u w : View) (more : List TracedStep) → Holds c n l v m u more → ((a : ℕ) → touches (cells_of l.writes.items) a ≡ true → touches u.owned.held (home_of c a) ≡ true) → Owed good c n l v w → IsValid c n (of_words good c.words) m u q w → IsReady good c n l v q w
+  pub ready-valid : (m q : Local) (u w : View) (more : List TracedStep) → Holds c n l v m u more
+      → ((a : ℕ) → touches (cells_of l.writes.items) a ≡ true → touches u.owned.held (home_of c a) ≡ true) → Owed good c n l v w
+      → IsValid c n (of_words good c.words) m u q w → IsReady good c n l v q w
   ready-valid m q u w more h covered due valid = record {
     local = whole;
     len = ap (λ (p : Local). p.locks.len) valid.local ∙ h.len;
@@ -229,7 +245,9 @@ module _ (good : List ℕ → Type 0) (c : Config) (n : ℕ) (low : n < c.caller
     more = valid.more ++ more;
     is = path;
     stays = subst (λ (p : Local). IsInside good c n (record p { committing = true }) w) (sym whole) (subst (IsInside good c n (record l { start = q.start; locks = q.locks; committing = true })) (sym path)
-        (stays-ready q.start q.locks valid.history u.owned.held false no_check (valid.more ++ more) (ap (λ (p : Local). p.locks.items) valid.local ∙ h.locks) h.places (let e = ap (λ (p : Local). length p.locks.items) valid.local in let f = h.few in omega arith) h.versions covered valid.olds refl
+        (stays-ready q.start q.locks valid.history u.owned.held false no_check (valid.more ++ more)
+        (ap (λ (p : Local). p.locks.items) valid.local ∙ h.locks) h.places
+        (let e = ap (λ (p : Local). length p.locks.items) valid.local in let f = h.few in omega arith) h.versions covered valid.olds refl
         valid.moves.legal valid.moves.below (subst (Explains (word_now valid.history)) (ap (λ (y : View). y.attempt.reads) h.is) valid.moves.sees)
         (λ one. let s = valid.sole one in let r = ap (λ (y : View). y.steps.rises) h.is in let b = k.optimistic.rises in omega arith)));
     grows = λ o. subst (λ (y : View). Grows (known_of v o) (known_of y o)) (sym path) (grown o);
@@ -241,7 +259,14 @@ module _ (good : List ℕ → Type 0) (c : Config) (n : ℕ) (low : n < c.caller
       whole = valid.local ∙ (ap (λ (p : Local). record p { start = q.start }) h.local ∙ (λ j. record l { start = q.start; locks = sym (ap (λ (p : Local). p.locks) valid.local) j }))
 
       path : w ≡ readied v valid.history q.start u.owned.held false no_check (valid.more ++ more)
-      path = valid.is ∙ (ap (λ (y : View). record y { history = record y.history { seen = valid.history; front = q.start }; attempt = record y.attempt { start = q.start }; sample = record y.sample { loaded = false }; check = no_check; steps = record y.steps { step_trace = valid.more ++ y.steps.step_trace } }) h.is
+      path = valid.is ∙ (ap (λ (y : View).
+          record y {
+            history = record y.history { seen = valid.history; front = q.start };
+            attempt = record y.attempt { start = q.start };
+            sample = record y.sample { loaded = false };
+            check = no_check;
+            steps = record y.steps { step_trace = valid.more ++ y.steps.step_trace };
+          }) h.is
           ∙ ap (λ (t : List TracedStep). record (readied v valid.history q.start u.owned.held false no_check []) { steps = record v.steps { step_trace = t } }) (sym (append_assoc valid.more more v.steps.step_trace)))
 
       front_is : u.history.front ≡ v.history.front
@@ -278,7 +303,20 @@ module _ (good : List ℕ → Type 0) (c : Config) (n : ℕ) (low : n < c.caller
     few = h.few;
     can = can-roll m u u.owned.held v.check (s.last ++ s.before) h.is h.locks h.places h.versions;
     gate = ap (λ (y : View). y.gate) h.is;
-    unmade = subst (IsUnmade v) (sym h.is) (record { carried = record { named = refl; base = refl; installs = refl; fence = refl; step_trace = (s.last ++ s.before, refl); unlocked = k.optimistic.unlocked; unwritten = k.optimistic.unwritten }; history = refl });
+    unmade =
+        subst (IsUnmade v) (sym h.is)
+        (record {
+          carried = record {
+            named = refl;
+            base = refl;
+            installs = refl;
+            fence = refl;
+            step_trace = (s.last ++ s.before, refl);
+            unlocked = k.optimistic.unlocked;
+            unwritten = k.optimistic.unwritten;
+          };
+          history = refl;
+        });
     rises = ap (λ (y : View). y.steps.rises) h.is;
     conflicts = λ o e mid. why cause o e s.last step_trace s.why;
     others = others_of cause s.last s.why;
@@ -293,7 +331,9 @@ module _ (good : List ℕ → Type 0) (c : Config) (n : ℕ) (low : n < c.caller
       records : has_records v.gate.algorithm ≡ true
       records = ap has_records lazy
 
-      why : (cause : causes.the_data) (o : Own) → o.buffered ≡ cells_of l.writes.items → (last : List TracedStep) → u.steps.step_trace ≡ (last ++ s.before) ++ v.steps.step_trace → IsRefused c n (home_of c s.a) cause l.start last → Conflicts c n ToCommit cause (known_of v o) (known_of u o)
+      why : (cause : causes.the_data) (o : Own) → o.buffered ≡ cells_of l.writes.items → (last : List TracedStep)
+          → u.steps.step_trace ≡ (last ++ s.before) ++ v.steps.step_trace → IsRefused c n (home_of c s.a) cause l.start last
+          → Conflicts c n ToCommit cause (known_of v o) (known_of u o)
       why (causes.Clock had now) o e last t f = absurd f
       why (causes.Record index word start) o e last t f = (
         records,
@@ -302,7 +342,9 @@ module _ (good : List ℕ → Type 0) (c : Config) (n : ℕ) (low : n < c.caller
           early = s.before;
           act = Load;
           late = [];
-          step_trace = t ∙ ap (λ (is : List TracedStep). (is ++ s.before) ++ v.steps.step_trace) f.2.last ∙ ap (λ (r : ℕ). record { place = Record r; act = Load; found = Some word } ∷ (s.before ++ v.steps.step_trace)) (sym f.0);
+          step_trace =
+              t ∙ ap (λ (is : List TracedStep). (is ++ s.before) ++ v.steps.step_trace) f.2.last
+              ∙ ap (λ (r : ℕ). record { place = Record r; act = Load; found = Some word } ∷ (s.before ++ v.steps.step_trace)) (sym f.0);
           untouched = subst (λ (r : ℕ). Untouched (Record r) s.before) (sym f.0) s.untouched;
         },
         inl ((s.a, f.0, has_written o s.a e s.written), (f.2.owned, f.2.other)),
@@ -316,7 +358,9 @@ module _ (good : List ℕ → Type 0) (c : Config) (n : ℕ) (low : n < c.caller
           middle = [];
           act = Exchange (free_record g.version) (owned_record n);
           late = [];
-          step_trace = t ∙ ap (λ (is : List TracedStep). (is ++ s.before) ++ v.steps.step_trace) g.last ∙ ap (λ (r : ℕ). lock_item n r g.version after ∷ load_of (Record r) before ∷ (s.before ++ v.steps.step_trace)) (sym f.0);
+          step_trace =
+              t ∙ ap (λ (is : List TracedStep). (is ++ s.before) ++ v.steps.step_trace) g.last
+              ∙ ap (λ (r : ℕ). lock_item n r g.version after ∷ load_of (Record r) before ∷ (s.before ++ v.steps.step_trace)) (sym f.0);
           untouched = tt;
           refused = let p = g.apart in let q = g.free in grind (arith, nat_tests);
         },
@@ -333,14 +377,22 @@ module _ (good : List ℕ → Type 0) (c : Config) (n : ℕ) (low : n < c.caller
 
   -- or a read that isn't valid
   module _ (m : Local) (u w : View) (more : List TracedStep) (h : Holds c n l v m u more) (free : (r : ℕ) → touches u.owned.held r ≡ true → l.start < over u.owned.held r 0 → WasFree r (over u.owned.held r 0) more)
-      (apart : (r : ℕ) → touches u.owned.held r ≡ false → Untouched (Record r) more) (sole : (r : ℕ) → touches u.owned.held r ≡ true → l.start < over u.owned.held r 0 → c.callers ≡ 1 → over u.owned.held r 0 ≤ c.clock + v.steps.rises) where
+      (apart : (r : ℕ) → touches u.owned.held r ≡ false → Untouched (Record r) more) (sole : (r : ℕ) → touches u.owned.held r ≡ true
+      → l.start < over u.owned.held r 0 → c.callers ≡ 1 → over u.owned.held r 0 ≤ c.clock + v.steps.rises) where
     start_is : u.attempt.start ≡ l.start
     start_is = ap (λ (y : View). y.attempt.start) h.is ∙ i.start
 
     stale_path : (index word start : ℕ) (s : IsStale c n index word start u w) → w ≡ record (holding_still v u.owned.held (s.more ++ more)) { check = w.check }
-    stale_path index word start s = s.is ∙ (ap (λ (y : View). record y { check = w.check; steps = record y.steps { step_trace = s.more ++ y.steps.step_trace } }) h.is ∙ ap (λ (t : List TracedStep). record (holding_still v u.owned.held []) { check = w.check; steps = record v.steps { step_trace = t } }) (sym (append_assoc s.more more v.steps.step_trace)))
+    stale_path index word start s =
+        s.is
+        ∙ (ap (λ (y : View). record y { check = w.check; steps = record y.steps { step_trace = s.more ++ y.steps.step_trace } }) h.is
+        ∙ ap
+        (λ (t : List TracedStep). record (holding_still v u.owned.held []) { check = w.check; steps = record v.steps { step_trace = t } })
+        (sym (append_assoc s.more more v.steps.step_trace)))
 
-    stale-conflicts : (index word start : ℕ) → IsStale c n index word start u w → (o : Own) → OwesValidation c ToCommit (known_of v o) (known_of w o) → Conflicts c n ToCommit (causes.Record index word start) (known_of v o) (known_of w o) × (1 < c.callers)
+    stale-conflicts : (index word start : ℕ) → IsStale c n index word start u w → (o : Own)
+        → OwesValidation c ToCommit (known_of v o) (known_of w o)
+        → Conflicts c n ToCommit (causes.Record index word start) (known_of v o) (known_of w o) × (1 < c.callers)
     stale-conflicts index word start s o due = by s.why
       where
         step_trace : w.steps.step_trace ≡ (s.more ++ more) ++ v.steps.step_trace
@@ -376,10 +428,24 @@ module _ (good : List ℕ → Type 0) (c : Config) (n : ℕ) (low : n < c.caller
               early = g.early;
               act = Load;
               late = s.more ++ g.late;
-              step_trace = step_trace ∙ (ap (λ (is : List TracedStep). (s.more ++ is) ++ v.steps.step_trace) g.is ∙ (ap (λ (x : ℕ). (s.more ++ (g.late ++ load_of (Record index) x ∷ g.early)) ++ v.steps.step_trace) (sym f.word) ∙ apart_lists s.more g.late g.early v.steps.step_trace (load_of (Record index) word)));
+              step_trace =
+                  step_trace
+                  ∙ (ap (λ (is : List TracedStep). (s.more ++ is) ++ v.steps.step_trace) g.is
+                  ∙ (ap (λ (x : ℕ). (s.more ++ (g.late ++ load_of (Record index) x ∷ g.early)) ++ v.steps.step_trace) (sym f.word)
+                  ∙ apart_lists s.more g.late g.early v.steps.step_trace (load_of (Record index) word)));
               untouched = g.untouched;
             },
-            inr (due, (s.a, s.home, read), inr (ap is_owned f.word ∙ is_owned-free (over u.owned.held index 0), (let a = f.newer in let e = from in let b : version_of word ≡ over u.owned.held index 0 = ap version_of f.word ∙ version_of-free (over u.owned.held index 0) in omega arith))),
+            inr (
+              due,
+              (s.a, s.home, read),
+              inr (
+                ap is_owned f.word ∙ is_owned-free (over u.owned.held index 0),
+                (let a = f.newer in
+                    let e = from in
+                    let b : version_of word ≡ over u.owned.held index 0 = ap version_of f.word ∙ version_of-free (over u.owned.held index 0) in
+                    omega arith),
+              ),
+            ),
           ),
           others-by n c.callers low (λ one. let a = sole index f.held newer one in let b = k.sole one in let d = k.optimistic.rises in omega arith),
         )
@@ -392,7 +458,20 @@ module _ (good : List ℕ → Type 0) (c : Config) (n : ℕ) (low : n < c.caller
       few = h.few;
       can = can-roll m w u.owned.held w.check (s.more ++ more) path h.locks h.places h.versions;
       gate = ap (λ (y : View). y.gate) path;
-      unmade = subst (IsUnmade v) (sym path) (record { carried = record { named = refl; base = refl; installs = refl; fence = refl; step_trace = (s.more ++ more, refl); unlocked = k.optimistic.unlocked; unwritten = k.optimistic.unwritten }; history = refl });
+      unmade =
+          subst (IsUnmade v) (sym path)
+          (record {
+            carried = record {
+              named = refl;
+              base = refl;
+              installs = refl;
+              fence = refl;
+              step_trace = (s.more ++ more, refl);
+              unlocked = k.optimistic.unlocked;
+              unwritten = k.optimistic.unwritten;
+            };
+            history = refl;
+          });
       rises = ap (λ (y : View). y.steps.rises) path;
       conflicts = λ o e mid. (stale-conflicts index word start s o (due o e mid)).0;
       others = (stale-conflicts index word start s (own_of l) (due (own_of l) refl refl)).1;
@@ -402,9 +481,12 @@ module _ (good : List ℕ → Type 0) (c : Config) (n : ℕ) (low : n < c.caller
     stopped-validating (causes.Overrun start clock) due s = absurd s
 
   -- THE VALIDATION behind the locks, or in a later call
-  pub after-validate : (res : Result (Unit {0}) causes.the_data) (m q : Local) (u w : View) (more : List TracedStep) → Holds c n l v m u more → ((a : ℕ) → touches (cells_of l.writes.items) a ≡ true → touches u.owned.held (home_of c a) ≡ true)
+  pub after-validate : (res : Result (Unit {0}) causes.the_data) (m q : Local) (u w : View) (more : List TracedStep)
+      → Holds c n l v m u more → ((a : ℕ) → touches (cells_of l.writes.items) a ≡ true → touches u.owned.held (home_of c a) ≡ true)
       → ((r : ℕ) → touches u.owned.held r ≡ true → l.start < over u.owned.held r 0 → WasFree r (over u.owned.held r 0) more) → ((r : ℕ) → touches u.owned.held r ≡ false → Untouched (Record r) more)
-      → ((r : ℕ) → touches u.owned.held r ≡ true → l.start < over u.owned.held r 0 → c.callers ≡ 1 → over u.owned.held r 0 ≤ c.clock + v.steps.rises) → Owed good c n l v w → Validates c n (of_words good c.words) res m u q w → Prepares good c n res l v q w
+      → ((r : ℕ) → touches u.owned.held r ≡ true → l.start < over u.owned.held r 0 → c.callers ≡ 1
+      → over u.owned.held r 0 ≤ c.clock + v.steps.rises) → Owed good c n l v w → Validates c n (of_words good c.words) res m u q w
+      → Prepares good c n res l v q w
   after-validate (Ok x) m q u w more h covered free apart sole due valid = ready-valid m q u w more h covered due valid
   after-validate (Err cause) m q u w more h covered free apart sole due stops = subst (λ (p : Local). IsStopped good c n cause l v p w) (sym stops.0) (stopped-validating m u w more h free apart sole cause due stops.1)
 
@@ -439,10 +521,13 @@ module _ (good : List ℕ → Type 0) (c : Config) (n : ℕ) (low : n < c.caller
       path : w.steps.step_trace ≡ (late ++ e.more) ++ v.steps.step_trace
       path = steps ∙ (ap (λ (y : View). late ++ y.steps.step_trace) e.locks.holds.is ∙ sym (append_assoc late e.more v.steps.step_trace))
 
-  pub locked-validate : (res : Result (Unit {0}) causes.the_data) (newest : ℕ) (m q : Local) (u w : View) → l.start < newest → LocksEach c n newest l v m u → Validates c n (of_words good c.words) res m u q w → Prepares good c n res l v q w
+  pub locked-validate : (res : Result (Unit {0}) causes.the_data) (newest : ℕ) (m q : Local) (u w : View) → l.start < newest
+      → LocksEach c n newest l v m u → Validates c n (of_words good c.words) res m u q w → Prepares good c n res l v q w
   locked-validate res newest m q u w above e valid =
       let more = validates-more res m q u w valid in
       after-validate res m q u w e.more e.locks.holds e.covered (λ r t late. e.locks.free r t) e.locks.apart (λ r t late. e.locks.sole r t) (locked-owes newest m u w more.0 more.1 above e) valid
 
   pub again-validate : (res : Result (Unit {0}) causes.the_data) (q : Local) (w : View) → l.committing ≡ true → Validates c n (of_words good c.words) res l v q w → Prepares good c n res l v q w
-  again-validate res q w mid valid = after-validate res l q v w [] holds-still (k.locked mid) (λ r t late. absurd (let o = k.olds mid r t in omega arith)) (λ r t. tt) (λ r t late. absurd (let o = k.olds mid r t in omega arith)) (λ o buffered same. inl (same ∙ mid)) valid
+  again-validate res q w mid valid =
+      after-validate res l q v w [] holds-still (k.locked mid) (λ r t late. absurd (let o = k.olds mid r t in omega arith)) (λ r t. tt)
+      (λ r t late. absurd (let o = k.olds mid r t in omega arith)) (λ o buffered same. inl (same ∙ mid)) valid

@@ -95,5 +95,7 @@ module _ (good : List ℕ → Type 0) (c : Config) (n : ℕ) (l : Local) (v : Vi
       tells-read_only z o e is = subst (λ (y : View). Commits good c n (ReadOnly l.start) (known_of v o) (known_of y o)) (sym is) (
         ended-left n good c l.start v v o (unmade-refl v k.optimistic.unlocked k.optimistic.unwritten) (sym i.start) (opaque-inside good c n l v o i),
         (let r = k.optimistic.rises in omega arith, let r = k.optimistic.rises in omega arith),
-        (λ j. not (is_empty (written_under (lazy j) (k.optimistic.ungranted j) v o))) ∙ (ap (λ (ws : List (ℕ × ℕ)). not (is_empty ws)) (ap items e ∙ items-cells l.writes.items k.buffers.once) ∙ (sym k.buffers.wrote ∙ clean)),
+        (λ j. not (is_empty (written_under (lazy j) (k.optimistic.ungranted j) v o)))
+            ∙ (ap (λ (ws : List (ℕ × ℕ)). not (is_empty ws)) (ap items e ∙ items-cells l.writes.items k.buffers.once)
+            ∙ (sym k.buffers.wrote ∙ clean)),
       )

@@ -93,7 +93,8 @@ module _ (good : List ℕ → Type 0) (c : Config) (n : ℕ) (low : n < c.caller
     quits-here : (u z : View) → IsUnmade v u → u.steps.rises ≡ v.steps.rises → GivesUp n u z → Quits (known_of v o) (known_of z (with_commit false o))
     quits-here u z m rises g = quits-back n v u z o lazy k.optimistic.ungranted k.optimistic.rises m rises g
 
-    pub tells-stopped : o.committing ≡ l.committing → (cause : causes.the_data) (m : Local) (u z : View) → IsStopped good c n cause l v m u → GivesUp n u z → Commits good c n (commits.Conflict cause) (known_of v o) (known_of z (with_commit false o))
+    pub tells-stopped : o.committing ≡ l.committing → (cause : causes.the_data) (m : Local) (u z : View) → IsStopped good c n cause l v m u
+        → GivesUp n u z → Commits good c n (commits.Conflict cause) (known_of v o) (known_of z (with_commit false o))
     tells-stopped mid cause m u z s g = let t = ended-by n u z g in (
       quits-here u z s.unmade s.rises g,
       conflicts-later c n ToCommit cause (known_of v o) (known_of u o) (known_of z (with_commit false o)) lazy t.0 t.1 (s.conflicts o e mid),
@@ -108,9 +109,23 @@ module _ (good : List ℕ → Type 0) (c : Config) (n : ℕ) (low : n < c.caller
     pub may-roll : (b : Bool) (clock : ℕ) (u : View) → Tells orec_limit (FindsClock c) v clock u → CanAbortLazy c (record l { committing = b }) u
     may-roll b clock u t = laws.can-roll good c n low l v can (record l { committing = b }) u v.owned.held v.check (load_of Clock clock ∷ []) t.2 k.locks k.places k.versions
 
-    pub tells-full : (clock : ℕ) (u z : View) → CLOCK_LIMIT ≤ l.start → Tells orec_limit (FindsClock c) v clock u → GivesUp n u z → Commits good c n (commits.ClockFull clock) (known_of v o) (known_of z (with_commit false o))
+    pub tells-full : (clock : ℕ) (u z : View) → CLOCK_LIMIT ≤ l.start → Tells orec_limit (FindsClock c) v clock u → GivesUp n u z
+        → Commits good c n (commits.ClockFull clock) (known_of v o) (known_of z (with_commit false o))
     tells-full clock u z high t g = let f = ended-by n u z g in (
-      quits-here u z (subst (IsUnmade v) (sym t.2) (record { carried = record { named = refl; base = refl; installs = refl; fence = refl; step_trace = (load_of Clock clock ∷ [], refl); unlocked = k.optimistic.unlocked; unwritten = k.optimistic.unwritten }; history = refl })) (ap (λ (y : View). y.steps.rises) t.2) g,
+      quits-here u z
+          (subst (IsUnmade v) (sym t.2)
+          (record {
+            carried = record {
+              named = refl;
+              base = refl;
+              installs = refl;
+              fence = refl;
+              step_trace = (load_of Clock clock ∷ [], refl);
+              unlocked = k.optimistic.unlocked;
+              unwritten = k.optimistic.unwritten;
+            };
+            history = refl;
+          })) (ap (λ (y : View). y.steps.rises) t.2) g,
       ap asks_at_commit lazy,
       laws.wrote_is good c n low l v can o e,
       finds-full clock v z o (with_commit false o) (let a = t.1.started in let b = i.start in omega arith)
@@ -140,7 +155,9 @@ module _ (good : List ℕ → Type 0) (c : Config) (n : ℕ) (low : n < c.caller
       writes_inside = k.buffers.inside;
       writes_small = k.buffers.small;
       keeps = keeps-cells good c.words v.attempt.reads (cells_of l.writes.items) i.reads_inside
-          (subst (λ (ws : List (ℕ × ℕ)). logs.Keeps good c.words (record { reads = items v.attempt.reads; writes = ws })) (laws.written good c n low l v can o e ∙ sym (items-cells l.writes.items k.buffers.once)) (keeps (laws.wrote_is good c n low l v can o e)));
+          (subst (λ (ws : List (ℕ × ℕ)). logs.Keeps good c.words (record { reads = items v.attempt.reads; writes = ws }))
+          (laws.written good c n low l v can o e ∙ sym (items-cells l.writes.items k.buffers.once))
+          (keeps (laws.wrote_is good c n low l v can o e)));
     }
 
     abbrev ws : List Cell
@@ -166,7 +183,8 @@ module _ (good : List ℕ → Type 0) (c : Config) (n : ℕ) (low : n < c.caller
         by false = refl
 
     -- it didn't: the attempt stands as before
-    pub refused_path : (now : ℕ) (u : View) → now ≢ l.start → Tells (orec_commit n l.start ws ws) (FindsCommit rule c n l.start ws) v now u → u ≡ record v { steps = record v.steps { step_trace = tried l.start now ∷ v.steps.step_trace } }
+    pub refused_path : (now : ℕ) (u : View) → now ≢ l.start → Tells (orec_commit n l.start ws ws) (FindsCommit rule c n l.start ws) v now u
+        → u ≡ record v { steps = record v.steps { step_trace = tried l.start now ∷ v.steps.step_trace } }
     refused_path now u apart t = exchange_path now u false (grind (arith, nat_tests)) t
 
     pub refused-others : (now : ℕ) (u : View) → now ≢ l.start → Tells (orec_commit n l.start ws ws) (FindsCommit rule c n l.start ws) v now u → 1 < c.callers
@@ -193,7 +211,9 @@ module _ (good : List ℕ → Type 0) (c : Config) (n : ℕ) (low : n < c.caller
       named = sym i.named;
     })
 
-    pub tells-committed : (now : ℕ) (u z : View) → now ≡ l.start → (t : Tells (orec_commit n l.start ws ws) (FindsCommit rule c n l.start ws) v now u) → GivesUp n u z → CommitsAt good c n (l.start + 1) (known_of v o) (known_of z (with_commit false o))
+    pub tells-committed : (now : ℕ) (u z : View) → now ≡ l.start
+        → (t : Tells (orec_commit n l.start ws ws) (FindsCommit rule c n l.start ws) v now u) → GivesUp n u z
+        → CommitsAt good c n (l.start + 1) (known_of v o) (known_of z (with_commit false o))
     tells-committed now u z same t g = record {
       ends = record { idle = ap4; grows = grown; alg = alg; base = base; installs = installs };
       rises = risen;
@@ -220,7 +240,15 @@ module _ (good : List ℕ → Type 0) (c : Config) (n : ℕ) (low : n < c.caller
         history = ap (λ (y : View). y.history) g.is ∙ (g.unmade.history ∙ ap (λ (y : View). y.history) path)
 
         as_entry : public_entry made ≡ entry (l.start + 1) n (length (public_history v.history.made)) (known_of v o).log
-        as_entry = λ j. record { time = l.start + 1; caller = n; number = sym (length-public_history v.history.made) j; reads = items v.attempt.reads; writes = (items-cells l.writes.items k.buffers.once ∙ sym (laws.written good c n low l v can o e)) j }
+        as_entry =
+            λ j.
+            record {
+              time = l.start + 1;
+              caller = n;
+              number = sym (length-public_history v.history.made) j;
+              reads = items v.attempt.reads;
+              writes = (items-cells l.writes.items k.buffers.once ∙ sym (laws.written good c n low l v can o e)) j;
+            }
 
         alg : z.gate.algorithm ≡ v.gate.algorithm
         alg = ap (λ (y : View). y.gate.algorithm) g.is ∙ (g.unmade.carried.named ∙ ap (λ (y : View). y.gate.algorithm) path)
@@ -232,7 +260,11 @@ module _ (good : List ℕ → Type 0) (c : Config) (n : ℕ) (low : n < c.caller
         installs = ap (λ (y : View). reverse y.steps.installs) g.is ∙ ap reverse (g.unmade.carried.installs ∙ ap (λ (y : View). y.steps.installs) path)
 
         risen : z.steps.rises ≡ v.steps.rises_at_begin + entry_rise v.gate.algorithm
-        risen = let a = ap (λ (y : View). y.steps.rises) g.is in let b = g.rises in let d : u.steps.rises ≡ v.steps.rises + 1 = ap (λ (y : View). y.steps.rises) path in let f = k.optimistic.rises in let q : entry_rise v.gate.algorithm ≡ 1 = ap entry_rise lazy in omega arith
+        risen =
+            let a = ap (λ (y : View). y.steps.rises) g.is in
+            let b = g.rises in
+            let d : u.steps.rises ≡ v.steps.rises + 1 = ap (λ (y : View). y.steps.rises) path in
+            let f = k.optimistic.rises in let q : entry_rise v.gate.algorithm ≡ 1 = ap entry_rise lazy in omega arith
 
         ap4 : (z.gate.phase ≡ Idle) × (is_in z.gate.phase ≡ false) × (is_closing z.gate.phase ≡ false) × (z.gate.holds ≡ false) × (locked_under z.gate.algorithm z.lock.taken z.tml.writer ≡ false)
         ap4 = (g.outside.phase, ap is_in g.outside.phase, ap is_closing g.outside.phase, g.outside.reopened, unlocked-of z.gate.algorithm z.lock.taken z.tml.writer g.outside.clear.unlocked g.outside.clear.unwritten)
@@ -280,7 +312,13 @@ module _ (good : List ℕ → Type 0) (c : Config) (n : ℕ) (low : n < c.caller
     buffered = e ∙ sym (ap (λ (q : Local). cells_of q.writes.items) r.local)
 
     log_at : (p : Own) (y : View) → p.buffered ≡ o.buffered → y.gate ≡ v.gate → y.attempt.reads ≡ v.attempt.reads → (known_of y p).log ≡ (known_of v o).log
-    log_at p y b gate reads = (λ j. record { reads = items (reads j); writes = written_under ((ap (λ (g : GateView). g.algorithm) gate ∙ named) j) ((ap (λ (g : GateView). g.granted) gate ∙ at_call.optimistic.ungranted) j) y p })
+    log_at p y b gate reads =
+        (λ j.
+        record {
+          reads = items (reads j);
+          writes = written_under ((ap (λ (g : GateView). g.algorithm) gate ∙ named) j)
+              ((ap (λ (g : GateView). g.granted) gate ∙ at_call.optimistic.ungranted) j) y p;
+        })
         ∙ (λ j. record { reads = items v.attempt.reads; writes = (ap items b ∙ sym (λ h. written_under (named h) (at_call.optimistic.ungranted h) v o)) j })
 
     begins : v.attempt.start ≤ m.start
@@ -303,7 +341,8 @@ module _ (good : List ℕ → Type 0) (c : Config) (n : ℕ) (low : n < c.caller
     keeps-ready keeps wrote = let a = leads-ready in subst (λ (g : Log). logs.Keeps good c.words g) (sym a.log) (keeps (ap (λ (g : Log). not (is_empty g.writes)) (sym a.log) ∙ wrote))
 
     -- the ends after it, as seen from the call
-    pub full-call : (clock : ℕ) (u z : View) → CLOCK_LIMIT ≤ m.start → Tells orec_limit (FindsClock c) w clock u → GivesUp n u z → Commits good c n (commits.ClockFull clock) (known_of v o) (known_of z (with_commit false o))
+    pub full-call : (clock : ℕ) (u z : View) → CLOCK_LIMIT ≤ m.start → Tells orec_limit (FindsClock c) w clock u → GivesUp n u z
+        → Commits good c n (commits.ClockFull clock) (known_of v o) (known_of z (with_commit false o))
     full-call clock u z high t g = let q = tells-full in_commit w can-ready o buffered clock u z high t g in (
       quits-leads (known_of v o) (known_of w o) (known_of z (with_commit false o)) leads-ready q.0,
       ap asks_at_commit named,
@@ -311,7 +350,9 @@ module _ (good : List ℕ → Type 0) (c : Config) (n : ℕ) (low : n < c.caller
       full-leads (known_of v o) (known_of w o) (known_of z (with_commit false o)) clock leads-ready q.3,
     )
 
-    pub committed-call : (now : ℕ) (u z : View) → now ≡ m.start → Tells (orec_commit n m.start (cells_of m.writes.items) (cells_of m.writes.items)) (FindsCommit rule c n m.start (cells_of m.writes.items)) w now u → GivesUp n u z
+    pub committed-call : (now : ℕ) (u z : View) → now ≡ m.start
+        → Tells (orec_commit n m.start (cells_of m.writes.items) (cells_of m.writes.items))
+        (FindsCommit rule c n m.start (cells_of m.writes.items)) w now u → GivesUp n u z
         → CommitsAt good c n (m.start + 1) (known_of v o) (known_of z (with_commit false o))
     committed-call now u z same t g = commits-leads good c n (m.start + 1) (known_of v o) (known_of w o) (known_of z (with_commit false o)) leads-ready (tells-committed in_commit w can-ready o buffered now u z same t g)
 
@@ -322,8 +363,14 @@ module _ (good : List ℕ → Type 0) (c : Config) (n : ℕ) (low : n < c.caller
 
       pub stays-again : IsInside good c n in_commit u
       stays-again = let i = r.stays in let k = lazy-of good c n in_commit w r.stays can-ready.lazy can-ready.plain in
-          subst (IsInside good c n in_commit) (sym (still_path ∙ (λ j. record (record w { steps = record w.steps { step_trace = tried m.start now ∷ w.steps.step_trace } }) { history = record w.history { front = i.front j }; attempt = record w.attempt { start = i.start j } })))
-          (laws.stays-ready good c n low in_commit w can-ready m.start m.locks w.history.seen w.owned.held w.sample.loaded w.check (tried m.start now ∷ []) k.locks k.places k.few k.versions (k.locked refl) (k.olds refl) k.unchecked i.legal i.below i.sees k.sole)
+          subst (IsInside good c n in_commit)
+          (sym (still_path
+          ∙ (λ j.
+          record (record w { steps = record w.steps { step_trace = tried m.start now ∷ w.steps.step_trace } })
+          { history = record w.history { front = i.front j }; attempt = record w.attempt { start = i.start j } })))
+          (laws.stays-ready good c n low in_commit w can-ready m.start m.locks w.history.seen w.owned.held w.sample.loaded w.check
+          (tried m.start now ∷ []) k.locks k.places k.few k.versions (k.locked refl) (k.olds refl) k.unchecked i.legal i.below i.sees
+          k.sole)
 
       pub stands-again : Stands good c n in_commit u
       stands-again = record {
@@ -334,7 +381,9 @@ module _ (good : List ℕ → Type 0) (c : Config) (n : ℕ) (low : n < c.caller
 
       pub tells-again : o.committing ≡ l.committing → Commits good c n (commits.Again 0 m.start now) (known_of v o) (known_of u (with_commit true o))
       tells-again mid = (
-        again.goes-on v r.more r.is now still_path c OrecLazy o named can.inside.phase begins (r.grows o) (again.start-moves v r.more r.is now still_path c o l.start can.inside.start (⊎_elim (λ s. inl s) (λ f. inr (f.0 o, f.1 o e mid)) r.start)),
+        again.goes-on v r.more r.is now still_path c OrecLazy o named can.inside.phase begins (r.grows o)
+            (again.start-moves v r.more r.is now still_path c o l.start can.inside.start
+            (⊎_elim (λ s. inl s) (λ f. inr (f.0 o, f.1 o e mid)) r.start)),
         refl,
         log_at p u refl (ap (λ (y : View). y.gate) path) (ap (λ (y : View). y.attempt.reads) path),
         ap (λ (y : View). kept_under y.gate.algorithm u p) path ∙ kept-same v.gate.algorithm v u o p refl (ap (λ (y : View). y.owned.undo) path) (ap (λ (y : View). y.lock.undo) path),

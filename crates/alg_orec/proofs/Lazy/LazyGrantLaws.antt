@@ -82,7 +82,9 @@ module _ {good : List ℕ → Type 0} {c : Config} {n : ℕ} {l : Local} {v : Vi
     unentered = can.inside.unentered;
   }))
 
-  pub tells-refused : {refusal : irrevs.the_data} {m : Local} {u : View} → IsNotPromoted c n refusal l v m u → (z : View) (p : Local) → p ≡ ended (record m { committing = false }) → GivesUp n u z → Grants good c n refusal (known_of v (own_of l)) (known_of z (own_of p))
+  pub tells-refused : {refusal : irrevs.the_data} {m : Local} {u : View} → IsNotPromoted c n refusal l v m u → (z : View) (p : Local)
+      → p ≡ ended (record m { committing = false }) → GivesUp n u z
+      → Grants good c n refusal (known_of v (own_of l)) (known_of z (own_of p))
   tells-refused {refusal} {m} {u} q z p idle g = opening.tells-refused can refl q z p idle
       (quits-back n v u z (own_of l) can.under k.optimistic.ungranted k.optimistic.rises (opening.unmade can refl q) (ap (λ (y : View). y.steps.rises) q.is) g) (ended-by n u z g)
 
@@ -103,7 +105,11 @@ module _ {good : List ℕ → Type 0} {c : Config} {n : ℕ} {l : Local} {v : Vi
     y = record (promoted_at v r.seen m.start (st.more ++ r.more)) { attempt = record { start = m.start; reads = v.attempt.reads; stores = cells_of l.writes.items; entered = false } }
 
     path : w ≡ y
-    path = st.is ∙ ((λ j. record (r.is j) { attempt = record (r.is j).attempt { stores = cells_of (ap (λ (q : Local). q.writes.items) r.local j) }; steps = record (r.is j).steps { step_trace = st.more ++ (r.is j).steps.step_trace } })
+    path = st.is ∙ ((λ j.
+        record (r.is j) {
+          attempt = record (r.is j).attempt { stores = cells_of (ap (λ (q : Local). q.writes.items) r.local j) };
+          steps = record (r.is j).steps { step_trace = st.more ++ (r.is j).steps.step_trace };
+        })
         ∙ ap (λ (t : List TracedStep). record y { steps = record v.steps { step_trace = t } }) (sym (append_assoc st.more r.more v.steps.step_trace)))
 
     pub stands-promoted : (p : Local) → p ≡ promoted → Stands good c n l v → Stands good c n p w

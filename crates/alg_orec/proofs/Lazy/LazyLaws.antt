@@ -73,7 +73,10 @@ module _ (good : List ℕ → Type 0) (c : Config) (n : ℕ) (l : Local) (v : Vi
 
     -- what was written lies with the descriptor
     pub written : (w : View) (m : Local) → w.gate ≡ v.gate → m.writes.items ≡ l.writes.items → written_under w.gate.algorithm w.gate.granted w (own_of m) ≡ l.writes.items
-    written w m gate same = (λ j. written_under (gate j).algorithm (gate j).granted w (own_of m)) ∙ ((λ j. written_under (lazy j) (ungranted j) w (own_of m)) ∙ (ap (λ (ws : List (ℕ × ℕ)). items (cells_of ws)) same ∙ items-cells l.writes.items k.buffers.once))
+    written w m gate same =
+        (λ j. written_under (gate j).algorithm (gate j).granted w (own_of m))
+        ∙ ((λ j. written_under (lazy j) (ungranted j) w (own_of m))
+        ∙ (ap (λ (ws : List (ℕ × ℕ)). items (cells_of ws)) same ∙ items-cells l.writes.items k.buffers.once))
 
     pub written-here : (known_of v o).log.writes ≡ l.writes.items
     written-here = written v l refl refl
@@ -85,19 +88,25 @@ module _ (good : List ℕ → Type 0) (c : Config) (n : ℕ) (l : Local) (v : Vi
     revocable = (λ j. irrevocable_under (lazy j) (granted_under (lazy j) v.gate v.lock) (not (is_empty (written_under v.gate.algorithm v.gate.granted v o)))) ∙ ungranted
 
     -- the attempt ended from a view that the load came to
-    quits-moved : (start : ℕ) (seen : List Entry) (sample : Sample) (check : Validation) (more : List TracedStep) (w : View) → MayMove rule c n start seen more v → GivesUp n (moved v start seen v.attempt.reads sample check more) w → Quits (known_of v o) (known_of w o)
+    quits-moved : (start : ℕ) (seen : List Entry) (sample : Sample) (check : Validation) (more : List TracedStep) (w : View)
+        → MayMove rule c n start seen more v → GivesUp n (moved v start seen v.attempt.reads sample check more) w
+        → Quits (known_of v o) (known_of w o)
     quits-moved start seen sample check more w moves g = subst (λ (y : View). Quits (known_of v o) (known_of y o)) (sym g.is)
         (reads.quits-moved reading start seen more moves v.attempt.reads sample check g.before g.unmade (let a = g.rises in let b = k.optimistic.rises in (omega arith, omega arith)))
 
     quits-here : (w : View) → GivesUp n v w → Quits (known_of v o) (known_of w o)
     quits-here w g = quits-moved v.attempt.start v.history.seen v.sample v.check [] w (inl (refl, refl)) (subst (λ (y : View). GivesUp n y w) (reads.here reading) g)
 
-    pub reads-full : (a : ℕ) (w : View) → item_at a l.writes.items ≡ None → item_at a l.reads.items ≡ None → length l.reads.items ≡ l.reads.len → GivesUp n v w → HasRead good c n a (answers.Full l.reads.len) (known_of v o) (known_of w o)
+    pub reads-full : (a : ℕ) (w : View) → item_at a l.writes.items ≡ None → item_at a l.reads.items ≡ None
+        → length l.reads.items ≡ l.reads.len → GivesUp n v w → HasRead good c n a (answers.Full l.reads.len) (known_of v o) (known_of w o)
     reads-full a w unwritten unread count g = reads.reads-full reading a w unwritten unread count (quits-here w g)
 
-    pub reads-refused : (a : ℕ) (cause : Cause) (m : Local) (u w : View) → item_at a l.writes.items ≡ None → item_at a l.reads.items ≡ None → length l.reads.items ≢ l.reads.len → RefusesRead rule c n a cause l v m u → GivesUp n u w
+    pub reads-refused : (a : ℕ) (cause : Cause) (m : Local) (u w : View) → item_at a l.writes.items ≡ None → item_at a l.reads.items ≡ None
+        → length l.reads.items ≢ l.reads.len → RefusesRead rule c n a cause l v m u → GivesUp n u w
         → HasRead good c n a (answers.Conflict cause) (known_of v o) (known_of w o)
-    reads-refused a cause m u w unwritten unread room h g = subst (λ (y : View). HasRead good c n a (answers.Conflict cause) (known_of v o) (known_of y o)) (sym g.is) (reads.reads-refused reading a cause m u g.before unwritten unread room h g.unmade
+    reads-refused a cause m u w unwritten unread room h g =
+        subst (λ (y : View). HasRead good c n a (answers.Conflict cause) (known_of v o) (known_of y o)) (sym g.is) (reads.reads-refused
+        reading a cause m u g.before unwritten unread room h g.unmade
         (subst (λ (y : View). Quits (known_of v o) (known_of y o)) g.is (quits-moved m.start h.seen u.sample u.check h.more w h.moves (subst (λ (y : View). GivesUp n y w) h.is g))))
 
     pub reads-new : (a x : ℕ) (m : Local) (w : View) → x < 2 ^ 64 → a < c.words → item_at a l.writes.items ≡ None → item_at a l.reads.items ≡ None → length l.reads.items ≢ l.reads.len → HasLoaded rule c n a x l v m w
@@ -105,7 +114,9 @@ module _ (good : List ℕ → Type 0) (c : Config) (n : ℕ) (l : Local) (v : Vi
     reads-new = reads.reads-new reading
 
     -- the attempt goes on with the read in its log
-    pub stays-read : (a x : ℕ) (m : Local) (w : View) (log : LogState) → a < c.words → item_at a l.reads.items ≡ None → log ≡ record l.reads { items = l.reads.items ++ (a, x) ∷ [] } → HasLoaded rule c n a x l v m w → IsInside good c n (record m { reads = log }) w
+    pub stays-read : (a x : ℕ) (m : Local) (w : View) (log : LogState) → a < c.words → item_at a l.reads.items ≡ None
+        → log ≡ record l.reads { items = l.reads.items ++ (a, x) ∷ [] } → HasLoaded rule c n a x l v m w
+        → IsInside good c n (record m { reads = log }) w
     stays-read a x m w log low unread is h = subst (λ (y : View). IsInside good c n (record m { reads = log }) y) (sym h.is) (subst (λ (q : Local). IsInside good c n (record q { reads = log }) u) (sym h.local)
         (reads.stays-moved reading m.start h.seen h.more h.moves rs no_sample no_check log h.legal h.below h.sees (inside-more c.words (record { at = a; value = x }) v.attempt.reads low i.reads_inside)
         (keeps-lazy (record {
@@ -150,10 +161,26 @@ module _ (good : List ℕ → Type 0) (c : Config) (n : ℕ) (l : Local) (v : Vi
     kept-here = ap (λ (b : Alg). kept_under b v o) lazy ∙ ap addresses (items-cells l.writes.items k.buffers.once)
 
     -- WRITE: the log has room
-    pub writes-done : (a x : ℕ) (log : LogState) → a < c.words → x < 2 ^ 64 → log ≡ record l.writes { items = put a x l.writes.items } → writes_full a (known_of v o) ≡ false → HasWritten good c n a x writes.Done (known_of v o) (known_of v (own_of (record l { writes = log; wrote = true })))
+    pub writes-done : (a x : ℕ) (log : LogState) → a < c.words → x < 2 ^ 64 → log ≡ record l.writes { items = put a x l.writes.items }
+        → writes_full a (known_of v o) ≡ false
+        → HasWritten good c n a x writes.Done (known_of v o) (known_of v (own_of (record l { writes = log; wrote = true })))
     writes-done a x log low small is room = (
       record {
-        continues = record { running = ap is_in i.phase; closing = ap is_closing i.phase; made = refl; grows = grows-same (known_of v o) (known_of v p) refl refl [] refl refl refl refl; alg = refl; fence = refl; base = refl; rises = (omega arith, omega arith); later = omega arith; installs = refl; depth = refl; locked = inl refl };
+        continues =
+            record {
+              running = ap is_in i.phase;
+              closing = ap is_closing i.phase;
+              made = refl;
+              grows = grows-same (known_of v o) (known_of v p) refl refl [] refl refl refl refl;
+              alg = refl;
+              fence = refl;
+              base = refl;
+              rises = (omega arith, omega arith);
+              later = omega arith;
+              installs = refl;
+              depth = refl;
+              locked = inl refl;
+            };
         start = subst (λ (b : Alg). StartMoves c (ForWord a) b (known_of v o) (known_of v p)) (sym lazy) (inl refl);
         granted = refl;
         holds = refl;
@@ -191,16 +218,20 @@ module _ (good : List ℕ → Type 0) (c : Config) (n : ℕ) (l : Local) (v : Vi
     pub room-of : (a : ℕ) (ws : List (ℕ × ℕ)) (log : LogState) → l.writes.len ≡ l.undo.len → Pushes l.writes a ws pushes.Done log → writes_full a (known_of v o) ≡ false
     room-of a ws log len p = by (item_at a l.writes.items) refl (length l.writes.items == l.writes.len) refl p.0
       where
-        by : (m : Option ℕ) → item_at a l.writes.items ≡ m → (b : Bool) → (length l.writes.items == l.writes.len) ≡ b → IsSome (item_at a l.writes.items) ⊎ (length l.writes.items < l.writes.len) → writes_full a (known_of v o) ≡ false
+        by : (m : Option ℕ) → item_at a l.writes.items ≡ m → (b : Bool) → (length l.writes.items == l.writes.len) ≡ b
+            → IsSome (item_at a l.writes.items) ⊎ (length l.writes.items < l.writes.len) → writes_full a (known_of v o) ≡ false
         by (Some y) e b q r = filled a (Some y) b len e q
         by None e false q r = filled a None false len e q
         by None e true q (inl r) = absurd (let f : false ≡ true = subst IsSome e r in cc)
         by None e true q (inr r) = absurd (let f : length l.writes.items ≡ l.writes.len = grind (arith, nat_tests) in omega arith)
 
-    pub writes-refused : (a x limit : ℕ) (ws : List (ℕ × ℕ)) (log : LogState) (w : View) → l.writes.len ≡ l.undo.len → Pushes l.writes a ws (pushes.Full limit) log → GivesUp n v w → HasWritten good c n a x (writes.Full limit) (known_of v o) (known_of w o)
+    pub writes-refused : (a x limit : ℕ) (ws : List (ℕ × ℕ)) (log : LogState) (w : View) → l.writes.len ≡ l.undo.len
+        → Pushes l.writes a ws (pushes.Full limit) log → GivesUp n v w
+        → HasWritten good c n a x (writes.Full limit) (known_of v o) (known_of w o)
     writes-refused a x limit ws log w len p g = (quits-here w g, filled a None true len p.0 (let e = p.1 in grind (arith, nat_tests)), p.2 ∙ len)
 
-    pub stays-written : (a x : ℕ) (log : LogState) → a < c.words → fenced v.gate.fence a ≡ false → x < 2 ^ 64 → log ≡ record l.writes { items = put a x l.writes.items } → IsInside good c n (record l { writes = log; wrote = true }) v
+    pub stays-written : (a x : ℕ) (log : LogState) → a < c.words → fenced v.gate.fence a ≡ false → x < 2 ^ 64
+        → log ≡ record l.writes { items = put a x l.writes.items } → IsInside good c n (record l { writes = log; wrote = true }) v
     stays-written a x log low out small is = record {
       phase = i.phase;
       named = i.named;
@@ -258,7 +289,8 @@ module _ (good : List ℕ → Type 0) (c : Config) (n : ℕ) (l : Local) (v : Vi
         keeps-lazy p = subst (λ (b : Alg). attempts.Keeps c b l.granted q v) (sym (sym i.named ∙ lazy)) (subst (λ (b : Bool). attempts.Keeps c OrecLazy b q v) (sym plain) p)
 
 -- BEGIN
-pub tells-started : (good : List ℕ → Type 0) (c : Config) (n : ℕ) (v : View) → CanBegin OrecLazy v → (clock : ℕ) (w : View) → Tells orec_begin (FindsStart (of_words good c.words) c) v clock w → StartsAt good c n OrecLazy clock v w
+pub tells-started : (good : List ℕ → Type 0) (c : Config) (n : ℕ) (v : View) → CanBegin OrecLazy v → (clock : ℕ) (w : View)
+    → Tells orec_begin (FindsStart (of_words good c.words) c) v clock w → StartsAt good c n OrecLazy clock v w
 tells-started good c n v can clock w t = reads.tells-started good c n OrecLazy (inl refl) v can clock w t (λ l. record {
   optimistic = reads.optimistic-begun good c n OrecLazy (inl refl) v can clock w t;
   buffers = record { wrote = refl; once = tt; inside = λ a e. absurd cc; small = λ a d e. e; apart = λ a e. absurd cc };

@@ -39,7 +39,9 @@ module _ {good : List ℕ → Type 0} {c : Config} {n : ℕ} {l : Local} {v : Vi
   written-now log wrote d once = (λ j. written_under (lazy j) (k.optimistic.ungranted j) v (own_of (with_log log wrote d))) ∙ items-cells log.items once
 
   keeps-with : (log : LogState) (wrote : Bool) (d : ℕ) → IsWriteSet c l.fence log.items → wrote ≡ not (is_empty log.items) → HasMarks c l.fence log.marks d → Keeps c l.algorithm l.granted (with_log log wrote d) v
-  keeps-with log wrote d set some marks = subst (λ (a : Alg). Keeps c a l.granted (with_log log wrote d) v) (sym (sym a.inside.named ∙ lazy)) (subst (λ (b : Bool). Keeps c OrecLazy b (with_log log wrote d) v) (sym plain) keeps)
+  keeps-with log wrote d set some marks =
+      subst (λ (a : Alg). Keeps c a l.granted (with_log log wrote d) v) (sym (sym a.inside.named ∙ lazy))
+      (subst (λ (b : Bool). Keeps c OrecLazy b (with_log log wrote d) v) (sym plain) keeps)
     where
       keeps : IsLazy c (with_log log wrote d) v
       keeps = record {

@@ -13,6 +13,7 @@ use Rattle.stm_gate.specs.Knowing.{known}
 use Rattle.stm_gate.specs.Opening.{opened}
 use Rattle.stm_gate.specs.Standing.{in-of}
 use Rattle.alg_orec.proofs.Lazy.LazyLaws.{lazy-of, reading}
+use Rattle.alg_orec.proofs.ReadCalls.{plain-of}
 use Rattle.alg_orec.proofs.RecordOpening.{RecordOpening}
 
 module _ {K : Type 0} (good : K → List ℕ → Type 0) (stm : Stm K) where
@@ -25,12 +26,23 @@ module _ {K : Type 0} (good : K → List ℕ → Type 0) (stm : Stm K) where
     pub quiet : l.committing ≡ false
     pub kept : IsLazy stm.config l me.0.view
 
-  pub opens-lazy : {e : Handle K} (n : ℕ) (l : Local) (me : SeatView K × List (ℕ × Unit {0})) (d : Handle K) → record d { who = me.0.who; view = me.0.view; own = own_of l } ≡ e → IsTied n me → Stands (good_by good me.0.who.rule) me.0.who.config n l me.0.view → IsOf e stm
-      → IsRunning (known e) → (known e).alg ≡ OrecLazy → l.granted ≡ false → LazyOpening e me n l
-  opens-lazy n l me d same tied stands belongs running algorithm plain =
+  pub opens-lazy : {e : Handle K} (n : ℕ) (l : Local) (me : SeatView K × List (ℕ × Unit {0})) (d : Handle K)
+      → record d { who = me.0.who; view = me.0.view; own = own_of l } ≡ e → IsTied n me
+      → Stands (good_by good me.0.who.rule) me.0.who.config n l me.0.view → IsOf e stm
+      → IsRunning (known e) → (known e).alg ≡ OrecLazy → (known e).granted ≡ false → LazyOpening e me n l
+  opens-lazy n l me d same tied stands belongs running algorithm unpromoted =
       let a = opened good stm n l same refl tied.named tied.low stands belongs in
       let inside = inside-of (good stm.rule) stm.config n l me.0.view (in-of me.0.view.gate.phase (ap (λ (k : CallerState). k.running) (sym a.knows) ∙ running.0)) a.stands in
       let lazy : me.0.view.gate.algorithm ≡ OrecLazy = ap (λ (k : CallerState). k.alg) (sym a.knows) ∙ algorithm in
+      let plain : l.granted ≡ false = plain-of (good stm.rule) stm.config n l me.0.view inside lazy (own_of l) (ap (λ (k : CallerState). k.granted) (sym a.knows) ∙ unpromoted) in
       let quiet : l.committing ≡ false = ap (λ (k : CallerState). k.committing) (sym a.knows) ∙ running.1 in
       let kept = lazy-of (good stm.rule) stm.config n l me.0.view inside lazy plain in
-      record { call = record { opening = a; tied = tied; reading = reading (good stm.rule) stm.config n l me.0.view inside lazy plain quiet kept }; inside = inside; lazy = lazy; plain = plain; quiet = quiet; kept = kept }
+      record {
+        call =
+            record { opening = a; tied = tied; reading = reading (good stm.rule) stm.config n l me.0.view inside lazy plain quiet kept };
+        inside = inside;
+        lazy = lazy;
+        plain = plain;
+        quiet = quiet;
+        kept = kept;
+      }

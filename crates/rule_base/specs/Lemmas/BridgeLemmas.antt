@@ -10,7 +10,7 @@ use Rattle.stm_model.specs.Histories.{Ascending, Numbered, IsEntry, IsLegal, mem
 use Rattle.stm_model.specs.Histories as public
 use Rattle.stm_model.specs.Logs as public_logs
 use Rattle.stm_model.specs.HistoryLaws.{memory_at-append}
-use Rattle.stm_model.specs.Overlays.{overlay-put, explains-item}
+use Rattle.stm_model.specs.Overlays.{overlay-put}
 use Rattle.stm_model.specs.PlainLaws.{put-item}
 use Rattle.rule_base.specs.declared.entries.Cell.{Cell}
 use Rattle.rule_base.specs.declared.entries.Entry.{Entry}
@@ -45,7 +45,10 @@ zero_test b = grind (arith, nat_tests)
 pub words_of-set : (n : ℕ) (m : ℕ → ℕ) (a v : ℕ) → set (words_of n m) a v ≡ words_of n (λ b. if a == b then v else m b)
 words_of-set zero m a v = refl
 words_of-set (suc n) m zero v = ap (λ l. v ∷ l) (words_of-same n (λ a. m (suc a)) (λ b. if 0 == suc b then v else m (suc b)) (λ b. rw (zero_test b) refl))
-words_of-set (suc n) m (suc a) v = let q : (suc a == 0) ≡ false = grind (arith, nat_tests) in rw q (ap (λ l. m 0 ∷ l) (words_of-set n (λ b. m (suc b)) a v ∙ words_of-same n (λ b. if a == b then v else m (suc b)) (λ b. if suc a == suc b then v else m (suc b)) (λ b. rw (suc_test a b) refl)))
+words_of-set (suc n) m (suc a) v =
+    let q : (suc a == 0) ≡ false = grind (arith, nat_tests) in
+    rw q (ap (λ l. m 0 ∷ l) (words_of-set n (λ b. m (suc b)) a v
+    ∙ words_of-same n (λ b. if a == b then v else m (suc b)) (λ b. if suc a == suc b then v else m (suc b)) (λ b. rw (suc_test a b) refl)))
 
 pub words_of-zeros : (n : ℕ) → words_of n (λ a. 0) ≡ replicate n 0
 words_of-zeros zero = refl
@@ -64,7 +67,9 @@ memories_by n s f m e false q h = rw q h
 -- the memory at a time, as words, is that of the public history
 pub memories : (n s : ℕ) (h : List Entry) → memory_at s (public_history h) (replicate n 0) ≡ words_of n (word_at h s)
 memories n s [] = sym (words_of-zeros n)
-memories n s (e ∷ h) = memory_at-append s (public_history h) (public_entry e ∷ []) (replicate n 0) ∙ memories_by n s (word_at h s) (memory_at s (public_history h) (replicate n 0)) e (nat_le e.time s) refl (memories n s h)
+memories n s (e ∷ h) =
+    memory_at-append s (public_history h) (public_entry e ∷ []) (replicate n 0)
+    ∙ memories_by n s (word_at h s) (memory_at s (public_history h) (replicate n 0)) e (nat_le e.time s) refl (memories n s h)
 
 pub memories-at : (n s a : ℕ) (h : List Entry) → a < n → slice_index (memory_at s (public_history h) (replicate n 0)) a ≡ word_at h s a
 memories-at n s a h lt = rw (memories n s h) (words_of-at n (word_at h s) a lt)
@@ -162,7 +167,9 @@ made_by_append n [] e = by (e.caller == n)
 made_by_append n (d ∷ es) e = by (d.caller == n) (e.caller == n) (made_by_append n es e)
   where
     by : (t u : Bool) → public.made_by n (es ++ e ∷ []) ≡ (if u then public.made_by n es ++ e ∷ [] else public.made_by n es)
-        → (if t then d ∷ public.made_by n (es ++ e ∷ []) else public.made_by n (es ++ e ∷ [])) ≡ (if u then (if t then d ∷ public.made_by n es else public.made_by n es) ++ e ∷ [] else (if t then d ∷ public.made_by n es else public.made_by n es))
+        → (if t then d ∷ public.made_by n (es ++ e ∷ []) else public.made_by n (es ++ e ∷ []))
+        ≡ (if u then (if t then d ∷ public.made_by n es else public.made_by n es)
+        ++ e ∷ [] else (if t then d ∷ public.made_by n es else public.made_by n es))
     by true true h = ap (λ l. d ∷ l) h
     by true false h = ap (λ l. d ∷ l) h
     by false true h = h
@@ -215,7 +222,8 @@ module _ (good : List ℕ → Type 0) (c : Config) where
       by : (t : Bool) → (e.caller == n) ≡ t → Numbered 0 (public.made_by n (public_history h)) → Numbered 0 (if t then public.made_by n (public_history h) ++ public_entry e ∷ [] else public.made_by n (public_history h))
       by true q r =
           let same : e.caller ≡ n = grind (arith, nat_tests) in
-          let count : length (made_by h e.caller) ≡ length (public.made_by n (public_history h)) = ap (λ k. length (made_by h k)) same ∙ sym (length-public_history (made_by h n)) ∙ ap length (public_history-made_by n h) in
+          let count : length (made_by h e.caller) ≡ length (public.made_by n (public_history h)) = ap (λ k. length (made_by h k)) same ∙ sym
+          (length-public_history (made_by h n)) ∙ ap length (public_history-made_by n h) in
           let number = l.0.number in
           numbered_append 0 (public.made_by n (public_history h)) (public_entry e) r (omega arith)
       by false q r = r
@@ -230,7 +238,9 @@ module _ (good : List ℕ → Type 0) (c : Config) where
           good_same (word_now (e ∷ h)) (word_at (e ∷ h) s) (λ a. rw q (ap (over e.writes a) (sym (word_at-all h e.time s a b.1 le)))) l.0.leaves
       by false q g = good_same (word_at h s) (word_at (e ∷ h) s) (λ a. rw q refl) g
 
-  reads_hold : (h : List Entry) (t : ℕ) → Below h t → Legal (of_words good c.words) c h → All (λ (d : public.Entry). public_memories.Explains (memory_at (d.time - 1) (public_history h) (replicate c.words 0)) d.reads) (public_history h)
+  reads_hold : (h : List Entry) (t : ℕ) → Below h t → Legal (of_words good c.words) c h
+      → All (λ (d : public.Entry). public_memories.Explains (memory_at (d.time - 1) (public_history h) (replicate c.words 0)) d.reads)
+      (public_history h)
   reads_hold [] t b l = All-nil (λ (d : public.Entry). public_memories.Explains (memory_at (d.time - 1) (public_history []) (replicate c.words 0)) d.reads)
   reads_hold (e ∷ h) t b l = All-push P (public_history h) (public_entry e)
       (All-weaker (λ (d : public.Entry). (d.time < e.time) × public_memories.Explains (memory_at (d.time - 1) (public_history h) (replicate c.words 0)) d.reads) P old (public_history h)
@@ -240,7 +250,9 @@ module _ (good : List ℕ → Type 0) (c : Config) where
       P : public.Entry → Type 0
       P d = public_memories.Explains (memory_at (d.time - 1) (public_history (e ∷ h)) (replicate c.words 0)) d.reads
 
-      old : (d : public.Entry) → (d.time < e.time) × public_memories.Explains (memory_at (d.time - 1) (public_history h) (replicate c.words 0)) d.reads → public_memories.Explains (memory_at (d.time - 1) (public_history (e ∷ h)) (replicate c.words 0)) d.reads
+      old : (d : public.Entry)
+          → (d.time < e.time) × public_memories.Explains (memory_at (d.time - 1) (public_history h) (replicate c.words 0)) d.reads
+          → public_memories.Explains (memory_at (d.time - 1) (public_history (e ∷ h)) (replicate c.words 0)) d.reads
       old d p = subst (λ m. public_memories.Explains m d.reads) (sym (late d.time p.0)) p.1
         where
           late : (s : ℕ) → s < e.time → memory_at (s - 1) (public_history (e ∷ h)) (replicate c.words 0) ≡ memory_at (s - 1) (public_history h) (replicate c.words 0)
@@ -256,7 +268,9 @@ module _ (good : List ℕ → Type 0) (c : Config) where
 
   entries : (h : List Entry) → Legal (of_words good c.words) c h → All IsEntry (public_history h)
   entries [] l = All-nil IsEntry
-  entries (e ∷ h) l = All-push IsEntry (public_history h) (public_entry e) (entries h l.1) (record { reads_once = items-once e.reads; writes_once = items-once e.writes; writes_some = items-some e.writes l.0.writes_some })
+  entries (e ∷ h) l =
+      All-push IsEntry (public_history h) (public_entry e) (entries h l.1)
+      (record { reads_once = items-once e.reads; writes_once = items-once e.writes; writes_some = items-some e.writes l.0.writes_some })
 
   -- a history that is legal for the rule is legal as a user is told it
   pub legal-public : (h : List Entry) (t : ℕ) → Below h t → Legal (of_words good c.words) c h → IsLegal good (replicate c.words 0) c.clock (public_history h)

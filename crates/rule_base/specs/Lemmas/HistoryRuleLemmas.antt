@@ -37,7 +37,8 @@ advances-entry w x e gate later clock done is = record {
 
 module _ (good : (ℕ → ℕ) → Type 0) (c : Config) where
   -- the caller's part of the history was left alone, and the clock stands
-  pub history-kept : (w x : World) (n : ℕ) (v : View) → x.views ≡ put w.views n v → x.clock ≡ w.clock → x.history ≡ w.history → v.history ≡ (w.views n).history → HistoryRule good c (history_projection w) → HistoryRule good c (history_projection x)
+  pub history-kept : (w x : World) (n : ℕ) (v : View) → x.views ≡ put w.views n v → x.clock ≡ w.clock → x.history ≡ w.history
+      → v.history ≡ (w.views n).history → HistoryRule good c (history_projection w) → HistoryRule good c (history_projection x)
   history-kept w x n v views clock history own r = subst (HistoryRule good c) (sym path) r
     where
       path : history_projection x ≡ history_projection w
@@ -85,7 +86,9 @@ module _ (good : (ℕ → ℕ) → Type 0) (c : Config) where
       }
 
   -- the caller keeps all that there is apart
-  pub history-ended : (w x : World) (n : ℕ) (v : View) (p : Prefix) → x.views ≡ put w.views n v → x.clock ≡ w.clock → x.history ≡ w.history → v.history ≡ record (w.views n).history { whole = p } → HistoryRule good c (history_projection w) → HistoryRule good c (history_projection x)
+  pub history-ended : (w x : World) (n : ℕ) (v : View) (p : Prefix) → x.views ≡ put w.views n v → x.clock ≡ w.clock → x.history ≡ w.history
+      → v.history ≡ record (w.views n).history { whole = p } → HistoryRule good c (history_projection w)
+      → HistoryRule good c (history_projection x)
   history-ended w x n v p views clock history own r = subst (HistoryRule good c) (sym path) (record {
     legal = r.legal;
     below = r.below;
@@ -104,7 +107,8 @@ module _ (good : (ℕ → ℕ) → Type 0) (c : Config) where
       }
 
   -- the caller has seen all up to f
-  pub history-upto : (w x : World) (n f : ℕ) (v : View) → x.views ≡ put w.views n v → x.clock ≡ w.clock → x.history ≡ w.history → v.history ≡ record (w.views n).history { seen = upto w.history f; front = f } → (w.views n).history.front ≤ f → f ≤ w.clock
+  pub history-upto : (w x : World) (n f : ℕ) (v : View) → x.views ≡ put w.views n v → x.clock ≡ w.clock → x.history ≡ w.history
+      → v.history ≡ record (w.views n).history { seen = upto w.history f; front = f } → (w.views n).history.front ≤ f → f ≤ w.clock
       → HistoryRule good c (history_projection w) → HistoryRule good c (history_projection x)
   history-upto w x n f v views clock history own up low r = subst (HistoryRule good c) (sym path) (record {
     legal = r.legal;
@@ -151,7 +155,9 @@ module _ (good : (ℕ → ℕ) → Type 0) (c : Config) where
         told_front = k.told_front;
       })
 
-  pub history-entry : (w x : World) (n : ℕ) (e : Entry) (v : View) → x.views ≡ put w.views n v → x.clock ≡ e.time → x.history ≡ e ∷ w.history → v.history ≡ record (w.views n).history { made = e ∷ (w.views n).history.made; seen = e ∷ w.history; front = e.time }
+  pub history-entry : (w x : World) (n : ℕ) (e : Entry) (v : View) → x.views ≡ put w.views n v → x.clock ≡ e.time
+      → x.history ≡ e ∷ w.history
+      → v.history ≡ record (w.views n).history { made = e ∷ (w.views n).history.made; seen = e ∷ w.history; front = e.time }
       → e.caller ≡ n → w.clock < e.time → e.time ≤ CLOCK_LIMIT → Follows good c e w.history → HistoryRule good c (history_projection w) → HistoryRule good c (history_projection x)
   history-entry w x n e v views clock history own mine later limit follows r = subst (HistoryRule good c) (sym path) (record {
     legal = (follows, r.legal);
@@ -161,7 +167,13 @@ module _ (good : (ℕ → ℕ) → Type 0) (c : Config) where
     known = entry_known (history_projection w) n e mine later r;
   })
     where
-      path : history_projection x ≡ record { clock = e.time; history = e ∷ w.history; views = put (history_projection w).views n (record (w.views n).history { made = e ∷ (w.views n).history.made; seen = e ∷ w.history; front = e.time }) }
+      path : history_projection x
+          ≡ record {
+            clock = e.time;
+            history = e ∷ w.history;
+            views = put (history_projection w).views n
+                (record (w.views n).history { made = e ∷ (w.views n).history.made; seen = e ∷ w.history; front = e.time });
+          }
       path = λ i. record {
         clock = clock i;
         history = history i;
@@ -179,14 +191,17 @@ module _ (good : (ℕ → ℕ) → Type 0) (c : Config) where
       go false q = record { made = o.made; seen = seen; front = front; opened = let a = o.opened in let l : h.front ≤ k.front = grind (arith, q) in omega arith; told = o.seen; told_front = grind (arith, q) }
 
   -- the caller learnt a note
-  pub history-learned : (w x : World) (n : ℕ) (v : View) (k : SeenHistory) → x.views ≡ put w.views n v → x.clock ≡ w.clock → x.history ≡ w.history → v.history ≡ learned_history (w.views n).history k → k.seen ≡ upto w.history k.front → k.front ≤ w.clock
+  pub history-learned : (w x : World) (n : ℕ) (v : View) (k : SeenHistory) → x.views ≡ put w.views n v → x.clock ≡ w.clock
+      → x.history ≡ w.history → v.history ≡ learned_history (w.views n).history k → k.seen ≡ upto w.history k.front → k.front ≤ w.clock
       → HistoryRule good c (history_projection w) → HistoryRule good c (history_projection x)
   history-learned w x n v k views clock history own seen front r = subst (HistoryRule good c) (sym path) (record {
     legal = r.legal;
     below = r.below;
     opened = r.opened;
     limit = r.limit;
-    known = put-all (history_projection w).views n (learned_history (w.views n).history k) (KnowsHistory c w.clock w.history) (learned_knows w.clock w.history n (w.views n).history k (r.known n) seen front) (λ m d. r.known m);
+    known =
+        put-all (history_projection w).views n (learned_history (w.views n).history k) (KnowsHistory c w.clock w.history)
+        (learned_knows w.clock w.history n (w.views n).history k (r.known n) seen front) (λ m d. r.known m);
   })
     where
       path : history_projection x ≡ record { clock = w.clock; history = w.history; views = put (history_projection w).views n (learned_history (w.views n).history k) }

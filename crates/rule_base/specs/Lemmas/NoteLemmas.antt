@@ -24,7 +24,9 @@ module _ {K : Type 0} (rule : K) (c : Config) (w : World) (seats : List (SeatVie
 
     old : (j : ℕ) (u : SeatView K) → get_elem? (set seats id spent) j ≡ some u → (u.who.role ≢ Spent) ⊎ ((n : ℕ) × Claims u n) → get_elem? seats j ≡ some u
     old j u e live = ⊎_elim
-        (λ (t : (j ≡ id) × (spent ≡ u)). absurd (⊎_elim (λ (d : u.who.role ≢ Spent). d (ap (λ (y : SeatView K). y.who.role) (sym t.1))) (λ (k : (n : ℕ) × Claims u n). none_claimed k.0 (subst (λ (y : SeatView K). Claims y k.0) (sym t.1) k.1)) live))
+        (λ (t : (j ≡ id) × (spent ≡ u)).
+        absurd (⊎_elim (λ (d : u.who.role ≢ Spent). d (ap (λ (y : SeatView K). y.who.role) (sym t.1)))
+        (λ (k : (n : ℕ) × Claims u n). none_claimed k.0 (subst (λ (y : SeatView K). Claims y k.0) (sym t.1) k.1)) live))
         (λ (t : (j ≢ id) × (get_elem? seats j ≡ some u)). t.1)
         (at-set seats id j spent u e)
 
@@ -168,7 +170,8 @@ module _ {K : Type 0} (rule : K) (c : Config) (w : World) (seats : List (SeatVie
     their_claim g (inr h) = inr (g, h, refl)
 
     -- a fact of each seat: of the spent, of the one that gathers, and of the others
-    every : (P : SeatView K → Type 0) (j : ℕ) (u : SeatView K) → get_elem? (set (set seats id (takes_in s t)) other spent) j ≡ some u → P spent → (j ≡ id → P (takes_in s t)) → (j ≢ other → get_elem? seats j ≡ some u → P u) → P u
+    every : (P : SeatView K → Type 0) (j : ℕ) (u : SeatView K) → get_elem? (set (set seats id (takes_in s t)) other spent) j ≡ some u
+        → P spent → (j ≡ id → P (takes_in s t)) → (j ≢ other → get_elem? seats j ≡ some u → P u) → P u
     every P j u e gone here else = ⊎_elim
         (λ (a : (j ≡ other) × (spent ≡ u)). subst P a.1 gone)
         (λ (a : (j ≢ other) × (get_elem? (set seats id (takes_in s t)) j ≡ some u)). ⊎_elim
@@ -231,8 +234,15 @@ module _ {K : Type 0} (rule : K) (c : Config) (w : World) (seats : List (SeatVie
           (λ d o. r.apart j q u g o);
       within = λ j q u e p. let a = reach j q u e p in r.within a.0 q a.1 a.2 a.3;
       note = λ j u e. every (λ (y : SeatView K). y.who.role ≡ Note → IsSeen w y.view.history) j u e (λ k. absurd cc) (λ x k. absurd (let z : Caller n ≡ Note = sym mine ∙ k in cc)) (λ d o. r.note j u o);
-      undealt = λ j k q u e. every (λ (y : SeatView K). y.who.role ≡ Dealer k → k ≤ q → w.views q ≡ first_view c) j u e (λ x. absurd cc) (λ x y. absurd (let z : Caller n ≡ Dealer k = sym mine ∙ y in cc)) (λ d o. r.undealt j k q u o);
-      dealt = λ i j k q u v ei ej x p. let a = reach j q v ej p in every (λ (y : SeatView K). y.who.role ≡ Dealer k → q < k) i u ei (λ y. absurd cc) (λ z y. absurd (let f : Caller n ≡ Dealer k = sym mine ∙ y in cc)) (λ d o y. r.dealt i a.0 k q u a.1 o a.2 y a.3) x;
+      undealt =
+          λ j k q u e.
+          every (λ (y : SeatView K). y.who.role ≡ Dealer k → k ≤ q → w.views q ≡ first_view c) j u e (λ x. absurd cc)
+          (λ x y. absurd (let z : Caller n ≡ Dealer k = sym mine ∙ y in cc)) (λ d o. r.undealt j k q u o);
+      dealt =
+          λ i j k q u v ei ej x p.
+          let a = reach j q v ej p in
+          every (λ (y : SeatView K). y.who.role ≡ Dealer k → q < k) i u ei (λ y. absurd cc)
+          (λ z y. absurd (let f : Caller n ≡ Dealer k = sym mine ∙ y in cc)) (λ d o y. r.dealt i a.0 k q u a.1 o a.2 y a.3) x;
       dealer = λ i j k l u v ei ej p q. every (λ (y : SeatView K). y.who.role ≡ Dealer k → i ≡ j) i u ei (λ y. absurd cc) (λ z y. absurd (let f : Caller n ≡ Dealer k = sym mine ∙ y in cc))
           (λ d o y. every (λ (x : SeatView K). x.who.role ≡ Dealer l → i ≡ j) j v ej (λ x. absurd cc) (λ z x. absurd (let f : Caller n ≡ Dealer l = sym mine ∙ x in cc)) (λ f a x. r.dealer i j k l u v o a y x) q) p;
       config = λ j u e. every (λ (y : SeatView K). y.who.role ≢ Spent → y.who.config ≡ c) j u e (λ d. absurd (d refl)) (λ x d. r.config id s at live_here) (λ d o. r.config j u o);

@@ -12,7 +12,8 @@ use Rattle.rule_base.specs.RecordRule.{record_projection, RecordRule}
 use Rattle.rule_base.specs.World.{World, put, parts}
 
 -- who holds a record is in its attempt after the step
-pub records-after : (w x : World) (n : ℕ) (v : View) → x.views ≡ put w.views n v → w.clock ≤ x.clock → x.records ≡ w.records → v.owned.held ≡ (w.views n).owned.held → ((r : ℕ) → touches (w.views n).owned.held r ≡ true → v.gate.phase ≡ In)
+pub records-after : (w x : World) (n : ℕ) (v : View) → x.views ≡ put w.views n v → w.clock ≤ x.clock → x.records ≡ w.records → v.owned.held
+    ≡ (w.views n).owned.held → ((r : ℕ) → touches (w.views n).owned.held r ≡ true → v.gate.phase ≡ In)
     → RecordRule (record_projection w) → RecordRule (record_projection x)
 records-after w x n v is up records own inside r = subst RecordRule (sym path) (record {
   free = λ k e. le_trans (r.free k e) up;
@@ -29,15 +30,20 @@ records-after w x n v is up records own inside r = subst RecordRule (sym path) (
     }
 
 -- a step that leaves the phase alone
-pub records-stay : (w x : World) (n : ℕ) (v : View) → x.views ≡ put w.views n v → w.clock ≤ x.clock → x.records ≡ w.records → v.owned.held ≡ (w.views n).owned.held → v.gate.phase ≡ (w.views n).gate.phase → RecordRule (record_projection w) → RecordRule (record_projection x)
+pub records-stay : (w x : World) (n : ℕ) (v : View) → x.views ≡ put w.views n v → w.clock ≤ x.clock → x.records ≡ w.records → v.owned.held ≡
+    (w.views n).owned.held → v.gate.phase ≡ (w.views n).gate.phase → RecordRule (record_projection w) → RecordRule (record_projection x)
 records-stay w x n v is up records own phase r = records-after w x n v is up records own (λ k t. phase ∙ r.inside n k t) r
 
 -- a caller gives a record back with a version that is at most the clock
-pub records-given : (w x : World) (n r version : ℕ) (v : View) → x.views ≡ put w.views n v → x.clock ≡ w.clock → x.records ≡ put w.records r (free_record version) → v.owned.held ≡ without (w.views n).owned.held r → v.gate.phase ≡ (w.views n).gate.phase → version ≤ w.clock
+pub records-given : (w x : World) (n r version : ℕ) (v : View) → x.views ≡ put w.views n v → x.clock ≡ w.clock → x.records ≡ put w.records r
+    (free_record version) → v.owned.held ≡ without (w.views n).owned.held r → v.gate.phase ≡ (w.views n).gate.phase → version ≤ w.clock
     → RecordRule (record_projection w) → RecordRule (record_projection x)
 records-given w x n r version v is clock records own phase low g = subst RecordRule (sym path) (record {
   free = put-all w.records r (free_record version) (λ q word. is_owned word ≡ false → version_of word ≤ w.clock) (λ e. subst (λ (k : ℕ). k ≤ w.clock) (sym (version_of-free version)) low) (λ q d. g.free q);
-  owned = put-all w.records r (free_record version) (λ q word. is_owned word ≡ true → touches (held (owner_of word)) q ≡ true) (λ t. absurd (let f : false ≡ true = sym (is_owned-free version) ∙ t in cc)) (λ q d t. kept (owner_of (w.records q)) q d (g.owned q t));
+  owned =
+      put-all w.records r (free_record version) (λ q word. is_owned word ≡ true → touches (held (owner_of word)) q ≡ true)
+      (λ t. absurd (let f : false ≡ true = sym (is_owned-free version) ∙ t in cc)) (λ q d t.
+      kept (owner_of (w.records q)) q d (g.owned q t));
   inside = λ m q. put-all w.views n v (λ j u. touches (put (record_projection w).held n v.owned.held j) q ≡ true → u.gate.phase ≡ In)
       (λ t. phase ∙ g.inside n q (less q (subst (λ (k : List Cell). touches k q ≡ true) (put-here (record_projection w).held n v.owned.held) t)))
       (λ j d t. g.inside j q (subst (λ (k : List Cell). touches k q ≡ true) (put-else (record_projection w).held n j v.owned.held d) t)) m;

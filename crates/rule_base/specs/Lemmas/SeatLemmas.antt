@@ -36,7 +36,9 @@ module _ {K : Type 0} where
       (λ (g : (g : Gathered) × Contains t.gathered g × (g.caller ≡ n)). inr (g.0, subst (λ l. Contains l g.0) (sym gathered) g.1, g.2))
 
   -- caller n, at seat id, took a step
-  module _ (rule : K) (c : Config) (w x : World) (seats : List (SeatView K)) (id n : ℕ) (s : SeatView K) (v : View) (r : Seats rule c w seats) (at : get_elem? seats id ≡ some s) (mine : s.who.role ≡ Caller n) (a : Advances w x) (is : x.views ≡ put w.views n v) where
+  module _ (rule : K) (c : Config) (w x : World) (seats : List (SeatView K)) (id n : ℕ) (s : SeatView K) (v : View)
+      (r : Seats rule c w seats) (at : get_elem? seats id ≡ some s) (mine : s.who.role ≡ Caller n) (a : Advances w x)
+      (is : x.views ≡ put w.views n v) where
     abbrev after : SeatView K
     after = record s { view = v }
 

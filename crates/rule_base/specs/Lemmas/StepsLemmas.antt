@@ -79,7 +79,9 @@ module _ (c : Config) (kind : StepKind) (n : ℕ) (w : World) where
   })
 
   -- the step raised the clock by k
-  pub steps-raised : (k : ℕ) → n < c.callers → (world_after kind n w).clock ≡ w.clock + k → (kind.after w (w.views n) (answer kind w)).steps.step_trace ≡ (w.views n).steps.step_trace → (kind.after w (w.views n) (answer kind w)).steps.rises ≡ (w.views n).steps.rises + k
+  pub steps-raised : (k : ℕ) → n < c.callers → (world_after kind n w).clock ≡ w.clock + k
+      → (kind.after w (w.views n) (answer kind w)).steps.step_trace ≡ (w.views n).steps.step_trace
+      → (kind.after w (w.views n) (answer kind w)).steps.rises ≡ (w.views n).steps.rises + k
       → StepsRule c (steps_projection w) → StepsRule c (steps_projection (world_after kind n w))
   steps-raised k low clock own more s = subst (StepsRule c) (sym projection_after) (record {
     step_trace = step_traces (world_after kind n w).clock (omega arith) own s;

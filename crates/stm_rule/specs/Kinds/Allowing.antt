@@ -68,7 +68,8 @@ module _ {K : Type 0} (good : K → List ℕ → Type 0) (c : Config) (rule : K)
             ((w, subst (λ (u : View). shows w u t) is o.shown, record { here = λ j e. k.seats.here id j m.0 at e; joined = λ g h. k.seats.joined id m.0 g at h }, ap (λ (u : View). record m.0 { view = u }) seen), refl),
       )
 
-  pub allows_at : (key : Key K) → key ≡ record { config = c; rule = rule } → (slots word : ℕ) (f back : ℕ → ℕ) → word ≡ offset c kind.place → InRange c kind.place → ((x : ℕ) → word_after kind.act x ≡ f x) → ((x : ℕ) → answer_of kind.act x ≡ back x) → m.0.who.role ≡ Caller n
+  pub allows_at : (key : Key K) → key ≡ record { config = c; rule = rule } → (slots word : ℕ) (f back : ℕ → ℕ) → word ≡ offset c kind.place
+      → InRange c kind.place → ((x : ℕ) → word_after kind.act x ≡ f x) → ((x : ℕ) → answer_of kind.act x ≡ back x) → m.0.who.role ≡ Caller n
       → LawAt (Rule good c rule) kind shows n m.0.view → Allows (Kept good key) slots id m word f (λ x m'. told kind shows st m (back x) m')
   allows_at key is slots word f back where_is room word_is answer_is role law =
       subst (λ (k : Key K). Allows (Kept good k) slots id m word f (λ x m'. told kind shows st m (back x) m')) (sym is) (allows slots word f back where_is room word_is answer_is role law)

@@ -28,22 +28,53 @@ use Rattle.stm_rule.specs.Product.{Core}
 
 module _ (good : (ℕ → ℕ) → Type 0) (c : Config) (n : ℕ) where
   pub aims : StepLaw (Core good c) aim (FindsHolder c n) n CanAim
-  aims w g may = let o = by-gate good c aim n w (record { common = record { words = λ w. (refl, refl, refl); history = λ w. (refl, refl); steps = λ w. (refl, refl); held = λ w. (refl, refl); busy = λ w. refl }; marks = λ w. (refl, refl); memory = λ w. (refl, refl); view = λ w. refl }) g (λ e. absurd (out e)) (λ e. absurd (unentered good c w n g (ap may_hold may) e)) (λ k e. k) (aim-gate c.callers w n may g.gate)
-      (install-apart c w (world_after aim n w) n (view_after aim w (w.views n) w.gate) refl refl refl refl (unheld good c w n g (ap may_hold may)) refl refl refl refl refl g.install) (regime-kept w (world_after aim n w) n (view_after aim w (w.views n) w.gate) refl refl refl) in
+  aims w g may =
+      let o = by-gate good c aim n w (record {
+        common = record {
+          words = λ w. (refl, refl, refl);
+          history = λ w. (refl, refl);
+          steps = λ w. (refl, refl);
+          held = λ w. (refl, refl);
+          busy = λ w. refl;
+        };
+        marks = λ w. (refl, refl);
+        memory = λ w. (refl, refl);
+        view = λ w. refl;
+      }) g (λ e. absurd (out e)) (λ e. absurd (unentered good c w n g (ap may_hold may) e)) (λ k e. k)
+      (aim-gate c.callers w n may g.gate)
+      (install-apart c w (world_after aim n w) n (view_after aim w (w.views n) w.gate) refl refl refl refl
+      (unheld good c w n g (ap may_hold may)) refl refl refl refl refl g.install)
+      (regime-kept w (world_after aim n w) n (view_after aim w (w.views n) w.gate) refl refl refl) in
       record { rule = o.0; advances = o.1; shown = λ free other. closer good c n w g w.gate refl other free }
     where
       out : (w.views n).gate.phase ≡ In → ⊥
       out e = let k : Announced ≡ In = sym may ∙ e in cc
 
   -- a gate that changes hands with its algorithm leaves what runs, where neither holder is promoted
-  pub regime-handed : (w x : World) (v : View) → x.views ≡ put w.views n v → alg_of x.gate ≡ alg_of w.gate → ((m : ℕ) → holder_of w.gate ≡ 1 + m → mode_of (w.views m).gate ≡ Plain) → ((m : ℕ) → holder_of x.gate ≡ 1 + m → m ≡ n) → mode_of v.gate ≡ Plain → regime x ≡ regime w
+  pub regime-handed : (w x : World) (v : View) → x.views ≡ put w.views n v → alg_of x.gate ≡ alg_of w.gate
+      → ((m : ℕ) → holder_of w.gate ≡ 1 + m → mode_of (w.views m).gate ≡ Plain) → ((m : ℕ) → holder_of x.gate ≡ 1 + m → m ≡ n)
+      → mode_of v.gate ≡ Plain → regime x ≡ regime w
   regime-handed w x v is alg before after plain = regime-running x (λ m h. subst (λ (f : ℕ → View). mode_of (f m).gate ≡ Plain) (sym is) (own m (after m h))) ∙ (ap Running alg ∙ sym (regime-running w before))
     where
       own : (m : ℕ) → m ≡ n → mode_of (put w.views n v m).gate ≡ Plain
       own m e = ap (λ (k : ℕ). mode_of (put w.views n v k).gate) e ∙ (ap (λ (u : View). mode_of u.gate) (put-here w.views n v) ∙ plain)
 
   pub takes_gate : (word : ℕ) → n < c.callers → StepLaw (Core good c) (take_gate n word) (FindsTaken c n word) n (CanTakeGate word)
-  takes_gate word low w g may = let o = by-gate good c (take_gate n word) n w (record { common = record { words = λ w. (refl, refl, refl); history = λ w. (refl, refl); steps = λ w. (refl, refl); held = λ w. (refl, refl); busy = λ w. refl }; marks = λ w. (refl, refl); memory = λ w. (refl, refl); view = λ w. refl }) g (λ e. absurd (out e)) (λ e. absurd (unentered good c w n g (ap may_hold may.phase) e)) (λ k e. absurd (unentered good c w n g (ap may_hold may.phase) e)) (take_gate-gate c.callers word w n low may g.gate) install (runs (w.gate == word) (λ e. eqb-true w.gate word e)) in
+  takes_gate word low w g may =
+      let o = by-gate good c (take_gate n word) n w (record {
+        common = record {
+          words = λ w. (refl, refl, refl);
+          history = λ w. (refl, refl);
+          steps = λ w. (refl, refl);
+          held = λ w. (refl, refl);
+          busy = λ w. refl;
+        };
+        marks = λ w. (refl, refl);
+        memory = λ w. (refl, refl);
+        view = λ w. refl;
+      }) g (λ e. absurd (out e)) (λ e. absurd (unentered good c w n g (ap may_hold may.phase) e))
+      (λ k e. absurd (unentered good c w n g (ap may_hold may.phase) e)) (take_gate-gate c.callers word w n low may g.gate) install
+      (runs (w.gate == word) (λ e. eqb-true w.gate word e)) in
       record { rule = o.0; advances = o.1; shown = other }
     where
       out : (w.views n).gate.phase ≡ In → ⊥
@@ -75,7 +106,10 @@ module _ (good : (ℕ → ℕ) → Type 0) (c : Config) (n : ℕ) where
       runs : (b : Bool) → (b ≡ true → w.gate ≡ word) → regime (at b) ≡ regime w
       runs true e =
           let none : holder_of w.gate ≡ 0 = ap holder_of (e refl ∙ aimed) ∙ holder_of-open (fence_of w.gate) (alg_of w.gate) in
-          regime-handed w (at true) (next true) refl (alg_of-gate (fence_of word) (1 + n) (alg_of word) ∙ same) (λ m h. absurd (omega arith)) (λ m h. let k = holder-closed c.callers (gate_projection w) g.gate n low (fence_of word) (alg_of word) in omega arith) (plain-mode (next true).gate plain refl)
+          regime-handed w (at true) (next true) refl (alg_of-gate (fence_of word) (1 + n) (alg_of word) ∙ same)
+          (λ m h. absurd (omega arith))
+          (λ m h. let k = holder-closed c.callers (gate_projection w) g.gate n low (fence_of word) (alg_of word) in omega arith)
+          (plain-mode (next true).gate plain refl)
       runs false e = regime-kept w (at false) n (next false) refl refl refl
 
       install : InstallRule c (install_projection (world_after (take_gate n word) n w))
@@ -88,7 +122,19 @@ module _ (good : (ℕ → ℕ) → Type 0) (c : Config) (n : ℕ) where
       other differs = closer good c n w g w.gate refl (closed differs) free
 
   pub checks : (k : ℕ) → StepLaw (Core good c) (check k) Nothing n (CanCheck n k)
-  checks k w g may = let o = by-gate good c (check k) n w (record { common = record { words = λ w. (refl, refl, refl); history = λ w. (refl, refl); steps = λ w. (refl, refl); held = λ w. (refl, refl); busy = λ w. refl }; marks = λ w. (refl, refl); memory = λ w. (refl, refl); view = λ w. refl }) g (λ e. e) (λ e. g.attempts.entered n e) (λ k e. k) (check-gate c.callers k w n may g.gate)
+  checks k w g may =
+      let o = by-gate good c (check k) n w (record {
+        common = record {
+          words = λ w. (refl, refl, refl);
+          history = λ w. (refl, refl);
+          steps = λ w. (refl, refl);
+          held = λ w. (refl, refl);
+          busy = λ w. refl;
+        };
+        marks = λ w. (refl, refl);
+        memory = λ w. (refl, refl);
+        view = λ w. refl;
+      }) g (λ e. e) (λ e. g.attempts.entered n e) (λ k e. k) (check-gate c.callers k w n may g.gate)
       (install-looked c w x n v (seen (w.status k == 0)) refl refl refl refl refl (more (w.status k == 0)) g.install) (regime-kept w x n v refl refl refl) in
       record { rule = o.0; advances = o.1; shown = tt }
     where
@@ -106,10 +152,26 @@ module _ (good : (ℕ → ℕ) → Type 0) (c : Config) (n : ℕ) where
       more false j e = e
 
   pub reopens : (fence : ℕ) (alg : Alg) → StepLaw (Core good c) (reopen fence alg) Nothing n (CanReopen fence alg)
-  reopens fence alg w g may = let o = by-gate good c (reopen fence alg) n w (record { common = record { words = λ w. (refl, refl, refl); history = λ w. (refl, refl); steps = λ w. (refl, refl); held = λ w. (refl, refl); busy = λ w. refl }; marks = λ w. (refl, refl); memory = λ w. (refl, refl); view = λ w. refl }) g (λ e. absurd (out e)) (λ e. absurd (let f : true ≡ false = sym e ∙ may.unentered in cc)) (λ k e. absurd (let f : true ≡ false = sym e ∙ may.unentered in cc)) (reopen-gate c.callers fence alg w n may g.gate)
+  reopens fence alg w g may =
+      let o = by-gate good c (reopen fence alg) n w (record {
+        common = record {
+          words = λ w. (refl, refl, refl);
+          history = λ w. (refl, refl);
+          steps = λ w. (refl, refl);
+          held = λ w. (refl, refl);
+          busy = λ w. refl;
+        };
+        marks = λ w. (refl, refl);
+        memory = λ w. (refl, refl);
+        view = λ w. refl;
+      }) g (λ e. absurd (out e)) (λ e. absurd (let f : true ≡ false = sym e ∙ may.unentered in cc))
+      (λ k e. absurd (let f : true ≡ false = sym e ∙ may.unentered in cc)) (reopen-gate c.callers fence alg w n may g.gate)
       (install-view c w (world_after (reopen fence alg) n w) n (opened (w.views n).gate) (view_after (reopen fence alg) w (w.views n) (gate_word fence 0 alg)) refl refl refl refl refl refl refl refl plain refl g.install)
       (regime-handed w (world_after (reopen fence alg) n w) (view_after (reopen fence alg) w (w.views n) (gate_word fence 0 alg)) refl is
-      (λ m h. subst (λ (k : ℕ). mode_of (w.views k).gate ≡ Plain) (let o = g.gate.mine n holds in let e : n ≡ m = omega arith in e) (plain-mode (w.views n).gate plain may.ungiven)) (λ m h. absurd (let k = holder_of-open fence alg in omega arith)) (plain-mode (opened (w.views n).gate) plain refl)) in
+      (λ m h.
+      subst (λ (k : ℕ). mode_of (w.views k).gate ≡ Plain) (let o = g.gate.mine n holds in let e : n ≡ m = omega arith in e)
+      (plain-mode (w.views n).gate plain may.ungiven)) (λ m h. absurd (let k = holder_of-open fence alg in omega arith))
+      (plain-mode (opened (w.views n).gate) plain refl)) in
       record { rule = o.0; advances = o.1; shown = tt }
     where
       out : (w.views n).gate.phase ≡ In → ⊥

@@ -57,7 +57,10 @@ module _ (good : (ℕ → ℕ) → Type 0) (c : Config) (n : ℕ) where
         records = records-stay w x n v refl (le_refl w.clock) refl refl refl g.core.records;
         lock = subst LockRule (sym (lock_projection-kept w x n v refl refl refl refl)) g.core.lock;
         attempts = attempts-stay w x n v refl refl refl refl g.core.attempts;
-        running = runs-stays c (regime w) (regime x) (run_projection (without_fence w)) (run_projection (without_fence x)) (regime-kept w x n v refl refl refl) (run_projection-kept (without_fence w) (without_fence x) n v refl refl refl refl refl refl refl refl refl refl) g.core.running;
+        running =
+            runs-stays c (regime w) (regime x) (run_projection (without_fence w)) (run_projection (without_fence x))
+            (regime-kept w x n v refl refl refl)
+            (run_projection-kept (without_fence w) (without_fence x) n v refl refl refl refl refl refl refl refl refl refl) g.core.running;
         alone = alone-kept c (fence_load a) n w refl (λ sole. inr refl) g.core.alone;
         raised = raised-put w x n v refl (λ e. e) (λ e k. g.core.raised e n k) g.core.raised;
       };
@@ -86,7 +89,9 @@ module _ (good : (ℕ → ℕ) → Type 0) (c : Config) (n : ℕ) where
       here : fenced (fence_of w.gate) a ≡ true
       here = number-is w g may.holds a may.inside
 
-      logged : (k : Bool) → touches (w.views n).fence.stores a ≡ k → (b : ℕ) → over (if k then (w.views n).fence.reads else record { at = a; value = w.heap a } ∷ (w.views n).fence.reads) b (word_now w.history b) ≡ word_now w.history b
+      logged : (k : Bool) → touches (w.views n).fence.stores a ≡ k → (b : ℕ)
+          → over (if k then (w.views n).fence.reads else record { at = a; value = w.heap a } ∷ (w.views n).fence.reads) b
+          (word_now w.history b) ≡ word_now w.history b
       logged true e b = h.sees b
       logged false e b = let there : w.heap a ≡ word_now w.history a = h.stored a here ∙ over-miss (w.views n).fence.stores a (word_now w.history a) e in grind (arith, there, h.sees b)
 
@@ -106,7 +111,11 @@ module _ (good : (ℕ → ℕ) → Type 0) (c : Config) (n : ℕ) where
         records = records-stay w x n v refl (le_refl w.clock) refl refl refl g.core.records;
         lock = subst LockRule (sym (lock_projection-kept w x n v refl refl refl refl)) g.core.lock;
         attempts = attempts-stay w x n v refl refl refl refl g.core.attempts;
-        running = runs-stays c (regime w) (regime x) (run_projection (without_fence w)) (run_projection (without_fence x)) (regime-kept w x n v refl refl refl) (run_projection-kept (without_fence w) (without_fence x) n v refl refl refl refl refl refl refl hidden refl refl) g.core.running;
+        running =
+            runs-stays c (regime w) (regime x) (run_projection (without_fence w)) (run_projection (without_fence x))
+            (regime-kept w x n v refl refl refl)
+            (run_projection-kept (without_fence w) (without_fence x) n v refl refl refl refl refl refl refl hidden refl refl)
+            g.core.running;
         alone = alone-kept c (fence_store a k) n w refl (λ sole. inr refl) g.core.alone;
         raised = raised-put w x n v refl (λ e. e) (λ e j. g.core.raised e n j) g.core.raised;
       };
@@ -155,7 +164,9 @@ module _ (good : (ℕ → ℕ) → Type 0) (c : Config) (n : ℕ) where
         records = records-stay w x n v refl (le_refl w.clock) refl refl refl g.core.records;
         lock = subst LockRule (sym (lock_projection-kept w x n v refl refl refl refl)) g.core.lock;
         attempts = attempts-stay w x n v refl refl refl refl g.core.attempts;
-        running = runs-stays c (regime w) (regime x) (run_projection (without_fence w)) (run_projection (without_fence x)) handed (run_projection-kept (without_fence w) (without_fence x) n v refl refl refl refl refl refl refl bare refl refl) g.core.running;
+        running =
+            runs-stays c (regime w) (regime x) (run_projection (without_fence w)) (run_projection (without_fence x)) handed
+            (run_projection-kept (without_fence w) (without_fence x) n v refl refl refl refl refl refl refl bare refl refl) g.core.running;
         alone = alone-kept c (fence n (fence_number n from count) alg) n w refl (λ sole. inr refl) g.core.alone;
         raised = raised-put w x n v refl (λ e. same ∙ (sym named ∙ e)) (λ e j. g.core.raised (same ∙ (sym named ∙ e)) n j) g.core.raised;
       };
@@ -207,7 +218,10 @@ module _ (good : (ℕ → ℕ) → Type 0) (c : Config) (n : ℕ) where
       bare = heap_without_fence-rest (fence_of (gate_word (fence_number n from count) (1 + n) alg)) w.heap w.history (λ a e. lies a) ∙ sym unveiled
 
       handed : regime x ≡ regime w
-      handed = regime-handed good c n w x v refl (named ∙ sym same) (λ m h. subst (λ (k : ℕ). mode_of (w.views k).gate ≡ Plain) (let o = g.core.gate.mine n holds in let q : n ≡ m = omega arith in q) (plain-mode (w.views n).gate plain may.ungiven))
+      handed =
+          regime-handed good c n w x v refl (named ∙ sym same) (λ m h.
+          subst (λ (k : ℕ). mode_of (w.views k).gate ≡ Plain) (let o = g.core.gate.mine n holds in let q : n ≡ m = omega arith in q)
+          (plain-mode (w.views n).gate plain may.ungiven))
           (λ m h. let k = holder-closed c.callers (gate_projection w) g.core.gate n caller (fence_number n from count) alg in omega arith) (plain-mode v.gate plain may.ungiven)
 
       out : (m : ℕ) → put (fence_projection w).phases n v.gate.phase m ≡ In → ⊥

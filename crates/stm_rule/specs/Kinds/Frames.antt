@@ -172,7 +172,16 @@ is-caller good c w g k busy = go (ltb k c.callers) refl
 
 -- the rule of the records while an attempt of theirs isn't promoted
 pub orec-world : (good : (ℕ → ℕ) → Type 0) (c : Config) (w : World) (n : ℕ) → Core good c w → RunsOrec (w.views n) → OrecWorld good c w
-orec-world good c w n g may = record { history = g.history; steps = g.steps; records = g.records; lock = g.lock; attempts = g.attempts; runs = by (w.views n).gate.algorithm may.algorithm (subst (λ (r : Regime). Runs c r (run_projection w)) (regime-inside c w n g.gate g.install may.phase may.plain) g.running) }
+orec-world good c w n g may =
+    record {
+      history = g.history;
+      steps = g.steps;
+      records = g.records;
+      lock = g.lock;
+      attempts = g.attempts;
+      runs = by (w.views n).gate.algorithm may.algorithm
+          (subst (λ (r : Regime). Runs c r (run_projection w)) (regime-inside c w n g.gate g.install may.phase may.plain) g.running);
+    }
   where
     by : (a : Alg) → has_records a ≡ true → Runs c (Running a) (run_projection w) → OrecRuns c (run_projection w)
     by Cgl e k = absurd cc
@@ -221,7 +230,11 @@ pub record LeavesRuns (kind : StepKind) (n : ℕ) : Type 0 where
 
 module _ (good : (ℕ → ℕ) → Type 0) (c : Config) (kind : StepKind) (n : ℕ) (w : World) where
   -- a step at the gate, after which these clauses stand of what runs
-  pub by-running : LeavesCommon kind n → Core good c w → ((w.views n).gate.phase ≡ In → (kind.after w (w.views n) (answer kind w)).gate.phase ≡ In) → ((kind.after w (w.views n) (answer kind w)).attempt.entered ≡ true → may_hold (kind.after w (w.views n) (answer kind w)).gate.phase ≡ true) → Raised (world_after kind n w) → horizon w ≤ horizon (world_after kind n w)
+  pub by-running : LeavesCommon kind n → Core good c w
+      → ((w.views n).gate.phase ≡ In → (kind.after w (w.views n) (answer kind w)).gate.phase ≡ In)
+      → ((kind.after w (w.views n) (answer kind w)).attempt.entered ≡ true
+      → may_hold (kind.after w (w.views n) (answer kind w)).gate.phase ≡ true) → Raised (world_after kind n w)
+      → horizon w ≤ horizon (world_after kind n w)
       → GateRule c.callers (gate_projection (world_after kind n w)) → InstallRule c (install_projection (world_after kind n w)) → Runs c (regime (world_after kind n w)) (run_projection (world_after kind n w))
       → Core good c (world_after kind n w) × Advances w (world_after kind n w)
   by-running leaves g phase entered raised level gate install running = (
@@ -250,15 +263,25 @@ module _ (good : (ℕ → ℕ) → Type 0) (c : Config) (kind : StepKind) (n : �
       up = subst (λ (k : ℕ). w.clock ≤ k) (sym (leaves.words w).0) (le_refl w.clock)
 
   -- a step at the gate that leaves what runs alone
-  pub by-gate : LeavesRuns kind n → Core good c w → ((w.views n).gate.phase ≡ In → (kind.after w (w.views n) (answer kind w)).gate.phase ≡ In) → ((w.views n).attempt.entered ≡ true → may_hold (kind.after w (w.views n) (answer kind w)).gate.phase ≡ true) → ((w.views n).gate.quiescent ≡ true → (w.views n).attempt.entered ≡ true → (kind.after w (w.views n) (answer kind w)).gate.quiescent ≡ true)
+  pub by-gate : LeavesRuns kind n → Core good c w
+      → ((w.views n).gate.phase ≡ In → (kind.after w (w.views n) (answer kind w)).gate.phase ≡ In)
+      → ((w.views n).attempt.entered ≡ true → may_hold (kind.after w (w.views n) (answer kind w)).gate.phase ≡ true)
+      → ((w.views n).gate.quiescent ≡ true → (w.views n).attempt.entered ≡ true
+      → (kind.after w (w.views n) (answer kind w)).gate.quiescent ≡ true)
       → GateRule c.callers (gate_projection (world_after kind n w)) → InstallRule c (install_projection (world_after kind n w)) → regime (world_after kind n w) ≡ regime w
       → Core good c (world_after kind n w) × Advances w (world_after kind n w)
   by-gate leaves g phase entered quiescent gate install same = by-running leaves.common g phase (λ e. entered (sym (ap (λ (u : RunView). u.attempt.entered) (leaves.view w)) ∙ e))
-      (raised-put w x n v refl (λ e. sym (named-regime w) ∙ (sym (ap named_in same) ∙ (named-regime x ∙ e))) (λ e k. let t = sym (ap (λ (u : RunView). u.attempt.entered) (leaves.view w)) ∙ k in quiescent (g.raised (sym (named-regime w) ∙ (sym (ap named_in same) ∙ (named-regime x ∙ e))) n t) t) g.raised)
-      (same-horizon w x (sym (named-regime x) ∙ (ap named_in same ∙ named-regime w)) (subst (λ (k : ℕ). w.clock ≤ k) (sym (leaves.common.words w).0) (le_refl w.clock)) (subst (λ (k : ℕ). w.done ≤ k) (sym (leaves.marks w).1) (le_refl w.done)))
+      (raised-put w x n v refl (λ e. sym (named-regime w) ∙ (sym (ap named_in same) ∙ (named-regime x ∙ e)))
+      (λ e k.
+      let t = sym (ap (λ (u : RunView). u.attempt.entered) (leaves.view w)) ∙ k in
+      quiescent (g.raised (sym (named-regime w) ∙ (sym (ap named_in same) ∙ (named-regime x ∙ e))) n t) t) g.raised)
+      (same-horizon w x (sym (named-regime x) ∙ (ap named_in same ∙ named-regime w))
+      (subst (λ (k : ℕ). w.clock ≤ k) (sym (leaves.common.words w).0) (le_refl w.clock))
+      (subst (λ (k : ℕ). w.done ≤ k) (sym (leaves.marks w).1) (le_refl w.done)))
       gate install
       (runs-stays c (regime w) (regime x) (run_projection w) (run_projection x) same
-      (run_projection-kept w x n v refl (leaves.common.words w).0 (leaves.common.words w).1 (leaves.marks w).0 (leaves.marks w).1 (leaves.common.words w).2 (leaves.memory w).1 (leaves.memory w).0 (leaves.common.history w).0 (leaves.view w)) g.running)
+      (run_projection-kept w x n v refl (leaves.common.words w).0 (leaves.common.words w).1 (leaves.marks w).0 (leaves.marks w).1
+      (leaves.common.words w).2 (leaves.memory w).1 (leaves.memory w).0 (leaves.common.history w).0 (leaves.view w)) g.running)
     where
       x : World
       x = world_after kind n w
@@ -285,7 +308,9 @@ pub record Opens (good : (ℕ → ℕ) → Type 0) (c : Config) (kind : StepKind
   pub stands : ((m : ℕ) → (w.views m).gate.quiescent ≡ true → ⊥) ⊎ ((world_after kind n w).clock ≡ w.clock)
 
 -- a step of an attempt, of whichever algorithm, promoted or not
-pub by-attempt : (good : (ℕ → ℕ) → Type 0) (c : Config) (kind : StepKind) (shows : World → View → ℕ → Type 0) (n : ℕ) (May : View → Type 0) → LeavesGate kind n → ((w : World) → Core good c w → May (w.views n) → Opens good c kind shows n May w) → StepLaw (Core good c) kind shows n May
+pub by-attempt : (good : (ℕ → ℕ) → Type 0) (c : Config) (kind : StepKind) (shows : World → View → ℕ → Type 0) (n : ℕ) (May : View → Type 0)
+    → LeavesGate kind n → ((w : World) → Core good c w → May (w.views n) → Opens good c kind shows n May w)
+    → StepLaw (Core good c) kind shows n May
 by-attempt good c kind shows n May leaves opens w g may =
     let p = opens w g may in
     let o = p.law w (record { history = g.history; steps = g.steps; records = g.records; lock = g.lock; attempts = g.attempts; runs = subst (λ (r : Regime). Runs c r (run_projection w)) p.is g.running }) may in record {
@@ -323,7 +348,9 @@ module _ (good : (ℕ → ℕ) → Type 0) (c : Config) (kind : StepKind) (shows
   abbrev pub Calms : Type 0
   Calms = (w : World) → Core good c w → May (w.views n) → (((w.views n).gate.holds ≡ false) ⊎ ((w.views n).gate.quiescent ≡ false)) ⊎ ((world_after kind n w).clock ≡ w.clock)
 
-  calms : (w : World) → Core good c w → (w.views n).gate.phase ≡ In → (((w.views n).gate.holds ≡ false) ⊎ ((w.views n).gate.quiescent ≡ false)) ⊎ ((world_after kind n w).clock ≡ w.clock) → ((m : ℕ) → (w.views m).gate.quiescent ≡ true → ⊥) ⊎ ((world_after kind n w).clock ≡ w.clock)
+  calms : (w : World) → Core good c w → (w.views n).gate.phase ≡ In
+      → (((w.views n).gate.holds ≡ false) ⊎ ((w.views n).gate.quiescent ≡ false)) ⊎ ((world_after kind n w).clock ≡ w.clock)
+      → ((m : ℕ) → (w.views m).gate.quiescent ≡ true → ⊥) ⊎ ((world_after kind n w).clock ≡ w.clock)
   calms w g inside e = ⊎_elim (λ k. inl (⊎_elim (λ free. plain w g inside (not-quiescent c (install_projection w) n g.install free).0) (λ free. plain w g inside free) k)) (λ same. inr same) e
 
   -- under CGL and Serial nothing is promoted
@@ -339,7 +366,10 @@ module _ (good : (ℕ → ℕ) → Type 0) (c : Config) (kind : StepKind) (shows
       by Serial e k = k
 
       go : (b : Bool) → (w.views n).gate.granted ≡ b → b ≡ false
-      go true e = absurd (let k : DirectRuns c (w.views n).gate.algorithm n (run_projection w) = subst (λ (r : Regime). Runs c r (run_projection w)) (regime-granted c w n g.gate g.install e) g.running in by (w.views n).gate.algorithm single k.suits)
+      go true e =
+          absurd (let k : DirectRuns c (w.views n).gate.algorithm n (run_projection w) =
+          subst (λ (r : Regime). Runs c r (run_projection w)) (regime-granted c w n g.gate g.install e) g.running in
+          by (w.views n).gate.algorithm single k.suits)
       go false e = refl
 
   -- a step of CGL or Serial
@@ -384,23 +414,46 @@ module _ (good : (ℕ → ℕ) → Type 0) (c : Config) (kind : StepKind) (shows
           by Serial e is stands = absurd cc
 
   -- a step of one algorithm that isn't promoted
-  pub by-running-of : (a : Alg) → LeavesGate kind n → Calms → ((v : View) → May v → (v.gate.phase ≡ In) × (v.gate.algorithm ≡ a) × (v.gate.granted ≡ false)) → (a ≡ RingSw → (w : World) → (kind.after w (w.views n) (answer kind w)).attempt.entered ≡ true → (w.views n).attempt.entered ≡ true) → StepLaw (RunWorld (Runs c (Running a)) good c) kind shows n May → StepLaw (Core good c) kind shows n May
+  pub by-running-of : (a : Alg) → LeavesGate kind n → Calms
+      → ((v : View) → May v → (v.gate.phase ≡ In) × (v.gate.algorithm ≡ a) × (v.gate.granted ≡ false))
+      → (a ≡ RingSw → (w : World) → (kind.after w (w.views n) (answer kind w)).attempt.entered ≡ true → (w.views n).attempt.entered ≡ true)
+      → StepLaw (RunWorld (Runs c (Running a)) good c) kind shows n May → StepLaw (Core good c) kind shows n May
   by-running-of a leaves clock inside entered law = by-attempt good c kind shows n May leaves (λ w g may.
       let i = inside (w.views n) may in
-      record { runs = Running a; is = regime-inside c w n g.gate g.install i.0 i.2 ∙ ap Running i.1; inside = i.0; raised = λ e t. g.raised e n (entered (sym i.1 ∙ (sym (g.gate.named n i.0) ∙ e)) w t); law = law; stands = calms w g i.0 (clock w g may) })
+      record {
+        runs = Running a;
+        is = regime-inside c w n g.gate g.install i.0 i.2 ∙ ap Running i.1;
+        inside = i.0;
+        raised = λ e t. g.raised e n (entered (sym i.1 ∙ (sym (g.gate.named n i.0) ∙ e)) w t);
+        law = law;
+        stands = calms w g i.0 (clock w g may);
+      })
 
   -- a step of a promoted attempt that leaves the clock alone
-  pub by-direct : LeavesGate kind n → ((w : World) → (world_after kind n w).clock ≡ w.clock) → ((v : View) → May v → v.gate.granted ≡ true) → ((v : View) → May v → StepLaw (RunWorld (Runs c (Promoted v.gate.algorithm n)) good c) kind shows n May) → StepLaw (Core good c) kind shows n May
+  pub by-direct : LeavesGate kind n → ((w : World) → (world_after kind n w).clock ≡ w.clock) → ((v : View) → May v → v.gate.granted ≡ true)
+      → ((v : View) → May v → StepLaw (RunWorld (Runs c (Promoted v.gate.algorithm n)) good c) kind shows n May)
+      → StepLaw (Core good c) kind shows n May
   by-direct leaves clock inside law = by-attempt good c kind shows n May leaves (λ w g may.
-      record { runs = Promoted (w.views n).gate.algorithm n; is = regime-granted c w n g.gate g.install (inside (w.views n) may); inside = (g.install.promoted n (inside (w.views n) may)).1; raised = λ e t. (g.install.promoted n (inside (w.views n) may)).0; law = law (w.views n) may; stands = inr (clock w) })
+      record {
+        runs = Promoted (w.views n).gate.algorithm n;
+        is = regime-granted c w n g.gate g.install (inside (w.views n) may);
+        inside = (g.install.promoted n (inside (w.views n) may)).1;
+        raised = λ e t. (g.install.promoted n (inside (w.views n) may)).0;
+        law = law (w.views n) may;
+        stands = inr (clock w);
+      })
 
 -- a step by which a promoted attempt raises the clock, with an entry or without one
-pub by-raise : (good : (ℕ → ℕ) → Type 0) (c : Config) (kind : StepKind) (shows : World → View → ℕ → Type 0) (n : ℕ) (May : View → Type 0) (alg : Alg) → RaisesClock kind n → ((v : View) → May v → (v.gate.granted ≡ true) × (v.gate.algorithm ≡ alg)) → StepLaw (RunWorld (Runs c (Promoted alg n)) good c) kind shows n May → StepLaw (Core good c) kind shows n May
+pub by-raise : (good : (ℕ → ℕ) → Type 0) (c : Config) (kind : StepKind) (shows : World → View → ℕ → Type 0) (n : ℕ) (May : View → Type 0)
+    (alg : Alg) → RaisesClock kind n → ((v : View) → May v → (v.gate.granted ≡ true) × (v.gate.algorithm ≡ alg))
+    → StepLaw (RunWorld (Runs c (Promoted alg n)) good c) kind shows n May → StepLaw (Core good c) kind shows n May
 by-raise good c kind shows n May alg raises inside law w g may = record {
   rule = record {
     history = o.rule.history;
     steps = o.rule.steps;
-    gate = gate-marked c.callers w x n v refl (raises.status w) (raises.gate w) (known (λ q. q.phase)) (known (λ q. q.present)) (known (λ q. q.algorithm)) (known (λ q. q.fence)) (known (λ q. q.aim)) (known (λ q. q.holds)) (known (λ q. q.checked)) g.gate;
+    gate =
+        gate-marked c.callers w x n v refl (raises.status w) (raises.gate w) (known (λ q. q.phase)) (known (λ q. q.present))
+        (known (λ q. q.algorithm)) (known (λ q. q.fence)) (known (λ q. q.aim)) (known (λ q. q.holds)) (known (λ q. q.checked)) g.gate;
     install = ticked-install c w x n x.clock v refl refl (raises.marks w).0 (raises.marks w).1 (raises.view w) o.advances.clock quiescent g.gate g.install;
     records = o.rule.records;
     lock = o.rule.lock;
@@ -433,8 +486,16 @@ by-raise good c kind shows n May alg raises inside law w g may = record {
     o = law w (record { history = g.history; steps = g.steps; records = g.records; lock = g.lock; attempts = g.attempts; runs = subst (λ (r : Regime). Runs c r (run_projection w)) is g.running }) may
 
 -- a step by which an attempt that isn't promoted raises DONE, while nobody knows the clock as the gate's holder
-pub by-done : (good : (ℕ → ℕ) → Type 0) (c : Config) (kind : StepKind) (shows : World → View → ℕ → Type 0) (n : ℕ) (May : View → Type 0) (a : Alg) → ((w : World) → ((world_after kind n w).gate ≡ w.gate) × ((world_after kind n w).status ≡ w.status) × ((kind.after w (w.views n) (answer kind w)).gate ≡ (w.views n).gate) × ((world_after kind n w).base ≡ w.base) × ((kind.after w (w.views n) (answer kind w)).steps.step_trace ≡ (w.views n).steps.step_trace) × ((kind.after w (w.views n) (answer kind w)).attempt.entered ≡ (w.views n).attempt.entered)) → has_ring a ≡ true
-    → ((v : View) → May v → (v.gate.phase ≡ In) × (v.gate.algorithm ≡ a) × (v.gate.granted ≡ false) × (v.gate.quiescent ≡ false)) → ((s : RunProjection) → Runs c (Running a) s → s.done ≤ s.clock) → StepLaw (RunWorld (Runs c (Running a)) good c) kind shows n May → StepLaw (Core good c) kind shows n May
+pub by-done : (good : (ℕ → ℕ) → Type 0) (c : Config) (kind : StepKind) (shows : World → View → ℕ → Type 0) (n : ℕ) (May : View → Type 0)
+    (a : Alg)
+    → ((w : World)
+    → ((world_after kind n w).gate ≡ w.gate) × ((world_after kind n w).status ≡ w.status)
+    × ((kind.after w (w.views n) (answer kind w)).gate ≡ (w.views n).gate) × ((world_after kind n w).base ≡ w.base)
+    × ((kind.after w (w.views n) (answer kind w)).steps.step_trace ≡ (w.views n).steps.step_trace)
+    × ((kind.after w (w.views n) (answer kind w)).attempt.entered ≡ (w.views n).attempt.entered)) → has_ring a ≡ true
+    → ((v : View) → May v → (v.gate.phase ≡ In) × (v.gate.algorithm ≡ a) × (v.gate.granted ≡ false) × (v.gate.quiescent ≡ false))
+    → ((s : RunProjection) → Runs c (Running a) s → s.done ≤ s.clock) → StepLaw (RunWorld (Runs c (Running a)) good c) kind shows n May
+    → StepLaw (Core good c) kind shows n May
 by-done good c kind shows n May a leaves ring inside low law w g may =
     let i = inside (w.views n) may in
     let is : regime w ≡ Running a = regime-inside c w n g.gate g.install i.0 i.2 ∙ ap Running i.1 in

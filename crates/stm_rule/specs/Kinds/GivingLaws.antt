@@ -183,7 +183,9 @@ module _ (good : (ℕ → ℕ) → Type 0) (c : Config) (n : ℕ) where
         even = λ q. even_after (heap-rests good c n (without_fence w) g.core quiet).1 q;
         fresh = λ q. put-all w.views n v (λ m u. u.attempt.entered ≡ false → u.history.front ≤ w.done)
             (λ f. absurd cc)
-            (λ m d f. runs-fresh c (regime (without_fence w)) (run_projection (without_fence w)) m g.core.running (named-regime (without_fence w) ∙ q) (uncommitted good c (without_fence w) m g.core (nobody-else good c n (without_fence w) g.core quiet.checked m d)) f);
+            (λ m d f.
+            runs-fresh c (regime (without_fence w)) (run_projection (without_fence w)) m g.core.running (named-regime (without_fence w) ∙ q)
+            (uncommitted good c (without_fence w) m g.core (nobody-else good c n (without_fence w) g.core quiet.checked m d)) f);
         level = λ q settled. absurd (let f : true ≡ false = sym entered ∙ settled n in cc);
       }
         where
@@ -247,7 +249,11 @@ module _ (good : (ℕ → ℕ) → Type 0) (c : Config) (n : ℕ) where
 
       -- leaving the fence out hides nothing, before and after
       bare : heap_without_fence (fence_of (gate_word 0 (1 + n) alg)) w.heap w.history ≡ heap_without_fence (fence_of w.gate) w.heap w.history
-      bare = ap (λ k. heap_without_fence k w.heap w.history) unfenced ∙ (heap_without_fence-none w.heap w.history ∙ sym (heap_without_fence-rest (fence_of w.gate) w.heap w.history (λ a f. h.stored a f ∙ ap (λ (l : List Cell). over l a (word_now w.history a)) may.unstored)))
+      bare =
+          ap (λ k. heap_without_fence k w.heap w.history) unfenced
+          ∙ (heap_without_fence-none w.heap w.history
+          ∙ sym (heap_without_fence-rest (fence_of w.gate) w.heap w.history (λ a f.
+          h.stored a f ∙ ap (λ (l : List Cell). over l a (word_now w.history a)) may.unstored)))
 
       alone : (m : ℕ) → holder_of (gate_word 0 (1 + n) alg) ≡ 1 + m → m ≡ n
       alone m f = let k = holder-closed c.callers (gate_projection w) g.core.gate n low 0 alg in omega arith
@@ -273,5 +279,8 @@ module _ (good : (ℕ → ℕ) → Type 0) (c : Config) (n : ℕ) where
             fronts = put-all w.views n v (λ m u. u.history.front ≤ w.clock) (g.core.history.known n).front (λ m d. (g.core.history.known m).front);
           }
       runs false f = runs-stays c (regime (without_fence w)) (regime (without_fence x)) (run_projection (without_fence w)) (run_projection (without_fence x))
-          (regime-handed good c n (without_fence w) (without_fence x) v refl (named ∙ sym same) (λ m k. subst (λ (j : ℕ). mode_of (w.views j).gate ≡ Plain) (let o = g.core.gate.mine n holds in let q : n ≡ m = omega arith in q) (plain-mode (w.views n).gate plain f)) alone (plain-mode v.gate plain refl))
+          (regime-handed good c n (without_fence w) (without_fence x) v refl (named ∙ sym same)
+          (λ m k.
+          subst (λ (j : ℕ). mode_of (w.views j).gate ≡ Plain) (let o = g.core.gate.mine n holds in let q : n ≡ m = omega arith in q)
+          (plain-mode (w.views n).gate plain f)) alone (plain-mode v.gate plain refl))
           (run_projection-kept (without_fence w) (without_fence x) n v refl refl refl refl refl refl refl bare refl (λ i. record (run_view (w.views n)) { attempt = record (w.views n).attempt { entered = sym (may.plain f) i } })) g.core.running

@@ -48,7 +48,19 @@ module _ (good : (ℕ → ℕ) → Type 0) (c : Config) (n : ℕ) where
   quiescent_is_quiet w g closing quiescent = record { closing = closing; checked = λ k low other. g.install.alone n k quiescent low other }
 
   pub settles : StepLaw (Core good c) settle Settles n (CanSettle c.callers n)
-  settles w g may = let o = by-gate good c settle n w (record { common = record { words = λ w. (refl, refl, refl); history = λ w. (refl, refl); steps = λ w. (refl, refl); held = λ w. (refl, refl); busy = λ w. refl }; marks = λ w. (refl, refl); memory = λ w. (refl, refl); view = λ w. refl }) g (λ e. e) (λ e. g.attempts.entered n e) (λ k e. refl)
+  settles w g may =
+      let o = by-gate good c settle n w (record {
+        common = record {
+          words = λ w. (refl, refl, refl);
+          history = λ w. (refl, refl);
+          steps = λ w. (refl, refl);
+          held = λ w. (refl, refl);
+          busy = λ w. refl;
+        };
+        marks = λ w. (refl, refl);
+        memory = λ w. (refl, refl);
+        view = λ w. refl;
+      }) g (λ e. e) (λ e. g.attempts.entered n e) (λ k e. refl)
       (gate-marked c.callers w x n v refl refl refl refl refl refl refl refl refl refl g.gate) (settle-install c w n may g.install) (regime-kept w x n v refl refl refl) in
       record { rule = o.0; advances = o.1; shown = g.history.limit }
     where
@@ -59,7 +71,10 @@ module _ (good : (ℕ → ℕ) → Type 0) (c : Config) (n : ℕ) where
       v = view_after settle w (w.views n) w.clock
 
   -- the gate's holder stores a word that what runs sees, BASE or DONE: it is at rest, or it is promoted
-  marked : (w x : World) (v : View) → Core good c w → ((w.views n).gate.granted ≡ false → (w.views n).gate.phase ≡ Closing) → (w.views n).gate.quiescent ≡ true → x.views ≡ put w.views n v → x.clock ≡ w.clock → x.gate ≡ w.gate → Moved (run_projection w) (run_projection x) → mode_of v.gate ≡ mode_of (w.views n).gate → run_view v ≡ run_view (w.views n) → ((w.done ≡ w.clock) → x.done ≡ x.clock)
+  marked : (w x : World) (v : View) → Core good c w → ((w.views n).gate.granted ≡ false → (w.views n).gate.phase ≡ Closing)
+      → (w.views n).gate.quiescent ≡ true → x.views ≡ put w.views n v → x.clock ≡ w.clock → x.gate ≡ w.gate
+      → Moved (run_projection w) (run_projection x) → mode_of v.gate ≡ mode_of (w.views n).gate → run_view v ≡ run_view (w.views n)
+      → ((w.done ≡ w.clock) → x.done ≡ x.clock)
       → Runs c (regime x) (run_projection x)
   marked w x v g closing quiescent is clock gate moved granted own level = subst (λ (r : Regime). Runs c r (run_projection x)) (sym (regime-kept w x n v is gate granted)) (by (w.views n).gate.granted refl)
     where
@@ -87,7 +102,12 @@ module _ (good : (ℕ → ℕ) → Type 0) (c : Config) (n : ℕ) where
               done = moved.within;
               fresh = λ m o. subst (λ (t : ℕ). t ≤ x.done) (sym (moved.fronts m)) (le_trans (k.fresh m o) moved.done);
               level = λ f. level (k.level (own_entered f));
-              slots = λ f t i b near h low. ap (λ (s : ℕ → ℕ). s (slot_place c.ring t i)) moved.slots ∙ (k.slots (own_entered f) t i (let z = moved.base in omega arith) (let z = moved.clock in omega arith) (subst (λ (l : List Entry). has_entry l t ≡ true) moved.history h) low ∙ ap (λ (l : List Entry). slot_filter.word (writes_of l t) i) (sym moved.history));
+              slots =
+                  λ f t i b near h low.
+                  ap (λ (s : ℕ → ℕ). s (slot_place c.ring t i)) moved.slots
+                  ∙ (k.slots (own_entered f) t i (let z = moved.base in omega arith) (let z = moved.clock in omega arith)
+                  (subst (λ (l : List Entry). has_entry l t ≡ true) moved.history h) low
+                  ∙ ap (λ (l : List Entry). slot_filter.word (writes_of l t) i) (sym moved.history));
             };
           })
         where
@@ -113,13 +133,36 @@ module _ (good : (ℕ → ℕ) → Type 0) (c : Config) (n : ℕ) where
           given false f quiet =
               let at = quiet-regime good c n w g quiet f in
               subst (λ (r : Regime). Runs c r (run_projection x)) (sym at)
-              (runs-moved c (alg_of w.gate) (run_projection w) (run_projection x) (subst (λ (r : Regime). Runs c r (run_projection w)) at g.running) (quiet-ease good c n w g quiet) (ease-moved (run_projection w) (run_projection x) moved.clock moved.records moved.heap moved.history views (quiet-ease good c n w g quiet)) moved (λ a. ap (λ k. k % 2) clock ∙ (heap-rests good c n w g quiet).1 a)
+              (runs-moved c (alg_of w.gate) (run_projection w) (run_projection x)
+              (subst (λ (r : Regime). Runs c r (run_projection w)) at g.running) (quiet-ease good c n w g quiet)
+              (ease-moved (run_projection w) (run_projection x) moved.clock moved.records moved.heap moved.history views
+              (quiet-ease good c n w g quiet)) moved (λ a. ap (λ k. k % 2) clock ∙ (heap-rests good c n w g quiet).1 a)
               (λ a settled. level ((heap-rests good c n w g quiet).2 a (λ m. ap (λ (f : ℕ → RunView). (f m).attempt.entered) (sym views) ∙ settled m))))
 
   pub stores_base : (t : ℕ) → StepLaw (Core good c) (store_base t) Nothing n (CanMark t)
-  stores_base t w g may = let o = by-running good c (store_base t) n w (record { words = λ w. (refl, refl, refl); history = λ w. (refl, refl); steps = λ w. (refl, refl); held = λ w. (refl, refl); busy = λ w. refl }) g (λ e. e) (λ e. g.attempts.entered n e) (raised-put w x n v refl (λ e. e) (λ e k. g.raised e n k) g.raised) (same-horizon w x refl (le_refl w.clock) (le_refl w.done))
+  stores_base t w g may =
+      let o = by-running good c (store_base t) n w (record {
+        words = λ w. (refl, refl, refl);
+        history = λ w. (refl, refl);
+        steps = λ w. (refl, refl);
+        held = λ w. (refl, refl);
+        busy = λ w. refl;
+      }) g (λ e. e) (λ e. g.attempts.entered n e) (raised-put w x n v refl (λ e. e) (λ e k. g.raised e n k) g.raised)
+      (same-horizon w x refl (le_refl w.clock) (le_refl w.done))
       (gate-marked c.callers w x n v refl refl refl refl refl refl refl refl refl refl g.gate) (store_base-install c t w n may g.gate g.install)
-      (marked w x v g may.closing may.quiescent refl refl refl (record { clock = le_refl w.clock; base = (let b = g.install.base in let k = clock in omega arith); based = (let k = clock in omega arith); done = le_refl w.done; within = g.install.done; lock = refl; records = refl; slots = refl; heap = refl; history = refl; fronts = λ m. ap (λ (f : ℕ → RunView). (f m).front) (parts-kept run_view w.views n v refl) }) refl refl (λ e. e)) in
+      (marked w x v g may.closing may.quiescent refl refl refl (record {
+        clock = le_refl w.clock;
+        base = (let b = g.install.base in let k = clock in omega arith);
+        based = (let k = clock in omega arith);
+        done = le_refl w.done;
+        within = g.install.done;
+        lock = refl;
+        records = refl;
+        slots = refl;
+        heap = refl;
+        history = refl;
+        fronts = λ m. ap (λ (f : ℕ → RunView). (f m).front) (parts-kept run_view w.views n v refl);
+      }) refl refl (λ e. e)) in
       record { rule = o.0; advances = o.1; shown = tt }
     where
       clock : w.clock ≡ t
@@ -132,9 +175,29 @@ module _ (good : (ℕ → ℕ) → Type 0) (c : Config) (n : ℕ) where
       v = view_after (store_base t) w (w.views n) t
 
   pub stores_done : (t : ℕ) → StepLaw (Core good c) (store_done t) Nothing n (CanMark t)
-  stores_done t w g may = let o = by-running good c (store_done t) n w (record { words = λ w. (refl, refl, refl); history = λ w. (refl, refl); steps = λ w. (refl, refl); held = λ w. (refl, refl); busy = λ w. refl }) g (λ e. e) (λ e. g.attempts.entered n e) (raised-put w x n v refl (λ e. e) (λ e k. g.raised e n k) g.raised) (same-horizon w x refl (le_refl w.clock) up)
+  stores_done t w g may =
+      let o = by-running good c (store_done t) n w (record {
+        words = λ w. (refl, refl, refl);
+        history = λ w. (refl, refl);
+        steps = λ w. (refl, refl);
+        held = λ w. (refl, refl);
+        busy = λ w. refl;
+      }) g (λ e. e) (λ e. g.attempts.entered n e) (raised-put w x n v refl (λ e. e) (λ e k. g.raised e n k) g.raised)
+      (same-horizon w x refl (le_refl w.clock) up)
       (gate-marked c.callers w x n v refl refl refl refl refl refl refl refl refl refl g.gate) (store_done-install c t w n may g.gate g.install)
-      (marked w x v g may.closing may.quiescent refl refl refl (record { clock = le_refl w.clock; base = le_refl w.base; based = g.install.base; done = up; within = (let k = clock in omega arith); lock = refl; records = refl; slots = refl; heap = refl; history = refl; fronts = λ m. ap (λ (f : ℕ → RunView). (f m).front) (parts-kept run_view w.views n v refl) }) refl refl (λ e. sym clock)) in
+      (marked w x v g may.closing may.quiescent refl refl refl (record {
+        clock = le_refl w.clock;
+        base = le_refl w.base;
+        based = g.install.base;
+        done = up;
+        within = (let k = clock in omega arith);
+        lock = refl;
+        records = refl;
+        slots = refl;
+        heap = refl;
+        history = refl;
+        fronts = λ m. ap (λ (f : ℕ → RunView). (f m).front) (parts-kept run_view w.views n v refl);
+      }) refl refl (λ e. sym clock)) in
       record { rule = o.0; advances = o.1; shown = tt }
     where
       clock : w.clock ≡ t
@@ -169,7 +232,19 @@ module _ (good : (ℕ → ℕ) → Type 0) (c : Config) (n : ℕ) where
       running = subst (λ (r : Regime). Runs c r (run_projection x)) (sym (regime-kept w x n v refl refl refl ∙ quiet-regime good c n w g quiet may.ungiven))
           (runs-moved c (alg_of w.gate) (run_projection w) (run_projection x) (subst (λ (r : Regime). Runs c r (run_projection w)) (quiet-regime good c n w g quiet may.ungiven) g.running) (quiet-ease good c n w g quiet)
           (ease-own w x n v refl up refl refl refl refl refl refl refl refl (quiet-ease good c n w g quiet))
-          (record { clock = up; base = le_refl w.base; based = (let b = g.install.base in let u = up in omega arith); done = le_refl w.done; within = (let b = g.install.done in let u = up in omega arith); lock = refl; records = refl; slots = refl; heap = refl; history = refl; fronts = put-all w.views n v (λ m u. u.history.front ≡ (w.views m).history.front) refl (λ m d. refl) })
+          (record {
+            clock = up;
+            base = le_refl w.base;
+            based = (let b = g.install.base in let u = up in omega arith);
+            done = le_refl w.done;
+            within = (let b = g.install.done in let u = up in omega arith);
+            lock = refl;
+            records = refl;
+            slots = refl;
+            heap = refl;
+            history = refl;
+            fronts = put-all w.views n v (λ m u. u.history.front ≡ (w.views m).history.front) refl (λ m d. refl);
+          })
           (λ a. next_even (w.views n).gate.time t may.odd may.next)
           (λ a settled. absurd (let f : true ≡ false = sym (ap (λ (u : View). u.attempt.entered) (put-here w.views n v)) ∙ settled n in cc)));
       alone = alone-kept c (even_clock t) n w refl (λ sole. inr refl) g.alone;
@@ -204,9 +279,18 @@ module _ (good : (ℕ → ℕ) → Type 0) (c : Config) (n : ℕ) where
       path = λ i. record { clock = t; history = w.history; views = parts-kept (λ (u : View). u.history) w.views n v refl i }
 
   pub installs : (fence : ℕ) (alg : Alg) → StepLaw (Core good c) (install n fence alg) Nothing n (CanInstall fence alg)
-  installs fence alg w g may = let o = by-running good c (install n fence alg) n w (record { words = λ w. (refl, refl, refl); history = λ w. (refl, refl); steps = λ w. (refl, refl); held = λ w. (refl, refl); busy = λ w. refl }) g (λ e. e) (λ e. absurd cc) raised (subst (λ (k : ℕ). horizon w ≤ k) (sym (horizon-level x ready.done)) (horizon-low w g.install.done))
+  installs fence alg w g may =
+      let o = by-running good c (install n fence alg) n w (record {
+        words = λ w. (refl, refl, refl);
+        history = λ w. (refl, refl);
+        steps = λ w. (refl, refl);
+        held = λ w. (refl, refl);
+        busy = λ w. refl;
+      }) g (λ e. e) (λ e. absurd cc) raised
+      (subst (λ (k : ℕ). horizon w ≤ k) (sym (horizon-level x ready.done)) (horizon-low w g.install.done))
       (install-gate c.callers fence alg w n may.guarded may.phase quiet.checked g.gate) (install-install c fence alg w n g.install)
-      (subst (λ (r : Regime). Runs c r (run_projection x)) (sym runs) (from-rest c alg (run_projection x) (ease-own w x n v refl (le_refl w.clock) refl refl refl refl refl refl refl refl (quiet-ease good c n w g quiet)) ready)) in
+      (subst (λ (r : Regime). Runs c r (run_projection x)) (sym runs) (from-rest c alg (run_projection x)
+      (ease-own w x n v refl (le_refl w.clock) refl refl refl refl refl refl refl refl (quiet-ease good c n w g quiet)) ready)) in
       record { rule = o.0; advances = o.1; shown = tt }
     where
       x : World
@@ -236,4 +320,8 @@ module _ (good : (ℕ → ℕ) → Type 0) (c : Config) (n : ℕ) where
       own m e = ap (λ (k : ℕ). mode_of (x.views k).gate) e ∙ (ap (λ (u : View). mode_of u.gate) (put-here w.views n v) ∙ plain-mode v.gate plain may.ungiven)
 
       runs : regime x ≡ Running alg
-      runs = regime-running x (λ m h. own m (let k = holder-closed c.callers (gate_projection w) g.gate n (is-caller-at c.callers (gate_projection w) g.gate n (λ idle. let q : Closing ≡ Idle = sym may.phase ∙ idle in cc)) fence alg in omega arith)) ∙ ap Running (alg_of-gate fence (1 + n) alg)
+      runs =
+          regime-running x (λ m h.
+          own m (let k = holder-closed c.callers (gate_projection w) g.gate n
+          (is-caller-at c.callers (gate_projection w) g.gate n (λ idle. let q : Closing ≡ Idle = sym may.phase ∙ idle in cc)) fence alg in
+          omega arith)) ∙ ap Running (alg_of-gate fence (1 + n) alg)

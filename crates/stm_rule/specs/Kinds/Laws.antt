@@ -48,69 +48,143 @@ use Rattle.stm_rule.specs.Product.{Core}
 module _ (good : (ℕ → ℕ) → Type 0) (c : Config) (n : ℕ) where
   pub taker : (w : World) → Core good c w → (x : ℕ) → w.lock ≡ x → x ≢ 0 → (w.views n).lock.taken ≡ false → NamesOther c n x
   taker w g zero e other free = absurd (other refl)
-  taker w g (suc k) e other free = let word : w.lock ≡ 1 + k = omega arith in let taken : (w.views k).lock.taken ≡ true = g.lock.owner k word in
-      (k, is-caller good c w g k (λ idle. let i : In ≡ Idle = sym (g.lock.inside k taken) ∙ idle in cc), (λ same. let t : true ≡ false = sym (subst (λ (m : ℕ). (w.views m).lock.taken ≡ true) same taken) ∙ free in cc), omega arith)
+  taker w g (suc k) e other free = let word : w.lock ≡ 1 + k = omega arith in let taken : (w.views k).lock.taken ≡ true = g.lock.owner k word in (
+    k,
+    is-caller good c w g k (λ idle. let i : In ≡ Idle = sym (g.lock.inside k taken) ∙ idle in cc),
+    (λ same. let t : true ≡ false = sym (subst (λ (m : ℕ). (w.views m).lock.taken ≡ true) same taken) ∙ free in cc),
+    omega arith,
+  )
 
   pub closer : (w : World) → Core good c w → (x : ℕ) → w.gate ≡ x → holder_of x ≢ 0 → (w.views n).gate.holds ≡ false → NamesOther c n (holder_of x)
   closer w g x e other free = go (holder_of x) (ap holder_of e) other
     where
       go : (h : ℕ) → holder_of w.gate ≡ h → h ≢ 0 → NamesOther c n h
       go zero q closed = absurd (closed refl)
-      go (suc k) q closed = let word : holder_of w.gate ≡ 1 + k = omega arith in let holds : (w.views k).gate.holds ≡ true = g.gate.owner k word in
-          (k, is-caller good c w g k (λ idle. let f : true ≡ false = sym (g.gate.holding k holds) ∙ ap may_hold idle in cc), (λ same. let t : true ≡ false = sym (subst (λ (m : ℕ). (w.views m).gate.holds ≡ true) same holds) ∙ free in cc), omega arith)
+      go (suc k) q closed = let word : holder_of w.gate ≡ 1 + k = omega arith in let holds : (w.views k).gate.holds ≡ true = g.gate.owner k word in (
+        k,
+        is-caller good c w g k (λ idle. let f : true ≡ false = sym (g.gate.holding k holds) ∙ ap may_hold idle in cc),
+        (λ same. let t : true ≡ false = sym (subst (λ (m : ℕ). (w.views m).gate.holds ≡ true) same holds) ∙ free in cc),
+        omega arith,
+      )
 
   -- what an exchange of the lock shows: another word than 0 is another caller's
   acquires_lock_alone : StepLaw (Core good c) (take_lock n) Nothing n CanTakeLock
-  acquires_lock_alone = by-cgl good c (take_lock n) Nothing n CanTakeLock (record { gate = λ w. refl; status = λ w. refl; view = λ w. refl; marks = λ w. (refl, refl); step_trace = λ w. refl }) (λ w g m. inr refl) (λ v m. (m.phase, m.algorithm)) (cgl.acquires_lock good c n)
+  acquires_lock_alone =
+      by-cgl good c (take_lock n) Nothing n CanTakeLock
+      (record { gate = λ w. refl; status = λ w. refl; view = λ w. refl; marks = λ w. (refl, refl); step_trace = λ w. refl })
+      (λ w g m. inr refl) (λ v m. (m.phase, m.algorithm)) (cgl.acquires_lock good c n)
 
   pub acquires_lock : StepLaw (Core good c) (take_lock n) (FindsLock c n) n CanTakeLock
   acquires_lock w g may = let o = acquires_lock_alone w g may in record { rule = o.rule; advances = o.advances; shown = λ other. taker w g w.lock refl other may.free }
 
   pub loads_start : StepLaw (Core good c) load_start (Begins good c) n CanLoadStart
-  loads_start = by-cgl good c load_start (Begins good c) n CanLoadStart (record { gate = λ w. refl; status = λ w. refl; view = λ w. refl; marks = λ w. (refl, refl); step_trace = λ w. refl }) (λ w g m. inr refl) (λ v m. (m.has.phase, m.has.algorithm)) (cgl.loads_start good c n)
+  loads_start =
+      by-cgl good c load_start (Begins good c) n CanLoadStart
+      (record { gate = λ w. refl; status = λ w. refl; view = λ w. refl; marks = λ w. (refl, refl); step_trace = λ w. refl })
+      (λ w g m. inr refl) (λ v m. (m.has.phase, m.has.algorithm)) (cgl.loads_start good c n)
 
   pub loads_heap : (a : ℕ) → StepLaw (Core good c) (load_heap a) (Loads good c a) n (CanLoadHeap c.words a)
-  loads_heap a = by-cgl good c (load_heap a) (Loads good c a) n (CanLoadHeap c.words a) (record { gate = λ w. refl; status = λ w. refl; view = λ w. refl; marks = λ w. (refl, refl); step_trace = λ w. refl }) (λ w g m. inr refl) (λ v m. (m.has.phase, m.has.algorithm)) (cgl.loads_heap good c n a)
+  loads_heap a =
+      by-cgl good c (load_heap a) (Loads good c a) n (CanLoadHeap c.words a)
+      (record { gate = λ w. refl; status = λ w. refl; view = λ w. refl; marks = λ w. (refl, refl); step_trace = λ w. refl })
+      (λ w g m. inr refl) (λ v m. (m.has.phase, m.has.algorithm)) (cgl.loads_heap good c n a)
 
   pub stores_heap : (a x : ℕ) → StepLaw (Core good c) (store_heap a x) Nothing n (CanStoreHeap c.words a x)
-  stores_heap a x = by-cgl good c (store_heap a x) Nothing n (CanStoreHeap c.words a x) (record { gate = λ w. refl; status = λ w. refl; view = λ w. refl; marks = λ w. (refl, refl); step_trace = λ w. refl }) (λ w g m. inr refl) (λ v m. (m.has.phase, m.has.algorithm)) (cgl.stores_heap good c n a x)
+  stores_heap a x =
+      by-cgl good c (store_heap a x) Nothing n (CanStoreHeap c.words a x)
+      (record { gate = λ w. refl; status = λ w. refl; view = λ w. refl; marks = λ w. (refl, refl); step_trace = λ w. refl })
+      (λ w g m. inr refl) (λ v m. (m.has.phase, m.has.algorithm)) (cgl.stores_heap good c n a x)
 
   pub stores_clock : (t : ℕ) → n < c.callers → StepLaw (Core good c) (store_clock n t) (Commits good c n t) n (CanStoreClock good t)
-  stores_clock t low = by-cgl good c (store_clock n t) (Commits good c n t) n (CanStoreClock good t) (record { gate = λ w. refl; status = λ w. refl; view = λ w. refl; marks = λ w. (refl, refl); step_trace = λ w. refl }) (λ w g m. inl (inl m.free)) (λ v m. (m.has.phase, m.has.algorithm)) (cgl.stores_clock good c n t low)
+  stores_clock t low =
+      by-cgl good c (store_clock n t) (Commits good c n t) n (CanStoreClock good t)
+      (record { gate = λ w. refl; status = λ w. refl; view = λ w. refl; marks = λ w. (refl, refl); step_trace = λ w. refl })
+      (λ w g m. inl (inl m.free)) (λ v m. (m.has.phase, m.has.algorithm)) (cgl.stores_clock good c n t low)
 
   pub frees_lock : StepLaw (Core good c) free_lock Nothing n CanFreeLock
-  frees_lock = by-cgl good c free_lock Nothing n CanFreeLock (record { gate = λ w. refl; status = λ w. refl; view = λ w. refl; marks = λ w. (refl, refl); step_trace = λ w. refl }) (λ w g m. inr refl) (λ v m. (m.has.phase, m.has.algorithm)) (cgl.frees_lock good c n)
+  frees_lock =
+      by-cgl good c free_lock Nothing n CanFreeLock
+      (record { gate = λ w. refl; status = λ w. refl; view = λ w. refl; marks = λ w. (refl, refl); step_trace = λ w. refl })
+      (λ w g m. inr refl) (λ v m. (m.has.phase, m.has.algorithm)) (cgl.frees_lock good c n)
 
   pub loads_undo : (a : ℕ) → StepLaw (Core good c) (load_undo a) Nothing n (CanLoadUndo a)
-  loads_undo a = by-cgl good c (load_undo a) Nothing n (CanLoadUndo a) (record { gate = λ w. refl; status = λ w. refl; view = λ w. refl; marks = λ w. (refl, refl); step_trace = λ w. refl }) (λ w g m. inr refl) (λ v m. (m.has.phase, m.has.algorithm)) (cgl.loads_undo good c n a)
+  loads_undo a =
+      by-cgl good c (load_undo a) Nothing n (CanLoadUndo a)
+      (record { gate = λ w. refl; status = λ w. refl; view = λ w. refl; marks = λ w. (refl, refl); step_trace = λ w. refl })
+      (λ w g m. inr refl) (λ v m. (m.has.phase, m.has.algorithm)) (cgl.loads_undo good c n a)
 
   pub loads_limit : (grants : Bool) → StepLaw (Core good c) (load_limit grants) LoadsLimit n CanLoadLimit
-  loads_limit grants = by-cgl good c (load_limit grants) LoadsLimit n CanLoadLimit (record { gate = λ w. refl; status = λ w. refl; view = λ w. refl; marks = λ w. (refl, refl); step_trace = λ w. refl }) (λ w g m. inr refl) (λ v m. (m.has.phase, m.has.algorithm)) (cgl.loads_limit good c n grants)
+  loads_limit grants =
+      by-cgl good c (load_limit grants) LoadsLimit n CanLoadLimit
+      (record { gate = λ w. refl; status = λ w. refl; view = λ w. refl; marks = λ w. (refl, refl); step_trace = λ w. refl })
+      (λ w g m. inr refl) (λ v m. (m.has.phase, m.has.algorithm)) (cgl.loads_limit good c n grants)
 
   pub stores_back : (a x : ℕ) → StepLaw (Core good c) (store_back a x) Nothing n (CanStoreBack a x)
-  stores_back a x = by-cgl good c (store_back a x) Nothing n (CanStoreBack a x) (record { gate = λ w. refl; status = λ w. refl; view = λ w. refl; marks = λ w. (refl, refl); step_trace = λ w. refl }) (λ w g m. inr refl) (λ v m. (m.has.phase, m.has.algorithm)) (cgl.stores_back good c n a x)
+  stores_back a x =
+      by-cgl good c (store_back a x) Nothing n (CanStoreBack a x)
+      (record { gate = λ w. refl; status = λ w. refl; view = λ w. refl; marks = λ w. (refl, refl); step_trace = λ w. refl })
+      (λ w g m. inr refl) (λ v m. (m.has.phase, m.has.algorithm)) (cgl.stores_back good c n a x)
 
   -- the steps of TML
   pub tml_begins : StepLaw (Core good c) tml_begin (TmlBegins good c) n CanTmlBegin
-  tml_begins = by-running-of good c tml_begin (TmlBegins good c) n CanTmlBegin Tml (record { gate = λ w. refl; status = λ w. refl; view = λ w. refl; marks = λ w. (refl, refl); step_trace = λ w. refl }) (λ w g m. inr refl) (λ v m. (m.runs.phase, m.runs.algorithm, m.runs.plain)) (λ e. absurd cc) (tml.tml_begins good c n)
+  tml_begins =
+      by-running-of good c tml_begin (TmlBegins good c) n CanTmlBegin Tml
+      (record { gate = λ w. refl; status = λ w. refl; view = λ w. refl; marks = λ w. (refl, refl); step_trace = λ w. refl })
+      (λ w g m. inr refl) (λ v m. (m.runs.phase, m.runs.algorithm, m.runs.plain)) (λ e. absurd cc) (tml.tml_begins good c n)
 
   pub tml_loads : (a : ℕ) → StepLaw (Core good c) (tml_load a) (TmlLoads good c a) n (CanTmlLoad c.words a)
-  tml_loads a = by-running-of good c (tml_load a) (TmlLoads good c a) n (CanTmlLoad c.words a) Tml (record { gate = λ w. refl; status = λ w. refl; view = λ w. refl; marks = λ w. (refl, refl); step_trace = λ w. refl }) (λ w g m. inr refl) (λ v m. (m.has.runs.phase, m.has.runs.algorithm, m.has.runs.plain)) (λ e. absurd cc) (tml.tml_loads good c n a)
+  tml_loads a =
+      by-running-of good c (tml_load a) (TmlLoads good c a) n (CanTmlLoad c.words a) Tml
+      (record { gate = λ w. refl; status = λ w. refl; view = λ w. refl; marks = λ w. (refl, refl); step_trace = λ w. refl })
+      (λ w g m. inr refl) (λ v m. (m.has.runs.phase, m.has.runs.algorithm, m.has.runs.plain)) (λ e. absurd cc) (tml.tml_loads good c n a)
 
   pub tml_agains : StepLaw (Core good c) tml_again (TmlAgain good c) n CanTmlAgain
-  tml_agains = by-running-of good c tml_again (TmlAgain good c) n CanTmlAgain Tml (record { gate = λ w. refl; status = λ w. refl; view = λ w. refl; marks = λ w. (refl, refl); step_trace = λ w. refl }) (λ w g m. inr refl) (λ v m. (m.has.runs.phase, m.has.runs.algorithm, m.has.runs.plain)) (λ e. absurd cc) (tml.tml_agains good c n)
+  tml_agains =
+      by-running-of good c tml_again (TmlAgain good c) n CanTmlAgain Tml
+      (record { gate = λ w. refl; status = λ w. refl; view = λ w. refl; marks = λ w. (refl, refl); step_trace = λ w. refl })
+      (λ w g m. inr refl) (λ v m. (m.has.runs.phase, m.has.runs.algorithm, m.has.runs.plain)) (λ e. absurd cc) (tml.tml_agains good c n)
 
   pub tml_writes : (start : ℕ) → n < c.callers → StepLaw (Core good c) (tml_write start) Nothing n (CanTmlWrite start)
-  tml_writes start low = by-running-of good c (tml_write start) Nothing n (CanTmlWrite start) Tml (record { gate = λ w. refl; status = λ w. refl; view = λ w. refl; marks = λ w. (refl, refl); step_trace = λ w. risen-step_trace (w.clock == start) (w.views n) ((w.views n).steps.rises + 1) }) (λ w g m. inl (inr m.not_quiescent)) (λ v m. (m.has.runs.phase, m.has.runs.algorithm, m.has.runs.plain)) (λ e. absurd cc) (tml.tml_writes good c n start low)
+  tml_writes start low =
+      by-running-of good c (tml_write start) Nothing n (CanTmlWrite start) Tml
+      (record {
+        gate = λ w. refl;
+        status = λ w. refl;
+        view = λ w. refl;
+        marks = λ w. (refl, refl);
+        step_trace = λ w. risen-step_trace (w.clock == start) (w.views n) ((w.views n).steps.rises + 1);
+      })
+      (λ w g m. inl (inr m.not_quiescent)) (λ v m. (m.has.runs.phase, m.has.runs.algorithm, m.has.runs.plain)) (λ e. absurd cc)
+      (tml.tml_writes good c n start low)
 
   pub tml_stores : (a x : ℕ) → StepLaw (Core good c) (tml_store a x) Nothing n (CanTmlStore c.words a x)
-  tml_stores a x = by-running-of good c (tml_store a x) Nothing n (CanTmlStore c.words a x) Tml (record { gate = λ w. refl; status = λ w. refl; view = λ w. refl; marks = λ w. (refl, refl); step_trace = λ w. refl }) (λ w g m. inr refl) (λ v m. (m.has.runs.phase, m.has.runs.algorithm, m.has.runs.plain)) (λ e. absurd cc) (tml.tml_stores good c n a x)
+  tml_stores a x =
+      by-running-of good c (tml_store a x) Nothing n (CanTmlStore c.words a x) Tml
+      (record { gate = λ w. refl; status = λ w. refl; view = λ w. refl; marks = λ w. (refl, refl); step_trace = λ w. refl })
+      (λ w g m. inr refl) (λ v m. (m.has.runs.phase, m.has.runs.algorithm, m.has.runs.plain)) (λ e. absurd cc) (tml.tml_stores good c n a x)
 
   pub tml_commits : (t : ℕ) → n < c.callers → StepLaw (Core good c) (tml_commit n t) (Commits good c n t) n (CanTmlCommit good t)
-  tml_commits t low = by-running-of good c (tml_commit n t) (Commits good c n t) n (CanTmlCommit good t) Tml (record { gate = λ w. refl; status = λ w. refl; view = λ w. refl; marks = λ w. (refl, refl); step_trace = λ w. refl }) (λ w g m. inl (inr m.not_quiescent)) (λ v m. (m.has.runs.phase, m.has.runs.algorithm, m.has.runs.plain)) (λ e. absurd cc) (tml.tml_commits good c n t low)
+  tml_commits t low =
+      by-running-of good c (tml_commit n t) (Commits good c n t) n (CanTmlCommit good t) Tml
+      (record { gate = λ w. refl; status = λ w. refl; view = λ w. refl; marks = λ w. (refl, refl); step_trace = λ w. refl })
+      (λ w g m. inl (inr m.not_quiescent)) (λ v m. (m.has.runs.phase, m.has.runs.algorithm, m.has.runs.plain)) (λ e. absurd cc)
+      (tml.tml_commits good c n t low)
 
   pub announces : n < c.callers → StepLaw (Core good c) (announce n) Nothing n CanAnnounce
-  announces low w g may = let o = by-gate good c (announce n) n w (record { common = record { words = λ w. (refl, refl, refl); history = λ w. (refl, refl); steps = λ w. (refl, refl); held = λ w. (refl, refl); busy = λ w. refl }; marks = λ w. (refl, refl); memory = λ w. (refl, refl); view = λ w. refl }) g (λ e. absurd (out e)) (λ e. absurd (unentered good c w n g (ap may_hold may) e)) (λ k e. k) (announce-gate c.callers w n low may g.gate)
+  announces low w g may =
+      let o = by-gate good c (announce n) n w (record {
+        common = record {
+          words = λ w. (refl, refl, refl);
+          history = λ w. (refl, refl);
+          steps = λ w. (refl, refl);
+          held = λ w. (refl, refl);
+          busy = λ w. refl;
+        };
+        marks = λ w. (refl, refl);
+        memory = λ w. (refl, refl);
+        view = λ w. refl;
+      }) g (λ e. absurd (out e)) (λ e. absurd (unentered good c w n g (ap may_hold may) e)) (λ k e. k)
+      (announce-gate c.callers w n low may g.gate)
       (install-apart c w x n v refl refl refl refl (unheld good c w n g (ap may_hold may)) refl refl refl refl refl g.install) (regime-kept w x n v refl refl refl) in
       record { rule = o.0; advances = o.1; shown = tt }
     where
@@ -124,7 +198,20 @@ module _ (good : (ℕ → ℕ) → Type 0) (c : Config) (n : ℕ) where
       out e = let k : Idle ≡ In = sym may ∙ e in cc
 
   pub loads_gate : StepLaw (Core good c) load_gate (FindsHolder c n) n CanLoadGate
-  loads_gate w g may = let o = by-gate good c load_gate n w (record { common = record { words = λ w. (refl, refl, refl); history = λ w. (refl, refl); steps = λ w. (refl, refl); held = λ w. (refl, refl); busy = λ w. refl }; marks = λ w. (refl, refl); memory = λ w. (refl, refl); view = λ w. refl }) g (λ e. absurd (out e)) (λ e. absurd (unentered good c w n g (ap may_hold may) e)) (λ k e. k) (load_gate-gate c.callers w n may g.gate)
+  loads_gate w g may =
+      let o = by-gate good c load_gate n w (record {
+        common = record {
+          words = λ w. (refl, refl, refl);
+          history = λ w. (refl, refl);
+          steps = λ w. (refl, refl);
+          held = λ w. (refl, refl);
+          busy = λ w. refl;
+        };
+        marks = λ w. (refl, refl);
+        memory = λ w. (refl, refl);
+        view = λ w. refl;
+      }) g (λ e. absurd (out e)) (λ e. absurd (unentered good c w n g (ap may_hold may) e)) (λ k e. k)
+      (load_gate-gate c.callers w n may g.gate)
       (install-apart c w x n v refl refl refl refl (unheld good c w n g (ap may_hold may)) refl refl refl refl refl g.install) (regime-kept w x n v refl refl refl) in
       record { rule = o.0; advances = o.1; shown = λ free other. closer w g w.gate refl other free }
     where
@@ -146,9 +233,24 @@ module _ (good : (ℕ → ℕ) → Type 0) (c : Config) (n : ℕ) where
       install = depart-install c w n may g.install;
       records = records-after w x n v refl (le_refl w.clock) refl refl (λ k t. absurd (let e : false ≡ true = sym (ap (λ q. touches q k) may.disowned) ∙ t in cc)) g.records;
       lock = lock-phase w x n v refl refl refl (λ t. absurd (let o = may.unlocked in cc)) g.lock;
-      attempts = attempts-after w x n v refl (λ t. absurd (let f : true ≡ false = sym t ∙ idle-busy v refl may.unwritten refl refl may.uncommitted in cc)) (λ e. still (w.views n).gate.phase may.unentered e (g.attempts.entered n e)) g.attempts;
-      running = runs-stays c (regime w) (regime x) (record (run_projection w) { views = put (run_projection w).views n (run_view v) }) (run_projection x) (regime-kept w x n v refl refl refl) (run_projection-put w x n v refl refl refl refl refl refl refl refl refl)
-          (runs-leave c (regime w) (run_projection w) n (run_view v) (record { was = record { unlocked = may.unlocked; unwritten = may.unwritten; uncommitted = may.uncommitted }; out = record { unlocked = may.unlocked; unwritten = may.unwritten; uncommitted = may.uncommitted }; tml = refl; owned = refl; bare = bare_now; apart = none-apart good c w n g bare_now; unread = refl; entered = refl }) (inl refl) free g.running);
+      attempts =
+          attempts-after w x n v refl
+          (λ t. absurd (let f : true ≡ false = sym t ∙ idle-busy v refl may.unwritten refl refl may.uncommitted in cc))
+          (λ e. still (w.views n).gate.phase may.unentered e (g.attempts.entered n e)) g.attempts;
+      running =
+          runs-stays c (regime w) (regime x) (record (run_projection w) { views = put (run_projection w).views n (run_view v) })
+          (run_projection x) (regime-kept w x n v refl refl refl) (run_projection-put w x n v refl refl refl refl refl refl refl refl refl)
+          (runs-leave c (regime w) (run_projection w) n (run_view v) (record {
+            was =
+                record { unlocked = may.unlocked; unwritten = may.unwritten; uncommitted = may.uncommitted };
+            out = record { unlocked = may.unlocked; unwritten = may.unwritten; uncommitted = may.uncommitted };
+            tml = refl;
+            owned = refl;
+            bare = bare_now;
+            apart = none-apart good c w n g bare_now;
+            unread = refl;
+            entered = refl;
+          }) (inl refl) free g.running);
       alone = alone-kept c (depart n) n w refl (λ sole. inr refl) g.alone;
       raised = raised-put w x n v refl (λ e. e) (λ e k. g.raised e n k) g.raised;
     };
@@ -178,7 +280,20 @@ module _ (good : (ℕ → ℕ) → Type 0) (c : Config) (n : ℕ) where
       free a e = let q = granted-regime c w n g.gate g.install a e in let p = g.install.promoted n q in let f : true ≡ false = sym (g.install.holding n p.0) ∙ may.reopened p.1 in cc
 
   pub hears : StepLaw (Core good c) hear Hears n (λ v. Unit {0})
-  hears w g may = let o = by-gate good c hear n w (record { common = record { words = λ w. (refl, refl, refl); history = λ w. (refl, refl); steps = λ w. (refl, refl); held = λ w. (refl, refl); busy = λ w. refl }; marks = λ w. (refl, refl); memory = λ w. (refl, refl); view = λ w. refl }) g (λ e. e) (λ e. g.attempts.entered n e) (λ k e. k) (subst (GateRule c.callers) (sym (gate_projection-kept w x n v refl refl refl refl)) g.gate)
+  hears w g may =
+      let o = by-gate good c hear n w (record {
+        common = record {
+          words = λ w. (refl, refl, refl);
+          history = λ w. (refl, refl);
+          steps = λ w. (refl, refl);
+          held = λ w. (refl, refl);
+          busy = λ w. refl;
+        };
+        marks = λ w. (refl, refl);
+        memory = λ w. (refl, refl);
+        view = λ w. refl;
+      }) g (λ e. e) (λ e. g.attempts.entered n e) (λ k e. k)
+      (subst (GateRule c.callers) (sym (gate_projection-kept w x n v refl refl refl refl)) g.gate)
       (subst (InstallRule c) (sym (install_projection-kept w x n v refl refl refl refl refl)) g.install) (regime-kept w x n v refl refl refl) in
       record { rule = o.0; advances = o.1; shown = (m.0, k.seen ∙ m.1 ∙ ap (λ l. m.0 ++ l) (sym k.told)) }
     where
@@ -261,7 +376,19 @@ module _ (good : (ℕ → ℕ) → Type 0) (c : Config) (n : ℕ) where
     records = records-stay w x n v refl (le_refl w.clock) refl refl refl g.records;
     lock = subst LockRule (sym (lock_projection-kept w x n v refl refl refl refl)) g.lock;
     attempts = attempts-stay w x n v refl refl refl refl g.attempts;
-    running = runs-stays c (regime w) (regime x) (record (run_projection w) { views = put (run_projection w).views n (run_view v) }) (run_projection x) (regime-kept w x n v refl refl refl) (run_projection-put w x n v refl refl refl refl refl refl refl refl refl) (runs-leave c (regime w) (run_projection w) n (run_view v) (record { was = idle; out = record { unlocked = idle.unlocked; unwritten = idle.unwritten; uncommitted = idle.uncommitted }; tml = outside good c w n g out; owned = outside-records good c w n g out; bare = bare good c w n g out; apart = none-apart good c w n g (bare good c w n g out); unread = unread good c w n g out; entered = refl }) (low (nat_le k.front (w.views n).history.front) refl)
+    running = runs-stays c (regime w) (regime x) (record (run_projection w) { views = put (run_projection w).views n (run_view v) })
+        (run_projection x) (regime-kept w x n v refl refl refl) (run_projection-put w x n v refl refl refl refl refl refl refl refl refl)
+        (runs-leave c (regime w) (run_projection w) n (run_view v)
+        (record {
+          was = idle;
+          out = record { unlocked = idle.unlocked; unwritten = idle.unwritten; uncommitted = idle.uncommitted };
+          tml = outside good c w n g out;
+          owned = outside-records good c w n g out;
+          bare = bare good c w n g out;
+          apart = none-apart good c w n g (bare good c w n g out);
+          unread = unread good c w n g out;
+          entered = refl;
+        }) (low (nat_le k.front (w.views n).history.front) refl)
         (λ a e. out (g.install.promoted n (granted-regime c w n g.gate g.install a e)).1) g.running);
     alone = alone-seated c w n v refl g.alone;
     raised = raised-put w x n v refl (λ e. e) (λ e k. g.raised e n k) g.raised;
@@ -285,7 +412,9 @@ module _ (good : (ℕ → ℕ) → Type 0) (c : Config) (n : ℕ) where
           else record { made = (w.views n).history.made; seen = k.seen; front = k.front; told = record { seen = (w.views n).history.seen; front = (w.views n).history.front }; whole = (w.views n).history.whole }
 
       -- a note is no further than the number from which starts are loaded
-      low : (b : Bool) → nat_le k.front (w.views n).history.front ≡ b → ((learned_history (w.views n).history k).front ≡ (w.views n).history.front) ⊎ (named_in (regime w) ≡ RingSw → (learned_history (w.views n).history k).front ≤ w.done)
+      low : (b : Bool) → nat_le k.front (w.views n).history.front ≡ b
+          → ((learned_history (w.views n).history k).front ≡ (w.views n).history.front)
+          ⊎ (named_in (regime w) ≡ RingSw → (learned_history (w.views n).history k).front ≤ w.done)
       low false q = inr (λ e.
           let s : horizon w ≡ w.done = ap (λ (a : Alg). if has_ring a then w.done else w.clock) (sym (named-regime w) ∙ e) in
           subst (λ (t : ℕ). t ≤ w.done) (sym (ap (λ (b : Bool). (choice b).front) q)) (subst (λ (t : ℕ). k.front ≤ t) s seen.front))

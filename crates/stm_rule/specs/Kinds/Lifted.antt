@@ -41,29 +41,43 @@ use Rattle.stm_rule.specs.Kinds.SparingMore as sparing_more
 
 module _ (good : (ℕ → ℕ) → Type 0) (c : Config) (n : ℕ) where
   -- what a load of a word outside the range shows without the fence, it shows
-  spared_loads : (a : ℕ) (w : World) (v : View) → heap_without_fence (fence_of w.gate) w.heap w.history a ≡ w.heap a → Loads good c a (without_fence w) v (heap_without_fence (fence_of w.gate) w.heap w.history a) → Loads good c a w v (w.heap a)
+  spared_loads : (a : ℕ) (w : World) (v : View) → heap_without_fence (fence_of w.gate) w.heap w.history a ≡ w.heap a
+      → Loads good c a (without_fence w) v (heap_without_fence (fence_of w.gate) w.heap w.history a) → Loads good c a w v (w.heap a)
   spared_loads a w v e s = subst (Loads good c a w v) e (record { value = s.value; small = s.small; sees = s.sees; legal = s.legal; below = s.below })
 
-  spared_tml : (a : ℕ) (w : World) (v : View) → heap_without_fence (fence_of w.gate) w.heap w.history a ≡ w.heap a → TmlLoads good c a (without_fence w) v (heap_without_fence (fence_of w.gate) w.heap w.history a) → TmlLoads good c a w v (w.heap a)
+  spared_tml : (a : ℕ) (w : World) (v : View) → heap_without_fence (fence_of w.gate) w.heap w.history a ≡ w.heap a
+      → TmlLoads good c a (without_fence w) v (heap_without_fence (fence_of w.gate) w.heap w.history a) → TmlLoads good c a w v (w.heap a)
   spared_tml a w v e s = subst (TmlLoads good c a w v) e (record { value = s.value; sees = s.sees })
 
-  spared_own : (a : ℕ) (w : World) (v : View) → heap_without_fence (fence_of w.gate) w.heap w.history a ≡ w.heap a → OrecOwnLoads good c a (without_fence w) v (heap_without_fence (fence_of w.gate) w.heap w.history a) → OrecOwnLoads good c a w v (w.heap a)
+  spared_own : (a : ℕ) (w : World) (v : View) → heap_without_fence (fence_of w.gate) w.heap w.history a ≡ w.heap a
+      → OrecOwnLoads good c a (without_fence w) v (heap_without_fence (fence_of w.gate) w.heap w.history a)
+      → OrecOwnLoads good c a w v (w.heap a)
   spared_own a w v e s = subst (OrecOwnLoads good c a w v) e (record { value = s.value; sees = s.sees })
 
   pub acquires_lock : StepLaw (Invariant good c) (take_lock n) (FindsLock c n) n CanTakeLock
   acquires_lock = lift good c (take_lock n) (FindsLock c n) (FindsLock c n) n CanTakeLock (sparing.acquires_lock good c n) (λ w g may s. s) (core.acquires_lock good c n)
 
   pub loads_start : StepLaw (Invariant good c) load_start (Begins good c) n CanLoadStart
-  loads_start = lift good c load_start (Begins good c) (Begins good c) n CanLoadStart (sparing.loads_start good c n) (λ w g may s. record { legal = s.legal; below = s.below; seen = s.seen; front = s.front; limit = s.limit }) (core.loads_start good c n)
+  loads_start =
+      lift good c load_start (Begins good c) (Begins good c) n CanLoadStart (sparing.loads_start good c n)
+      (λ w g may s. record { legal = s.legal; below = s.below; seen = s.seen; front = s.front; limit = s.limit })
+      (core.loads_start good c n)
 
   pub loads_heap : (a : ℕ) → StepLaw (Invariant good c) (load_heap a) (Loads good c a) n (λ v. CanLoadHeap c.words a v × IsSpared a v)
-  loads_heap a = lift good c (load_heap a) (Loads good c a) (Loads good c a) n (λ v. CanLoadHeap c.words a v × IsSpared a v) (sparing.loads_heap good c n a) (λ w g may s. spared_loads a w (w.views n) (heap_without_fence-out (fence_of w.gate) w.heap w.history a (spared good c n w a g may.0.has.phase may.1)) s) (λ w g may. core.loads_heap good c n a w g may.0)
+  loads_heap a =
+      lift good c (load_heap a) (Loads good c a) (Loads good c a) n (λ v. CanLoadHeap c.words a v × IsSpared a v)
+      (sparing.loads_heap good c n a) (λ w g may s.
+      spared_loads a w (w.views n)
+      (heap_without_fence-out (fence_of w.gate) w.heap w.history a (spared good c n w a g may.0.has.phase may.1)) s) (λ w g may.
+      core.loads_heap good c n a w g may.0)
 
   pub stores_heap : (a x : ℕ) → StepLaw (Invariant good c) (store_heap a x) Nothing n (λ v. CanStoreHeap c.words a x v × IsSpared a v)
   stores_heap a x = lift good c (store_heap a x) Nothing Nothing n (λ v. CanStoreHeap c.words a x v × IsSpared a v) (sparing.stores_heap good c n a x) (λ w g may s. s) (λ w g may. core.stores_heap good c n a x w g may.0)
 
   pub stores_clock : (t : ℕ) → n < c.callers → StepLaw (Invariant good c) (store_clock n t) (Commits good c n t) n (CanStoreClock good t)
-  stores_clock t low = lift good c (store_clock n t) (Commits good c n t) (Commits good c n t) n (CanStoreClock good t) (sparing.stores_clock good c n t) (λ w g may s. record { legal = s.legal; below = s.below; seen = s.seen }) (core.stores_clock good c n t low)
+  stores_clock t low =
+      lift good c (store_clock n t) (Commits good c n t) (Commits good c n t) n (CanStoreClock good t) (sparing.stores_clock good c n t)
+      (λ w g may s. record { legal = s.legal; below = s.below; seen = s.seen }) (core.stores_clock good c n t low)
 
   pub frees_lock : StepLaw (Invariant good c) free_lock Nothing n CanFreeLock
   frees_lock = lift good c free_lock Nothing Nothing n CanFreeLock (sparing.frees_lock good c n) (λ w g may s. s) (core.frees_lock good c n)
@@ -78,10 +92,17 @@ module _ (good : (ℕ → ℕ) → Type 0) (c : Config) (n : ℕ) where
   stores_back a x = lift good c (store_back a x) Nothing Nothing n (CanStoreBack a x) (sparing.stores_back good c n a x) (λ w g may s. s) (core.stores_back good c n a x)
 
   pub tml_begins : StepLaw (Invariant good c) tml_begin (TmlBegins good c) n CanTmlBegin
-  tml_begins = lift good c tml_begin (TmlBegins good c) (TmlBegins good c) n CanTmlBegin (sparing.tml_begins good c n) (λ w g may s. record { legal = s.legal; below = s.below; seen = s.seen; front = s.front; limit = s.limit }) (core.tml_begins good c n)
+  tml_begins =
+      lift good c tml_begin (TmlBegins good c) (TmlBegins good c) n CanTmlBegin (sparing.tml_begins good c n)
+      (λ w g may s. record { legal = s.legal; below = s.below; seen = s.seen; front = s.front; limit = s.limit }) (core.tml_begins good c n)
 
   pub tml_loads : (a : ℕ) → StepLaw (Invariant good c) (tml_load a) (TmlLoads good c a) n (λ v. CanTmlLoad c.words a v × IsSpared a v)
-  tml_loads a = lift good c (tml_load a) (TmlLoads good c a) (TmlLoads good c a) n (λ v. CanTmlLoad c.words a v × IsSpared a v) (sparing.tml_loads good c n a) (λ w g may s. spared_tml a w (w.views n) (heap_without_fence-out (fence_of w.gate) w.heap w.history a (spared good c n w a g may.0.has.runs.phase may.1)) s) (λ w g may. core.tml_loads good c n a w g may.0)
+  tml_loads a =
+      lift good c (tml_load a) (TmlLoads good c a) (TmlLoads good c a) n (λ v. CanTmlLoad c.words a v × IsSpared a v)
+      (sparing.tml_loads good c n a) (λ w g may s.
+      spared_tml a w (w.views n)
+      (heap_without_fence-out (fence_of w.gate) w.heap w.history a (spared good c n w a g may.0.has.runs.phase may.1)) s) (λ w g may.
+      core.tml_loads good c n a w g may.0)
 
   pub tml_agains : StepLaw (Invariant good c) tml_again (TmlAgain good c) n CanTmlAgain
   tml_agains = lift good c tml_again (TmlAgain good c) (TmlAgain good c) n CanTmlAgain (sparing.tml_agains good c n) (λ w g may s. record { value = s.value; sees = s.sees }) (core.tml_agains good c n)
@@ -93,7 +114,9 @@ module _ (good : (ℕ → ℕ) → Type 0) (c : Config) (n : ℕ) where
   tml_stores a x = lift good c (tml_store a x) Nothing Nothing n (λ v. CanTmlStore c.words a x v × IsSpared a v) (sparing.tml_stores good c n a x) (λ w g may s. s) (λ w g may. core.tml_stores good c n a x w g may.0)
 
   pub tml_commits : (t : ℕ) → n < c.callers → StepLaw (Invariant good c) (tml_commit n t) (Commits good c n t) n (CanTmlCommit good t)
-  tml_commits t low = lift good c (tml_commit n t) (Commits good c n t) (Commits good c n t) n (CanTmlCommit good t) (sparing.tml_commits good c n t) (λ w g may s. record { legal = s.legal; below = s.below; seen = s.seen }) (core.tml_commits good c n t low)
+  tml_commits t low =
+      lift good c (tml_commit n t) (Commits good c n t) (Commits good c n t) n (CanTmlCommit good t) (sparing.tml_commits good c n t)
+      (λ w g may s. record { legal = s.legal; below = s.below; seen = s.seen }) (core.tml_commits good c n t low)
 
   pub announces : n < c.callers → StepLaw (Invariant good c) (announce n) Nothing n CanAnnounce
   announces low = lift good c (announce n) Nothing Nothing n CanAnnounce (sparing.announces good c n) (λ w g may s. s) (core.announces good c n low)
@@ -103,7 +126,10 @@ module _ (good : (ℕ → ℕ) → Type 0) (c : Config) (n : ℕ) where
   alone w g busy = sole-knows c.callers n (gate_projection (without_fence w)) g.core.gate busy
 
   pub loads_gate : StepLaw (Invariant good c) load_gate (FindsGate c n) n CanLoadGate
-  loads_gate = lift good c load_gate (FindsHolder c n) (FindsGate c n) n CanLoadGate (sparing.loads_gate good c n) (λ w g may s. record { closer = s; unfenced = g.fence.off; sole = alone w g (λ e. let k : Announced ≡ Idle = sym may ∙ e in cc) }) (core.loads_gate good c n)
+  loads_gate =
+      lift good c load_gate (FindsHolder c n) (FindsGate c n) n CanLoadGate (sparing.loads_gate good c n)
+      (λ w g may s. record { closer = s; unfenced = g.fence.off; sole = alone w g (λ e. let k : Announced ≡ Idle = sym may ∙ e in cc) })
+      (core.loads_gate good c n)
 
   pub departs : StepLaw (Invariant good c) (depart n) Nothing n CanDepart
   departs = lift good c (depart n) Nothing Nothing n CanDepart (sparing.departs good c n) (λ w g may s. s) (core.departs good c n)
@@ -115,7 +141,10 @@ module _ (good : (ℕ → ℕ) → Type 0) (c : Config) (n : ℕ) where
   loads_end = lift good c load_end EndsAt (Ends good c) n CanLoadEnd (sparing.loads_end good c n) (λ w g may s. record { rule = g; clock = s }) (core.loads_end good c n)
 
   pub aims : StepLaw (Invariant good c) aim (FindsGate c n) n CanAim
-  aims = lift good c aim (FindsHolder c n) (FindsGate c n) n CanAim (sparing.aims good c n) (λ w g may s. record { closer = s; unfenced = g.fence.off; sole = alone w g (λ e. let k : Announced ≡ Idle = sym may ∙ e in cc) }) (closing.aims good c n)
+  aims =
+      lift good c aim (FindsHolder c n) (FindsGate c n) n CanAim (sparing.aims good c n)
+      (λ w g may s. record { closer = s; unfenced = g.fence.off; sole = alone w g (λ e. let k : Announced ≡ Idle = sym may ∙ e in cc) })
+      (closing.aims good c n)
 
   pub takes_gate : (word : ℕ) → n < c.callers → StepLaw (Invariant good c) (take_gate n word) (FindsTaken c n word) n (CanTakeGate word)
   takes_gate word low = lift good c (take_gate n word) (FindsTaken c n word) (FindsTaken c n word) n (CanTakeGate word) (sparing.takes_gate good c n word low) (λ w g may s. s) (closing.takes_gate good c n word low)
@@ -142,31 +171,50 @@ module _ (good : (ℕ → ℕ) → Type 0) (c : Config) (n : ℕ) where
   installs fence alg = lift good c (install n fence alg) Nothing Nothing n (CanInstall fence alg) (sparing.installs good c n fence alg) (λ w g may s. s) (installing.installs good c n fence alg)
 
   pub looks_gate : StepLaw (Invariant good c) look_gate (FindsGate c n) n CanLookGate
-  looks_gate = lift good c look_gate (FindsHolder c n) (FindsGate c n) n CanLookGate (sparing.looks_gate good c n) (λ w g may s. record { closer = s; unfenced = g.fence.off; sole = alone w g (λ e. let k : In ≡ Idle = sym may ∙ e in cc) }) (promotion.looks_gate good c n)
+  looks_gate =
+      lift good c look_gate (FindsHolder c n) (FindsGate c n) n CanLookGate (sparing.looks_gate good c n)
+      (λ w g may s. record { closer = s; unfenced = g.fence.off; sole = alone w g (λ e. let k : In ≡ Idle = sym may ∙ e in cc) })
+      (promotion.looks_gate good c n)
 
   pub seizes : (fence : ℕ) (alg : Alg) → StepLaw (Invariant good c) (seize n fence alg) (FindsTaken c n (gate_word fence 0 alg)) n (CanSeize fence alg)
-  seizes fence alg = lift good c (seize n fence alg) (FindsTaken c n (gate_word fence 0 alg)) (FindsTaken c n (gate_word fence 0 alg)) n (CanSeize fence alg) (sparing.seizes good c n fence alg) (λ w g may s. s) (promotion.seizes good c n fence alg)
+  seizes fence alg =
+      lift good c (seize n fence alg) (FindsTaken c n (gate_word fence 0 alg)) (FindsTaken c n (gate_word fence 0 alg)) n
+      (CanSeize fence alg) (sparing.seizes good c n fence alg) (λ w g may s. s) (promotion.seizes good c n fence alg)
 
   pub grants : StepLaw (Invariant good c) tml_grant Nothing n (CanTmlGrant c.callers n)
   grants = lift good c tml_grant Nothing Nothing n (CanTmlGrant c.callers n) (sparing_more.grants good c n) (λ w g may s. s) (promotion.grants good c n)
 
   pub direct_loads : (a : ℕ) → StepLaw (Invariant good c) (direct_load a) (Loads good c a) n (λ v. CanDirectLoad c.words a v × IsSpared a v)
-  direct_loads a = lift good c (direct_load a) (Loads good c a) (Loads good c a) n (λ v. CanDirectLoad c.words a v × IsSpared a v) (sparing_more.direct_loads good c n a) (λ w g may s. spared_loads a w (w.views n) (heap_without_fence-out (fence_of w.gate) w.heap w.history a (spared good c n w a g (granted-in good c n w g may.0.granted) may.1)) s) (λ w g may. promotion.direct_loads good c n a w g may.0)
+  direct_loads a =
+      lift good c (direct_load a) (Loads good c a) (Loads good c a) n (λ v. CanDirectLoad c.words a v × IsSpared a v)
+      (sparing_more.direct_loads good c n a) (λ w g may s.
+      spared_loads a w (w.views n)
+      (heap_without_fence-out (fence_of w.gate) w.heap w.history a (spared good c n w a g (granted-in good c n w g may.0.granted) may.1)) s)
+      (λ w g may. promotion.direct_loads good c n a w g may.0)
 
   pub direct_stores : (a x : ℕ) → StepLaw (Invariant good c) (direct_store a x) Nothing n (λ v. CanDirectStore c.words a x v × IsSpared a v)
-  direct_stores a x = lift good c (direct_store a x) Nothing Nothing n (λ v. CanDirectStore c.words a x v × IsSpared a v) (sparing_more.direct_stores good c n a x) (λ w g may s. s) (λ w g may. promotion.direct_stores good c n a x w g may.0)
+  direct_stores a x =
+      lift good c (direct_store a x) Nothing Nothing n (λ v. CanDirectStore c.words a x v × IsSpared a v)
+      (sparing_more.direct_stores good c n a x) (λ w g may s. s) (λ w g may. promotion.direct_stores good c n a x w g may.0)
 
   pub direct_commits : (alg : Alg) (t : ℕ) → n < c.callers → StepLaw (Invariant good c) (direct_commit n alg t) (Commits good c n t) n (CanDirectCommit good alg t)
-  direct_commits alg t low = lift good c (direct_commit n alg t) (Commits good c n t) (Commits good c n t) n (CanDirectCommit good alg t) (sparing_more.direct_commits good c n alg t) (λ w g may s. record { legal = s.legal; below = s.below; seen = s.seen }) (promotion.direct_commits good c n alg t low)
+  direct_commits alg t low =
+      lift good c (direct_commit n alg t) (Commits good c n t) (Commits good c n t) n (CanDirectCommit good alg t)
+      (sparing_more.direct_commits good c n alg t) (λ w g may s. record { legal = s.legal; below = s.below; seen = s.seen })
+      (promotion.direct_commits good c n alg t low)
 
   pub direct_raises_clock : (least : ℕ) → n < c.callers → StepLaw (Invariant good c) (direct_raise_clock least) Nothing n (CanDirectRaiseClock least)
-  direct_raises_clock least low = lift good c (direct_raise_clock least) Nothing Nothing n (CanDirectRaiseClock least) (sparing_more.direct_raises_clock good c n least) (λ w g may s. s) (promotion.direct_raises_clock good c n least low)
+  direct_raises_clock least low =
+      lift good c (direct_raise_clock least) Nothing Nothing n (CanDirectRaiseClock least) (sparing_more.direct_raises_clock good c n least)
+      (λ w g may s. s) (promotion.direct_raises_clock good c n least low)
 
   pub direct_ups : (r version : ℕ) → StepLaw (Invariant good c) (direct_up r version) Nothing n (CanDirectUp r version)
   direct_ups r version = lift good c (direct_up r version) Nothing Nothing n (CanDirectUp r version) (sparing_more.direct_ups good c n r version) (λ w g may s. s) (promotion.direct_ups good c n r version)
 
   pub orec_grants : (q b : ℕ) → StepLaw (Invariant good c) (orec_grant q b) (OrecFails n) n (CanOrecGrant (home_of c) c.words q b)
-  orec_grants q b = lift good c (orec_grant q b) (OrecFails n) (OrecFails n) n (CanOrecGrant (home_of c) c.words q b) (sparing_more.orec_grants good c n q b) (λ w g may s. record { own = s.own; later = s.later }) (promotion.orec_grants good c n q b)
+  orec_grants q b =
+      lift good c (orec_grant q b) (OrecFails n) (OrecFails n) n (CanOrecGrant (home_of c) c.words q b)
+      (sparing_more.orec_grants good c n q b) (λ w g may s. record { own = s.own; later = s.later }) (promotion.orec_grants good c n q b)
 
   pub orec_grants_all : StepLaw (Invariant good c) orec_grant_all Nothing n (CanOrecGrantAll (home_of c) c.words c.callers n)
   orec_grants_all = lift good c orec_grant_all Nothing Nothing n (CanOrecGrantAll (home_of c) c.words c.callers n) (sparing_more.orec_grants_all good c n) (λ w g may s. s) (promotion.orec_grants_all good c n)
@@ -178,7 +226,10 @@ module _ (good : (ℕ → ℕ) → Type 0) (c : Config) (n : ℕ) where
   returns fence alg = lift good c (return_gate fence alg) Nothing Nothing n (CanReturn fence alg) (sparing.returns good c n fence alg) (λ w g may s. s) (promotion.returns good c n fence alg)
 
   pub orec_begins : StepLaw (Invariant good c) orec_begin (Begins good c) n CanOrecBegin
-  orec_begins = lift good c orec_begin (Begins good c) (Begins good c) n CanOrecBegin (sparing_more.orec_begins good c n) (λ w g may s. record { legal = s.legal; below = s.below; seen = s.seen; front = s.front; limit = s.limit }) (records.orec_begins good c n)
+  orec_begins =
+      lift good c orec_begin (Begins good c) (Begins good c) n CanOrecBegin (sparing_more.orec_begins good c n)
+      (λ w g may s. record { legal = s.legal; below = s.below; seen = s.seen; front = s.front; limit = s.limit })
+      (records.orec_begins good c n)
 
   pub orec_samples : (r : ℕ) (a : ℕ) → StepLaw (Invariant good c) (orec_sample r a) Nothing n (CanOrecSample (home_of c) r a)
   orec_samples r a = lift good c (orec_sample r a) Nothing Nothing n (CanOrecSample (home_of c) r a) (sparing_more.orec_samples good c n r a) (λ w g may s. s) (records.orec_samples good c n r a)
@@ -187,16 +238,24 @@ module _ (good : (ℕ → ℕ) → Type 0) (c : Config) (n : ℕ) where
   orec_loads a = lift good c (orec_load a) Nothing Nothing n (λ v. CanOrecLoad a v × IsSpared a v) (sparing_more.orec_loads good c n a) (λ w g may s. s) (λ w g may. records.orec_loads good c n a w g may.0)
 
   pub orec_confirms : (r : ℕ) → StepLaw (Invariant good c) (orec_confirm r) (OrecConfirms good c) n (CanOrecConfirm (home_of c) c.words r)
-  orec_confirms r = lift good c (orec_confirm r) (OrecConfirms good c) (OrecConfirms good c) n (CanOrecConfirm (home_of c) c.words r) (sparing_more.orec_confirms good c n r) (λ w g may s. record { value = s.value; sees = s.sees }) (records.orec_confirms good c n r)
+  orec_confirms r =
+      lift good c (orec_confirm r) (OrecConfirms good c) (OrecConfirms good c) n (CanOrecConfirm (home_of c) c.words r)
+      (sparing_more.orec_confirms good c n r) (λ w g may s. record { value = s.value; sees = s.sees }) (records.orec_confirms good c n r)
 
   pub orec_clocks_all : StepLaw (Invariant good c) orec_clock_all OrecClocks n (CanOrecClock (home_of c) [])
-  orec_clocks_all = lift good c orec_clock_all OrecClocks OrecClocks n (CanOrecClock (home_of c) []) (sparing_more.orec_clocks_all good c n) (λ w g may s. record { sampled = s.sampled }) (records.orec_clocks_all good c n)
+  orec_clocks_all =
+      lift good c orec_clock_all OrecClocks OrecClocks n (CanOrecClock (home_of c) []) (sparing_more.orec_clocks_all good c n)
+      (λ w g may s. record { sampled = s.sampled }) (records.orec_clocks_all good c n)
 
   pub orec_passes : (q b : ℕ) → StepLaw (Invariant good c) (orec_pass q b) (OrecFails n) n (CanOrecPass (home_of c) q b)
-  orec_passes q b = lift good c (orec_pass q b) (OrecFails n) (OrecFails n) n (CanOrecPass (home_of c) q b) (sparing_more.orec_passes good c n q b) (λ w g may s. record { own = s.own; later = s.later }) (records.orec_passes good c n q b)
+  orec_passes q b =
+      lift good c (orec_pass q b) (OrecFails n) (OrecFails n) n (CanOrecPass (home_of c) q b) (sparing_more.orec_passes good c n q b)
+      (λ w g may s. record { own = s.own; later = s.later }) (records.orec_passes good c n q b)
 
   pub orec_clocks : (todo : List Cell) → StepLaw (Invariant good c) (orec_clock todo) OrecSettled n (CanOrecClock (home_of c) todo)
-  orec_clocks todo = lift good c (orec_clock todo) OrecSettled OrecSettled n (CanOrecClock (home_of c) todo) (sparing_more.orec_clocks good c n todo) (λ w g may s. record { clocks = record { sampled = s.clocks.sampled }; settled = s.settled }) (records.orec_clocks good c n todo)
+  orec_clocks todo =
+      lift good c (orec_clock todo) OrecSettled OrecSettled n (CanOrecClock (home_of c) todo) (sparing_more.orec_clocks good c n todo)
+      (λ w g may s. record { clocks = record { sampled = s.clocks.sampled }; settled = s.settled }) (records.orec_clocks good c n todo)
 
   pub orec_lasts : (r : ℕ) (b : ℕ) → StepLaw (Invariant good c) (orec_last r b) Nothing n (CanOrecLast (home_of c) r b)
   orec_lasts r b = lift good c (orec_last r b) Nothing Nothing n (CanOrecLast (home_of c) r b) (sparing_more.orec_lasts good c n r b) (λ w g may s. s) (records.orec_lasts good c n r b)
@@ -210,8 +269,14 @@ module _ (good : (ℕ → ℕ) → Type 0) (c : Config) (n : ℕ) where
   pub orec_locks : (r : ℕ) (version : ℕ) → StepLaw (Invariant good c) (orec_lock n r version) Nothing n (CanOrecLock version)
   orec_locks r version = lift good c (orec_lock n r version) Nothing Nothing n (CanOrecLock version) (sparing_more.orec_locks good c n r version) (λ w g may s. s) (records.orec_locks good c n r version)
 
-  pub orec_commits : (start : ℕ) (writes : List Cell) (back : List Cell) → n < c.callers → StepLaw (Invariant good c) (orec_commit n start writes back) Nothing n (λ v. CanOrecCommit (home_of c) good c.words start writes back v × AreSpared writes v)
-  orec_commits start writes back low = lift good c (orec_commit n start writes back) Nothing Nothing n (λ v. CanOrecCommit (home_of c) good c.words start writes back v × AreSpared writes v) (sparing_more.orec_commits good c n start writes back) (λ w g may s. s) (λ w g may. records.orec_commits good c n start writes back low w g may.0)
+  pub orec_commits : (start : ℕ) (writes : List Cell) (back : List Cell) → n < c.callers
+      → StepLaw (Invariant good c) (orec_commit n start writes back) Nothing n (λ v.
+      CanOrecCommit (home_of c) good c.words start writes back v × AreSpared writes v)
+  orec_commits start writes back low =
+      lift good c (orec_commit n start writes back) Nothing Nothing n
+      (λ v. CanOrecCommit (home_of c) good c.words start writes back v × AreSpared writes v)
+      (sparing_more.orec_commits good c n start writes back) (λ w g may s. s) (λ w g may.
+      records.orec_commits good c n start writes back low w g may.0)
 
   pub orec_writes_back : (a : ℕ) (x : ℕ) → StepLaw (Invariant good c) (orec_write_back a x) Nothing n (CanOrecWriteBack a x)
   orec_writes_back a x = lift good c (orec_write_back a x) Nothing Nothing n (CanOrecWriteBack a x) (sparing_more.orec_writes_back good c n a x) (λ w g may s. s) (records.orec_writes_back good c n a x)
@@ -226,7 +291,13 @@ module _ (good : (ℕ → ℕ) → Type 0) (c : Config) (n : ℕ) where
   orec_ups r version = lift good c (orec_release r version) Nothing Nothing n (CanOrecUp (home_of c) r version) (sparing_more.orec_ups good c n r version) (λ w g may s. s) (records.orec_ups good c n r version)
 
   pub orec_own_loads : (a : ℕ) → StepLaw (Invariant good c) (orec_own_load a) (OrecOwnLoads good c a) n (λ v. CanOrecOwnLoad (home_of c) c.words a v × IsSpared a v)
-  orec_own_loads a = lift good c (orec_own_load a) (OrecOwnLoads good c a) (OrecOwnLoads good c a) n (λ v. CanOrecOwnLoad (home_of c) c.words a v × IsSpared a v) (sparing_more.orec_own_loads good c n a) (λ w g may s. spared_own a w (w.views n) (heap_without_fence-out (fence_of w.gate) w.heap w.history a (spared good c n w a g may.0.opens.has.runs.phase may.1)) s) (λ w g may. records.orec_own_loads good c n a w g may.0)
+  orec_own_loads a =
+      lift good c (orec_own_load a) (OrecOwnLoads good c a) (OrecOwnLoads good c a) n
+      (λ v. CanOrecOwnLoad (home_of c) c.words a v × IsSpared a v) (sparing_more.orec_own_loads good c n a)
+      (λ w g may s.
+      spared_own a w (w.views n)
+      (heap_without_fence-out (fence_of w.gate) w.heap w.history a (spared good c n w a g may.0.opens.has.runs.phase may.1)) s) (λ w g may.
+      records.orec_own_loads good c n a w g may.0)
 
   pub orec_saves : (a : ℕ) → StepLaw (Invariant good c) (orec_save a) Nothing n (λ v. CanOrecSave (home_of c) a v × IsSpared a v)
   orec_saves a = lift good c (orec_save a) Nothing Nothing n (λ v. CanOrecSave (home_of c) a v × IsSpared a v) (sparing_more.orec_saves good c n a) (λ w g may s. s) (λ w g may. records.orec_saves good c n a w g may.0)
@@ -238,16 +309,34 @@ module _ (good : (ℕ → ℕ) → Type 0) (c : Config) (n : ℕ) where
   orec_restores a x = lift good c (orec_restore a x) Nothing Nothing n (CanOrecRestore a x) (sparing_more.orec_restores good c n a x) (λ w g may s. s) (records.orec_restores good c n a x)
 
   pub orec_raises_clock : (least : ℕ) → n < c.callers → StepLaw (Invariant good c) (orec_raise_clock least) Nothing n (CanOrecRaiseClock least)
-  orec_raises_clock least low = lift good c (orec_raise_clock least) Nothing Nothing n (CanOrecRaiseClock least) (sparing_more.orec_raises_clock good c n least) (λ w g may s. s) (records.orec_raises_clock good c n least low)
+  orec_raises_clock least low =
+      lift good c (orec_raise_clock least) Nothing Nothing n (CanOrecRaiseClock least) (sparing_more.orec_raises_clock good c n least)
+      (λ w g may s. s) (records.orec_raises_clock good c n least low)
 
   pub ring_begins : StepLaw (Invariant good c) ring_begin (RingBegins good c) n CanRingBegin
-  ring_begins = lift good c ring_begin (RingBegins good c) (RingBegins good c) n CanRingBegin (sparing_more.ring_begins good c n) (λ w g may s. record { legal = s.legal; below = s.below; seen = s.seen; front = s.front; limit = s.limit }) (rings.ring_begins good c n)
+  ring_begins =
+      lift good c ring_begin (RingBegins good c) (RingBegins good c) n CanRingBegin (sparing_more.ring_begins good c n)
+      (λ w g may s. record { legal = s.legal; below = s.below; seen = s.seen; front = s.front; limit = s.limit })
+      (rings.ring_begins good c n)
 
   pub ring_loads : (a : ℕ) → StepLaw (Invariant good c) (ring_load a) Nothing n (λ v. CanRingLoad c.words a v × IsSpared a v)
   ring_loads a = lift good c (ring_load a) Nothing Nothing n (λ v. CanRingLoad c.words a v × IsSpared a v) (sparing_more.ring_loads good c n a) (λ w g may s. s) (λ w g may. rings.ring_loads good c n a w g may.0)
 
   pub ring_looks : StepLaw (Invariant good c) ring_look (RingLooks good c) n CanRingLook
-  ring_looks = lift good c ring_look (RingLooks good c) (RingLooks good c) n CanRingLook (sparing_more.ring_looks good c n) (λ w g may s. record { passes = λ e. let k = s.passes e in record { value = k.value; sees = k.sees; begins = record { legal = k.begins.legal; below = k.begins.below; seen = k.begins.seen; front = k.begins.front; limit = k.begins.limit } }; later = s.later }) (rings.ring_looks good c n)
+  ring_looks =
+      lift good c ring_look (RingLooks good c) (RingLooks good c) n CanRingLook (sparing_more.ring_looks good c n)
+      (λ w g may s.
+      record {
+        passes = λ e.
+            let k = s.passes e in
+            record {
+              value = k.value;
+              sees = k.sees;
+              begins =
+                  record { legal = k.begins.legal; below = k.begins.below; seen = k.begins.seen; front = k.begins.front; limit = k.begins.limit };
+            };
+        later = s.later;
+      }) (rings.ring_looks good c n)
 
   pub ring_words : (e i : ℕ) → StepLaw (Invariant good c) (ring_word c.ring e i) Nothing n (CanRingWord c.ring e i)
   ring_words e i = lift good c (ring_word c.ring e i) Nothing Nothing n (CanRingWord c.ring e i) (sparing_more.ring_words good c n e i) (λ w g may s. s) (rings.ring_words good c n e i)
@@ -256,7 +345,23 @@ module _ (good : (ℕ → ℕ) → Type 0) (c : Config) (n : ℕ) where
   ring_agains = lift good c (ring_again c.ring) Nothing Nothing n CanRingAgain (sparing_more.ring_agains good c n) (λ w g may s. s) (rings.ring_agains good c n)
 
   pub ring_moves : StepLaw (Invariant good c) ring_move (RingMoves good c) n (CanRingMove slot_filter)
-  ring_moves = lift good c ring_move (RingMoves good c) (RingMoves good c) n (CanRingMove slot_filter) (sparing_more.ring_moves good c n) (λ w g may s. record { sees = record { value = s.sees.value; sees = s.sees.sees; begins = record { legal = s.sees.begins.legal; below = s.sees.begins.below; seen = s.sees.begins.seen; front = s.sees.begins.front; limit = s.sees.begins.limit } }; level = s.level }) (rings.ring_moves good c n)
+  ring_moves =
+      lift good c ring_move (RingMoves good c) (RingMoves good c) n (CanRingMove slot_filter) (sparing_more.ring_moves good c n)
+      (λ w g may s.
+      record {
+        sees = record {
+          value = s.sees.value;
+          sees = s.sees.sees;
+          begins = record {
+            legal = s.sees.begins.legal;
+            below = s.sees.begins.below;
+            seen = s.sees.begins.seen;
+            front = s.sees.begins.front;
+            limit = s.sees.begins.limit;
+          };
+        };
+        level = s.level;
+      }) (rings.ring_moves good c n)
 
   pub ring_locks : StepLaw (Invariant good c) (ring_lock n) (FindsLock c n) n CanRingLock
   ring_locks = lift good c (ring_lock n) (FindsLock c n) (FindsLock c n) n CanRingLock (sparing_more.ring_locks good c n) (λ w g may s. s) (rings.ring_locks good c n)
@@ -268,7 +373,10 @@ module _ (good : (ℕ → ℕ) → Type 0) (c : Config) (n : ℕ) where
   ring_slots e i ws = lift good c (ring_slot slot_filter c.ring e i ws) Nothing Nothing n (CanRingSlot e i ws) (sparing_more.ring_slots good c n e i ws) (λ w g may s. s) (rings.ring_slots good c n e i ws)
 
   pub ring_enters : (t : ℕ) → n < c.callers → StepLaw (Invariant good c) (ring_enter n t) (RingEnters good c n t) n (λ v. CanRingEnter good c.words t v × AreSpared v.ring_commit.writes v)
-  ring_enters t low = lift good c (ring_enter n t) (RingEnters good c n t) (RingEnters good c n t) n (λ v. CanRingEnter good c.words t v × AreSpared v.ring_commit.writes v) (sparing_more.ring_enters good c n t) (λ w g may s. record { legal = s.legal; below = s.below; seen = s.seen }) (λ w g may. rings.ring_enters good c n t low w g may.0)
+  ring_enters t low =
+      lift good c (ring_enter n t) (RingEnters good c n t) (RingEnters good c n t) n
+      (λ v. CanRingEnter good c.words t v × AreSpared v.ring_commit.writes v) (sparing_more.ring_enters good c n t)
+      (λ w g may s. record { legal = s.legal; below = s.below; seen = s.seen }) (λ w g may. rings.ring_enters good c n t low w g may.0)
 
   pub ring_writes : (a x : ℕ) → StepLaw (Invariant good c) (ring_write a x) Nothing n (CanRingWrite a x)
   ring_writes a x = lift good c (ring_write a x) Nothing Nothing n (CanRingWrite a x) (sparing_more.ring_writes good c n a x) (λ w g may s. s) (rings.ring_writes good c n a x)
@@ -280,16 +388,56 @@ module _ (good : (ℕ → ℕ) → Type 0) (c : Config) (n : ℕ) where
   ring_frees = lift good c ring_free Nothing Nothing n CanRingFree (sparing_more.ring_frees good c n) (λ w g may s. s) (rings.ring_frees good c n)
 
   pub look_grants : StepLaw (Invariant good c) ring_look_grant (RingLooks good c) n CanRingGrant
-  look_grants = lift good c ring_look_grant (RingLooks good c) (RingLooks good c) n CanRingGrant (sparing_more.look_grants good c n) (λ w g may s. record { passes = λ e. let k = s.passes e in record { value = k.value; sees = k.sees; begins = record { legal = k.begins.legal; below = k.begins.below; seen = k.begins.seen; front = k.begins.front; limit = k.begins.limit } }; later = s.later }) (ring_promotion.look_grants good c n)
+  look_grants =
+      lift good c ring_look_grant (RingLooks good c) (RingLooks good c) n CanRingGrant (sparing_more.look_grants good c n)
+      (λ w g may s.
+      record {
+        passes = λ e.
+            let k = s.passes e in
+            record {
+              value = k.value;
+              sees = k.sees;
+              begins =
+                  record { legal = k.begins.legal; below = k.begins.below; seen = k.begins.seen; front = k.begins.front; limit = k.begins.limit };
+            };
+        later = s.later;
+      }) (ring_promotion.look_grants good c n)
 
   pub move_grants : StepLaw (Invariant good c) ring_move_grant (RingMoves good c) n (CanRingMoveGrant slot_filter)
-  move_grants = lift good c ring_move_grant (RingMoves good c) (RingMoves good c) n (CanRingMoveGrant slot_filter) (sparing_more.move_grants good c n) (λ w g may s. record { sees = record { value = s.sees.value; sees = s.sees.sees; begins = record { legal = s.sees.begins.legal; below = s.sees.begins.below; seen = s.sees.begins.seen; front = s.sees.begins.front; limit = s.sees.begins.limit } }; level = s.level }) (ring_promotion.move_grants good c n)
+  move_grants =
+      lift good c ring_move_grant (RingMoves good c) (RingMoves good c) n (CanRingMoveGrant slot_filter) (sparing_more.move_grants good c n)
+      (λ w g may s.
+      record {
+        sees = record {
+          value = s.sees.value;
+          sees = s.sees.sees;
+          begins = record {
+            legal = s.sees.begins.legal;
+            below = s.sees.begins.below;
+            seen = s.sees.begins.seen;
+            front = s.sees.begins.front;
+            limit = s.sees.begins.limit;
+          };
+        };
+        level = s.level;
+      }) (ring_promotion.move_grants good c n)
 
   pub begins_beside : StepLaw (Invariant good c) tml_begin (FindsBegin good c) n CanTmlBegin
-  begins_beside = lift good c tml_begin (FindsBegin good c) (FindsBegin good c) n CanTmlBegin (sparing.tml_begins good c n) (λ w g may s. record { begins = record { legal = s.begins.legal; below = s.begins.below; seen = s.begins.seen; front = s.begins.front; limit = s.begins.limit }; sole = s.sole; writer = s.writer; not_quiescent = s.not_quiescent }) (beside.begins_beside good c n)
+  begins_beside =
+      lift good c tml_begin (FindsBegin good c) (FindsBegin good c) n CanTmlBegin (sparing.tml_begins good c n)
+      (λ w g may s.
+      record {
+        begins =
+            record { legal = s.begins.legal; below = s.begins.below; seen = s.begins.seen; front = s.begins.front; limit = s.begins.limit };
+        sole = s.sole;
+        writer = s.writer;
+        not_quiescent = s.not_quiescent;
+      }) (beside.begins_beside good c n)
 
   pub agains_beside : StepLaw (Invariant good c) tml_again (FindsAgain good c) n CanTmlAgain
-  agains_beside = lift good c tml_again (FindsAgain good c) (FindsAgain good c) n CanTmlAgain (sparing.tml_agains good c n) (λ w g may s. record { again = record { value = s.again.value; sees = s.again.sees }; sole = s.sole }) (beside.agains_beside good c n)
+  agains_beside =
+      lift good c tml_again (FindsAgain good c) (FindsAgain good c) n CanTmlAgain (sparing.tml_agains good c n)
+      (λ w g may s. record { again = record { value = s.again.value; sees = s.again.sees }; sole = s.sole }) (beside.agains_beside good c n)
 
   pub writes_beside : (start : ℕ) → n < c.callers → StepLaw (Invariant good c) (tml_write start) (FindsSole c) n (CanTmlWrite start)
   writes_beside start low = lift good c (tml_write start) (FindsSole c) (FindsSole c) n (CanTmlWrite start) (sparing.tml_writes good c n start) (λ w g may s. s) (beside.writes_beside good c n start low)

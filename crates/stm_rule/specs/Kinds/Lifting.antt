@@ -54,34 +54,47 @@ lift good c kind shows tells n May spares shown law w g may =
     }
 
 -- a load of the heap outside the range finds the same without the fence
-pub spared-load : (w : World) (n a : ℕ) (after : ℕ → View) → fenced (fence_of w.gate) a ≡ false → record (without_fence w) { views = put w.views n (after (heap_without_fence (fence_of w.gate) w.heap w.history a)) } ≡ record (without_fence w) { views = put w.views n (after (w.heap a)) }
+pub spared-load : (w : World) (n a : ℕ) (after : ℕ → View) → fenced (fence_of w.gate) a ≡ false
+    → record (without_fence w) { views = put w.views n (after (heap_without_fence (fence_of w.gate) w.heap w.history a)) }
+    ≡ record (without_fence w) { views = put w.views n (after (w.heap a)) }
 spared-load w n a after out = ap (λ x. record (without_fence w) { views = put w.views n (after x) }) (heap_without_fence-out (fence_of w.gate) w.heap w.history a out)
 
 -- a store there is one without it
-pub spared-store : (w : World) (n a x : ℕ) (v : View) → fenced (fence_of w.gate) a ≡ false → record (without_fence w) { heap = put (heap_without_fence (fence_of w.gate) w.heap w.history) a x; views = put w.views n v } ≡ without_fence (record w { heap = put w.heap a x; views = put w.views n v })
+pub spared-store : (w : World) (n a x : ℕ) (v : View) → fenced (fence_of w.gate) a ≡ false
+    → record (without_fence w) { heap = put (heap_without_fence (fence_of w.gate) w.heap w.history) a x; views = put w.views n v }
+    ≡ without_fence (record w { heap = put w.heap a x; views = put w.views n v })
 spared-store w n a x v out = ap (λ (f : ℕ → ℕ). record (without_fence w) { heap = f; views = put w.views n v }) (heap_without_fence-put (fence_of w.gate) w.heap w.history a x out)
 
 pub spared-heap : (fence a x : ℕ) (heap : ℕ → ℕ) → fenced fence a ≡ false → (b : ℕ) → fenced fence b ≡ true → put heap a x b ≡ heap b
 spared-heap fence a x heap out b inside = put-else heap a b x (λ same. let f : true ≡ false = sym inside ∙ (ap (fenced fence) same ∙ out) in cc)
 
 -- a gate's word with the same fence
-pub spared-gate : (w : World) (n gate : ℕ) (v : View) → fence_of gate ≡ fence_of w.gate → record (without_fence w) { gate = gate; views = put w.views n v } ≡ without_fence (record w { gate = gate; views = put w.views n v })
+pub spared-gate : (w : World) (n gate : ℕ) (v : View) → fence_of gate ≡ fence_of w.gate
+    → record (without_fence w) { gate = gate; views = put w.views n v } ≡ without_fence (record w { gate = gate; views = put w.views n v })
 spared-gate w n gate v same = ap (λ k. record w { gate = gate; heap = heap_without_fence k w.heap w.history; views = put w.views n v }) (sym same)
 
 -- an entry that writes nothing there
-pub spared-entry : (w : World) (n clock : ℕ) (e : Entry) (v : View) → ((a : ℕ) → touches e.writes a ≡ true → fenced (fence_of w.gate) a ≡ false) → record (without_fence w) { clock = clock; history = e ∷ w.history; views = put w.views n v } ≡ without_fence (record w { clock = clock; history = e ∷ w.history; views = put w.views n v })
+pub spared-entry : (w : World) (n clock : ℕ) (e : Entry) (v : View)
+    → ((a : ℕ) → touches e.writes a ≡ true → fenced (fence_of w.gate) a ≡ false)
+    → record (without_fence w) { clock = clock; history = e ∷ w.history; views = put w.views n v }
+    ≡ without_fence (record w { clock = clock; history = e ∷ w.history; views = put w.views n v })
 spared-entry w n clock e v apart = ap (λ (f : ℕ → ℕ). record w { clock = clock; heap = f; history = e ∷ w.history; views = put w.views n v }) (heap_without_fence-entry (fence_of w.gate) w.heap w.history e apart)
 
 -- the load of a split or a join leaves the range alone
 pub loads_seat-whole : (good : (ℕ → ℕ) → Type 0) (c : Config) (n : ℕ) (w : World) → Invariant good c w → Invariant good c (record w { views = put w.views n (after_seat_load (w.views n)) })
 loads_seat-whole good c n w g = record {
   core = laws.loads_seat good c n (without_fence w) g.core;
-  fence = fence-stays c w (record w { views = put w.views n (after_seat_load (w.views n)) }) n (after_seat_load (w.views n)) refl refl (le_refl w.clock) (λ a e. refl) (λ a e. refl) (λ f l. refl) refl (λ a p o. g.fence.apart n a p o) g.fence;
+  fence =
+      fence-stays c w (record w { views = put w.views n (after_seat_load (w.views n)) }) n (after_seat_load (w.views n)) refl refl
+      (le_refl w.clock) (λ a e. refl) (λ a e. refl) (λ f l. refl) refl (λ a p o. g.fence.apart n a p o) g.fence;
 }
 
 -- and so does learning a note
-pub learns-whole : (good : (ℕ → ℕ) → Type 0) (c : Config) (n : ℕ) (w : World) (k : SeenHistory) → Invariant good c w → IsSeen w k → (w.views n).gate.phase ≡ Idle → Invariant good c (record w { views = put w.views n (learned_view (w.views n) k) })
+pub learns-whole : (good : (ℕ → ℕ) → Type 0) (c : Config) (n : ℕ) (w : World) (k : SeenHistory) → Invariant good c w → IsSeen w k
+    → (w.views n).gate.phase ≡ Idle → Invariant good c (record w { views = put w.views n (learned_view (w.views n) k) })
 learns-whole good c n w k g seen idle = record {
   core = laws.learns good c n (without_fence w) k g.core (record { front = seen.front; within = seen.within; seen = seen.seen }) idle;
-  fence = fence-stays c w (record w { views = put w.views n (learned_view (w.views n) k) }) n (learned_view (w.views n) k) refl refl (le_refl w.clock) (λ a e. refl) (λ a e. refl) (λ f l. refl) refl (λ a p o. g.fence.apart n a p o) g.fence;
+  fence =
+      fence-stays c w (record w { views = put w.views n (learned_view (w.views n) k) }) n (learned_view (w.views n) k) refl refl
+      (le_refl w.clock) (λ a e. refl) (λ a e. refl) (λ f l. refl) refl (λ a p o. g.fence.apart n a p o) g.fence;
 }

@@ -70,7 +70,20 @@ grants-at clock v e = grind (arith, e)
 
 module _ (good : (ℕ → ℕ) → Type 0) (c : Config) (n : ℕ) where
   pub looks_gate : StepLaw (Core good c) look_gate (FindsHolder c n) n CanLookGate
-  looks_gate w g may = let o = by-gate good c look_gate n w (record { common = record { words = λ w. (refl, refl, refl); history = λ w. (refl, refl); steps = λ w. (refl, refl); held = λ w. (refl, refl); busy = λ w. refl }; marks = λ w. (refl, refl); memory = λ w. (refl, refl); view = λ w. refl }) g (λ e. e) (λ e. g.attempts.entered n e) (λ k e. k) (subst (GateRule c.callers) (sym (gate_projection-kept w x n v refl refl refl refl)) g.gate)
+  looks_gate w g may =
+      let o = by-gate good c look_gate n w (record {
+        common = record {
+          words = λ w. (refl, refl, refl);
+          history = λ w. (refl, refl);
+          steps = λ w. (refl, refl);
+          held = λ w. (refl, refl);
+          busy = λ w. refl;
+        };
+        marks = λ w. (refl, refl);
+        memory = λ w. (refl, refl);
+        view = λ w. refl;
+      }) g (λ e. e) (λ e. g.attempts.entered n e) (λ k e. k)
+      (subst (GateRule c.callers) (sym (gate_projection-kept w x n v refl refl refl refl)) g.gate)
       (subst (InstallRule c) (sym (install_projection-kept w x n v refl refl refl refl refl)) g.install) (regime-kept w x n v refl refl refl) in
       record { rule = o.0; advances = o.1; shown = λ free other. closer good c n w g w.gate refl other free }
     where
@@ -81,7 +94,23 @@ module _ (good : (ℕ → ℕ) → Type 0) (c : Config) (n : ℕ) where
       v = view_after look_gate w (w.views n) w.gate
 
   pub seizes : (fence : ℕ) (alg : Alg) → StepLaw (Core good c) (seize n fence alg) (FindsTaken c n (gate_word fence 0 alg)) n (CanSeize fence alg)
-  seizes fence alg w g may = let o = by-gate good c (seize n fence alg) n w (record { common = record { words = λ w. (refl, refl, refl); history = λ w. (refl, refl); steps = λ w. (refl, refl); held = λ w. (refl, refl); busy = λ w. refl }; marks = λ w. (refl, refl); memory = λ w. (refl, refl); view = λ w. refl }) g (inside (w.gate == gate_word fence 0 alg)) (λ e. held (w.gate == gate_word fence 0 alg) (g.attempts.entered n e)) (λ k e. absurd (let f : true ≡ false = sym (g.install.holding n k) ∙ may.free in cc)) (seize-gate c.callers fence alg w n may g.gate) (settled (w.gate == gate_word fence 0 alg)) (runs (w.gate == gate_word fence 0 alg) (λ e. eqb-true w.gate (gate_word fence 0 alg) e)) in
+  seizes fence alg w g may =
+      let o = by-gate good c (seize n fence alg) n w (record {
+        common = record {
+          words = λ w. (refl, refl, refl);
+          history = λ w. (refl, refl);
+          steps = λ w. (refl, refl);
+          held = λ w. (refl, refl);
+          busy = λ w. refl;
+        };
+        marks = λ w. (refl, refl);
+        memory = λ w. (refl, refl);
+        view = λ w. refl;
+      }) g (inside (w.gate == gate_word fence 0 alg))
+      (λ e. held (w.gate == gate_word fence 0 alg) (g.attempts.entered n e))
+      (λ k e. absurd (let f : true ≡ false = sym (g.install.holding n k) ∙ may.free in cc)) (seize-gate c.callers fence alg w n may g.gate)
+      (settled (w.gate == gate_word fence 0 alg)) (runs (w.gate == gate_word fence 0 alg) (λ e. eqb-true w.gate (gate_word fence 0 alg) e))
+      in
       record { rule = o.0; advances = o.1; shown = other }
     where
       next : Bool → View
@@ -94,7 +123,11 @@ module _ (good : (ℕ → ℕ) → Type 0) (c : Config) (n : ℕ) where
       plain = ungranted good c w n g may.free
 
       closed : w.gate ≢ gate_word fence 0 alg → holder_of w.gate ≢ 0
-      closed differs none = differs (g.gate.formed ∙ (ap (λ h. gate_word (fence_of w.gate) h (alg_of w.gate)) none ∙ (ap (λ f. gate_word f 0 (alg_of w.gate)) (g.gate.spared n may.phase ∙ may.spared) ∙ ap (gate_word fence 0) (g.gate.named n may.phase ∙ may.named))))
+      closed differs none =
+          differs (g.gate.formed
+          ∙ (ap (λ h. gate_word (fence_of w.gate) h (alg_of w.gate)) none
+          ∙ (ap (λ f. gate_word f 0 (alg_of w.gate)) (g.gate.spared n may.phase ∙ may.spared)
+          ∙ ap (gate_word fence 0) (g.gate.named n may.phase ∙ may.named))))
 
       other : w.gate ≢ gate_word fence 0 alg → NamesOther c n (holder_of w.gate)
       other differs = closer good c n w g w.gate refl (closed differs) may.free
@@ -115,13 +148,25 @@ module _ (good : (ℕ → ℕ) → Type 0) (c : Config) (n : ℕ) where
       runs true e =
           let none : holder_of w.gate ≡ 0 = ap holder_of (e refl) ∙ holder_of-open fence alg in
           let same : alg_of w.gate ≡ alg = ap alg_of (e refl) ∙ alg_of-gate fence 0 alg in
-          regime-handed good c n w (at true) (next true) refl (alg_of-gate fence (1 + n) alg ∙ sym same) (λ m h. absurd (omega arith)) (λ m h. let k = holder-closed c.callers (gate_projection w) g.gate n (is-caller-at c.callers (gate_projection w) g.gate n (λ idle. let q : In ≡ Idle = sym may.phase ∙ idle in cc)) fence alg in omega arith) (plain-mode (next true).gate plain refl)
+          regime-handed good c n w (at true) (next true) refl (alg_of-gate fence (1 + n) alg ∙ sym same) (λ m h. absurd (omega arith))
+          (λ m h.
+          let k = holder-closed c.callers (gate_projection w) g.gate n
+          (is-caller-at c.callers (gate_projection w) g.gate n (λ idle. let q : In ≡ Idle = sym may.phase ∙ idle in cc)) fence alg in
+          omega arith) (plain-mode (next true).gate plain refl)
       runs false e = regime-kept w (at false) n (next false) refl refl refl
 
   -- THE GRANT: what ran is the promoted attempt's
   pub grants : StepLaw (Core good c) tml_grant Nothing n (CanTmlGrant c.callers n)
   grants w g may = let p = go (tml_grants w.clock (w.views n)) (λ e. grants-at w.clock (w.views n) e) in
-      let o = by-running good c tml_grant n w (record { words = λ w. (refl, refl, refl); history = λ w. (refl, refl); steps = λ w. (refl, refl); held = λ w. (refl, refl); busy = λ w. refl }) g (inside (tml_grants w.clock (w.views n))) (λ e. held (tml_grants w.clock (w.views n)) (g.attempts.entered n e)) (λ e. absurd (let f : Tml ≡ RingSw = sym named ∙ e in cc)) (same-horizon w (world_after tml_grant n w) refl (le_refl w.clock) (le_refl w.done)) p.0 p.1 p.2 in
+      let o = by-running good c tml_grant n w (record {
+        words = λ w. (refl, refl, refl);
+        history = λ w. (refl, refl);
+        steps = λ w. (refl, refl);
+        held = λ w. (refl, refl);
+        busy = λ w. refl;
+      }) g (inside (tml_grants w.clock (w.views n))) (λ e. held (tml_grants w.clock (w.views n)) (g.attempts.entered n e))
+      (λ e. absurd (let f : Tml ≡ RingSw = sym named ∙ e in cc))
+      (same-horizon w (world_after tml_grant n w) refl (le_refl w.clock) (le_refl w.done)) p.0 p.1 p.2 in
       record { rule = o.0; advances = o.1; shown = tt }
     where
       next : Bool → View
@@ -157,23 +202,48 @@ module _ (good : (ℕ → ℕ) → Type 0) (c : Config) (n : ℕ) where
       go false e = (
         subst (GateRule c.callers) (sym (gate_projection-kept w (at false) n (next false) refl refl refl refl)) g.gate,
         subst (InstallRule c) (sym (install_projection-kept w (at false) n (next false) refl refl refl refl refl)) g.install,
-        runs-stays c (regime w) (regime (at false)) (run_projection w) (run_projection (at false)) (regime-kept w (at false) n (next false) refl refl refl) (run_projection-kept w (at false) n (next false) refl refl refl refl refl refl refl refl refl refl) g.running,
+        runs-stays c (regime w) (regime (at false)) (run_projection w) (run_projection (at false))
+            (regime-kept w (at false) n (next false) refl refl refl)
+            (run_projection-kept w (at false) n (next false) refl refl refl refl refl refl refl refl refl refl) g.running,
       )
 
   pub direct_loads : (a : ℕ) → StepLaw (Core good c) (direct_load a) (Loads good c a) n (CanDirectLoad c.words a)
-  direct_loads a = by-direct good c (direct_load a) (Loads good c a) n (CanDirectLoad c.words a) (record { gate = λ w. refl; status = λ w. refl; view = λ w. refl; marks = λ w. (refl, refl); step_trace = λ w. refl }) (λ w. refl) (λ v m. m.granted) (λ v m. direct.direct_loads good c v.gate.algorithm n a)
+  direct_loads a =
+      by-direct good c (direct_load a) (Loads good c a) n (CanDirectLoad c.words a)
+      (record { gate = λ w. refl; status = λ w. refl; view = λ w. refl; marks = λ w. (refl, refl); step_trace = λ w. refl }) (λ w. refl)
+      (λ v m. m.granted) (λ v m. direct.direct_loads good c v.gate.algorithm n a)
 
   pub direct_stores : (a x : ℕ) → StepLaw (Core good c) (direct_store a x) Nothing n (CanDirectStore c.words a x)
-  direct_stores a x = by-direct good c (direct_store a x) Nothing n (CanDirectStore c.words a x) (record { gate = λ w. refl; status = λ w. refl; view = λ w. refl; marks = λ w. (refl, refl); step_trace = λ w. refl }) (λ w. refl) (λ v m. m.granted) (λ v m. direct.direct_stores good c v.gate.algorithm n a x)
+  direct_stores a x =
+      by-direct good c (direct_store a x) Nothing n (CanDirectStore c.words a x)
+      (record { gate = λ w. refl; status = λ w. refl; view = λ w. refl; marks = λ w. (refl, refl); step_trace = λ w. refl }) (λ w. refl)
+      (λ v m. m.granted) (λ v m. direct.direct_stores good c v.gate.algorithm n a x)
 
   pub direct_commits : (alg : Alg) (t : ℕ) → n < c.callers → StepLaw (Core good c) (direct_commit n alg t) (Commits good c n t) n (CanDirectCommit good alg t)
-  direct_commits alg t low = by-raise good c (direct_commit n alg t) (Commits good c n t) n (CanDirectCommit good alg t) alg (record { gate = λ w. refl; status = λ w. refl; records = λ w. refl; view = λ w. refl; marks = λ w. (refl, refl); step_trace = λ w. refl }) (λ v m. (m.granted, m.named)) (direct.direct_commits good c alg n t low)
+  direct_commits alg t low =
+      by-raise good c (direct_commit n alg t) (Commits good c n t) n (CanDirectCommit good alg t) alg
+      (record
+      { gate = λ w. refl; status = λ w. refl; records = λ w. refl; view = λ w. refl; marks = λ w. (refl, refl); step_trace = λ w. refl })
+      (λ v m. (m.granted, m.named)) (direct.direct_commits good c alg n t low)
 
   pub direct_raises_clock : (least : ℕ) → n < c.callers → StepLaw (Core good c) (direct_raise_clock least) Nothing n (CanDirectRaiseClock least)
-  direct_raises_clock least low = by-raise good c (direct_raise_clock least) Nothing n (CanDirectRaiseClock least) OrecEager (record { gate = λ w. refl; status = λ w. refl; records = λ w. refl; view = λ w. refl; marks = λ w. (refl, refl); step_trace = λ w. risen-step_trace (ltb w.clock least) (w.views n) ((w.views n).steps.rises + 1) }) (λ v m. (m.granted, m.named)) (raising.direct_raises_clock good c n least low)
+  direct_raises_clock least low =
+      by-raise good c (direct_raise_clock least) Nothing n (CanDirectRaiseClock least) OrecEager
+      (record {
+        gate = λ w. refl;
+        status = λ w. refl;
+        records = λ w. refl;
+        view = λ w. refl;
+        marks = λ w. (refl, refl);
+        step_trace = λ w. risen-step_trace (ltb w.clock least) (w.views n) ((w.views n).steps.rises + 1);
+      }) (λ v m. (m.granted, m.named))
+      (raising.direct_raises_clock good c n least low)
 
   pub direct_ups : (r version : ℕ) → StepLaw (Core good c) (direct_up r version) Nothing n (CanDirectUp r version)
-  direct_ups r version = by-direct good c (direct_up r version) Nothing n (CanDirectUp r version) (record { gate = λ w. refl; status = λ w. refl; view = λ w. refl; marks = λ w. (refl, refl); step_trace = λ w. refl }) (λ w. refl) (λ v m. m.granted)
+  direct_ups r version =
+      by-direct good c (direct_up r version) Nothing n (CanDirectUp r version)
+      (record { gate = λ w. refl; status = λ w. refl; view = λ w. refl; marks = λ w. (refl, refl); step_trace = λ w. refl }) (λ w. refl)
+      (λ v m. m.granted)
       (λ v m. subst (λ (a : Alg). StepLaw (RunWorld (Runs c (Promoted a n)) good c) (direct_up r version) Nothing n (CanDirectUp r version)) (sym m.named) (raising.direct_ups good c n r version))
 
   -- nobody else is inside the records
@@ -186,17 +256,36 @@ module _ (good : (ℕ → ℕ) → Type 0) (c : Config) (n : ℕ) where
       → ((a : ℕ) → over (w.views n).attempt.reads a (word_at w.history t a) ≡ word_at w.history t a)
       → Runs c (regime x) (run_projection x)
   orec_promoted w x v t g may quiet holds stores now is attempt owned front unlocked gate sees =
-      subst (λ (r : Regime). Runs c r (run_projection x)) (sym (regime-promoted x n (ap (λ (y : World). holder_of y.gate) is ∙ g.gate.mine n holds) (ap (λ (f : ℕ → View). (f n).gate.granted) (ap (λ (y : World). y.views) is) ∙ (ap (λ (u : View). u.gate.granted) (put-here w.views n v) ∙ ap (λ (q : GateView). q.granted) gate)) ∙ ap (λ (a : Alg). Promoted a n) (ap (λ (y : World). alg_of y.gate) is ∙ g.gate.named n may.has.runs.phase)))
-      (orec-granted c (w.views n).gate.algorithm n t w x v may.has.runs.algorithm (ap (λ (y : World). y.views) is) (ap (λ (y : World). y.clock) is) (ap (λ (y : World). y.heap) is) (ap (λ (y : World). y.history) is) (ap (λ (y : World). y.base) is) (ap (λ (y : World). y.records) is)
+      subst (λ (r : Regime). Runs c r (run_projection x)) (sym (regime-promoted x n
+      (ap (λ (y : World). holder_of y.gate) is ∙ g.gate.mine n holds) (ap (λ (f : ℕ → View). (f n).gate.granted)
+      (ap (λ (y : World). y.views) is) ∙ (ap (λ (u : View). u.gate.granted) (put-here w.views n v) ∙ ap (λ (q : GateView). q.granted) gate))
+      ∙ ap (λ (a : Alg). Promoted a n) (ap (λ (y : World). alg_of y.gate) is ∙ g.gate.named n may.has.runs.phase)))
+      (orec-granted c (w.views n).gate.algorithm n t w x v may.has.runs.algorithm (ap (λ (y : World). y.views) is)
+      (ap (λ (y : World). y.clock) is) (ap (λ (y : World). y.heap) is) (ap (λ (y : World). y.history) is) (ap (λ (y : World). y.base) is)
+      (ap (λ (y : World). y.records) is)
       attempt owned front unlocked now may.has.inside may.open_yet stores (none_inside w g quiet) sees (full-world good c w (orec-world good c w n g may.has.runs)))
 
   -- a check that failed: the sample and the validation are forgotten
-  forgotten : (w x : World) (v : View) → Core good c w → RunsOrec (w.views n) → x ≡ record w { views = put w.views n v } → orec_view v ≡ record (orec_view (w.views n)) { sample = no_sample; check = no_check } → mode_of v.gate ≡ mode_of (w.views n).gate → Runs c (regime x) (run_projection x)
+  forgotten : (w x : World) (v : View) → Core good c w → RunsOrec (w.views n) → x ≡ record w { views = put w.views n v }
+      → orec_view v ≡ record (orec_view (w.views n)) { sample = no_sample; check = no_check } → mode_of v.gate ≡ mode_of (w.views n).gate
+      → Runs c (regime x) (run_projection x)
   forgotten w x v g may is own plain = by (w.views n).gate.algorithm may.algorithm (regime-inside c w n g.gate g.install may.phase may.plain)
     where
       f : OrecRule (home_of c) c.words (orec_projection x)
-      f = subst (OrecRule (home_of c) c.words) (sym (orec_projection-put w x n v (ap (λ (y : World). y.views) is) ∙ (λ i. record { clock = (is i).clock; base = (is i).base; records = parts rec_of (is i).records; heap = (is i).heap; history = (is i).history; views = put (orec_projection w).views n (own i) })))
-          (rule_of (home_of c) c.words (with_view (home_of c) c.words (orec_projection w) n (record (orec_view (w.views n)) { sample = no_sample; check = no_check })) (forget-kept (home_of c) c.words (orec_projection w) n (full-world good c w (orec-world good c w n g may))).0)
+      f =
+          subst (OrecRule (home_of c) c.words) (sym (orec_projection-put w x n v (ap (λ (y : World). y.views) is)
+          ∙ (λ i.
+          record {
+            clock = (is i).clock;
+            base = (is i).base;
+            records = parts rec_of (is i).records;
+            heap = (is i).heap;
+            history = (is i).history;
+            views = put (orec_projection w).views n (own i);
+          })))
+          (rule_of (home_of c) c.words
+          (with_view (home_of c) c.words (orec_projection w) n (record (orec_view (w.views n)) { sample = no_sample; check = no_check }))
+          (forget-kept (home_of c) c.words (orec_projection w) n (full-world good c w (orec-world good c w n g may))).0)
 
       stays : regime x ≡ regime w
       stays = regime-kept w x n v (ap (λ (y : World). y.views) is) (ap (λ (y : World). y.gate) is) plain
@@ -254,7 +343,10 @@ module _ (good : (ℕ → ℕ) → Type 0) (c : Config) (n : ℕ) where
       o : OrecWorld good c w
       o = orec-world good c w n g may.last.opens.has.runs
 
-      go : (t : Bool) → passes (w.records q) (w.views n) ≡ t → HistoryRule good c (history_projection (at t)) × GateRule c.callers (gate_projection (at t)) × InstallRule c (install_projection (at t)) × RecordRule (record_projection (at t)) × LockRule (lock_projection (at t)) × AttemptRule (attempt_projection (at t)) × Runs c (regime (at t)) (run_projection (at t))
+      go : (t : Bool) → passes (w.records q) (w.views n) ≡ t
+          → HistoryRule good c (history_projection (at t)) × GateRule c.callers (gate_projection (at t))
+          × InstallRule c (install_projection (at t)) × RecordRule (record_projection (at t)) × LockRule (lock_projection (at t))
+          × AttemptRule (attempt_projection (at t)) × Runs c (regime (at t)) (run_projection (at t))
       go true e = let p = passed-at (w.records q) (w.views n) e in (
         history-seen good c w (at true) n (next true) refl refl refl (ap (λ k. record (w.views n).history { seen = w.history; front = k }) (sym now)) g.history,
         gate-marked c.callers w (at true) n (next true) refl refl refl refl refl refl refl refl refl refl g.gate,
@@ -264,7 +356,9 @@ module _ (good : (ℕ → ℕ) → Type 0) (c : Config) (n : ℕ) where
         attempts-in w (at true) n (next true) refl may.last.opens.has.runs.phase g.attempts,
         orec_promoted w (at true) (next true) (w.views n).gate.time g may.last.opens quiet holds may.stores (sym now) refl refl refl refl may.stores.unlocked refl
             (subst (λ (k : ℕ). (a : ℕ) → over (w.views n).attempt.reads a (word_at w.history k a) ≡ word_at w.history k a) may.upto
-            (validated (home_of c) c.words (orec_projection w) n b (version_of (w.records q)) may.last.opens.has.inside (ap (λ (k : ℕ). rec_of (w.records k)) may.last.its ∙ rec-free (w.records q) p.0) p.1 may.last.checking may.last.rest (full-world good c w o))),
+            (validated (home_of c) c.words (orec_projection w) n b (version_of (w.records q)) may.last.opens.has.inside
+            (ap (λ (k : ℕ). rec_of (w.records k)) may.last.its ∙ rec-free (w.records q) p.0) p.1 may.last.checking may.last.rest
+            (full-world good c w o))),
       )
       go false e = (
         history-kept good c w (at false) n (next false) refl refl refl refl g.history,
@@ -308,7 +402,10 @@ module _ (good : (ℕ → ℕ) → Type 0) (c : Config) (n : ℕ) where
       o : OrecWorld good c w
       o = orec-world good c w n g may.all.opens.has.runs
 
-      go : (t : Bool) → HistoryRule good c (history_projection (at t)) × GateRule c.callers (gate_projection (at t)) × InstallRule c (install_projection (at t)) × RecordRule (record_projection (at t)) × LockRule (lock_projection (at t)) × AttemptRule (attempt_projection (at t)) × Runs c (regime (at t)) (run_projection (at t))
+      go : (t : Bool)
+          → HistoryRule good c (history_projection (at t)) × GateRule c.callers (gate_projection (at t))
+          × InstallRule c (install_projection (at t)) × RecordRule (record_projection (at t)) × LockRule (lock_projection (at t))
+          × AttemptRule (attempt_projection (at t)) × Runs c (regime (at t)) (run_projection (at t))
       go true = (
         history-seen good c w (at true) n (next true) refl refl refl refl g.history,
         gate-marked c.callers w (at true) n (next true) refl refl refl refl refl refl refl refl refl refl g.gate,
@@ -330,7 +427,10 @@ module _ (good : (ℕ → ℕ) → Type 0) (c : Config) (n : ℕ) where
       )
 
   pub direct_releases : (q t : ℕ) → StepLaw (Core good c) (direct_release q t) Nothing n (CanDirectRelease q t)
-  direct_releases q t = by-direct good c (direct_release q t) Nothing n (CanDirectRelease q t) (record { gate = λ w. refl; status = λ w. refl; view = λ w. refl; marks = λ w. (refl, refl); step_trace = λ w. refl }) (λ w. refl) (λ v m. m.granted) (λ v m. direct.direct_releases good c v.gate.algorithm n q t)
+  direct_releases q t =
+      by-direct good c (direct_release q t) Nothing n (CanDirectRelease q t)
+      (record { gate = λ w. refl; status = λ w. refl; view = λ w. refl; marks = λ w. (refl, refl); step_trace = λ w. refl }) (λ w. refl)
+      (λ v m. m.granted) (λ v m. direct.direct_releases good c v.gate.algorithm n q t)
 
   -- THE RETURN: after a promoted attempt its algorithm starts from rest; an attempt that wasn't promoted leaves what runs
   pub returns : (fence : ℕ) (alg : Alg) → StepLaw (Core good c) (return_gate fence alg) Nothing n (CanReturn fence alg)
@@ -377,11 +477,27 @@ module _ (good : (ℕ → ℕ) → Type 0) (c : Config) (n : ℕ) where
             unwritten = put-all w.views n v (λ m u. u.tml.writer ≡ true → ⊥) (λ t. let f : true ≡ false = sym t ∙ may.unwritten in cc) (λ m o t. others e m o (g.attempts.busy m (busy-writer (w.views m) t)));
             inside = put-all w.views n v (λ m u. u.owned.inside ≡ true → ⊥) (λ t. cc) (λ m o t. others e m o (g.attempts.busy m (busy-owned (w.views m) t)));
             unheld = put-all w.views n v (λ m u. (r : ℕ) → touches u.owned.held r ≡ true → ⊥) (λ r t. let f : true ≡ false = sym t ∙ bare_now r in cc) (λ m o r t. others e m o (g.records.inside m r t));
-            freed = λ r m k. nobody-by good c n w g (checked e) (λ j. touches (w.views j).owned.held r ≡ true) (λ t. let f : true ≡ false = sym t ∙ bare_now r in cc) (λ j t. g.records.inside j r t) m (owner-holds good c w g r m k);
+            freed =
+                λ r m k.
+                nobody-by good c n w g (checked e) (λ j. touches (w.views j).owned.held r ≡ true)
+                (λ t. let f : true ≡ false = sym t ∙ bare_now r in cc) (λ j t. g.records.inside j r t) m (owner-holds good c w g r m k);
             below = g.history.below;
             unread = put-all w.views n v (λ m u. u.ring_read.inside ≡ true → ⊥) (λ t. cc) (λ m o t. others e m o (g.attempts.busy m (busy-ring (w.views m) t)));
             uncommitted = put-all w.views n v (λ m u. u.ring_commit.committed ≡ true → ⊥) (λ t. let f : true ≡ false = sym t ∙ may.uncommitted in cc) (λ m o t. others e m o (g.attempts.busy m (busy-turn (w.views m) t)));
-          }) (record { clock = le_refl w.clock; base = le_refl w.base; based = g.install.base; done = le_refl w.done; within = g.install.done; lock = refl; records = refl; slots = refl; heap = refl; history = refl; fronts = put-all w.views n v (λ m u. u.history.front ≡ (w.views m).history.front) refl (λ m d. refl) }) refl
+          })
+          (record {
+            clock = le_refl w.clock;
+            base = le_refl w.base;
+            based = g.install.base;
+            done = le_refl w.done;
+            within = g.install.done;
+            lock = refl;
+            records = refl;
+            slots = refl;
+            heap = refl;
+            history = refl;
+            fronts = put-all w.views n v (λ m u. u.history.front ≡ (w.views m).history.front) refl (λ m d. refl);
+          }) refl
           (λ q. let m = may.marked q in let t = g.install.time n (g.install.promoted n e).0 in ((g.install.rebased n m.0).1 ∙ sym t, (g.install.completed n m.1).1 ∙ sym t))
           (put-all w.views n v (λ m u. u.history.front ≤ w.clock) (g.history.known n).front (λ m d. (g.history.known m).front)))
         where
@@ -391,7 +507,20 @@ module _ (good : (ℕ → ℕ) → Type 0) (c : Config) (n : ℕ) where
           others : (w.views n).gate.granted ≡ true → (m : ℕ) → m ≢ n → (w.views m).gate.phase ≡ In → ⊥
           others e = nobody-else good c n w g (checked e)
       runs false e = runs-stays c (regime w) (regime x) (record (run_projection w) { views = put (run_projection w).views n (run_view v) }) (run_projection x)
-          (regime-handed good c n w x v refl (named ∙ sym same) (λ m h. subst (λ (k : ℕ). mode_of (w.views k).gate ≡ Plain) (let o = g.gate.mine n may.holds in let q : n ≡ m = omega arith in q) (plain-mode (w.views n).gate e (ungiven-out good c w n g (λ k. let f : In ≡ Closing = sym may.phase ∙ k in cc)))) (λ m h. absurd (let k = holder_of-open fence alg in omega arith)) refl)
+          (regime-handed good c n w x v refl (named ∙ sym same) (λ m h.
+          subst (λ (k : ℕ). mode_of (w.views k).gate ≡ Plain) (let o = g.gate.mine n may.holds in let q : n ≡ m = omega arith in q)
+          (plain-mode (w.views n).gate e (ungiven-out good c w n g (λ k. let f : In ≡ Closing = sym may.phase ∙ k in cc))))
+          (λ m h. absurd (let k = holder_of-open fence alg in omega arith)) refl)
           (run_projection-put w x n v refl refl refl refl refl refl refl refl refl)
-          (runs-leave c (regime w) (run_projection w) n (run_view v) (record { was = record { unlocked = may.unlocked; unwritten = may.unwritten; uncommitted = may.uncommitted }; out = record { unlocked = may.unlocked; unwritten = may.unwritten; uncommitted = may.uncommitted }; tml = refl; owned = refl; bare = bare_now; apart = none-apart good c w n g bare_now; unread = refl; entered = sym (may.plain e) }) (inl refl)
+          (runs-leave c (regime w) (run_projection w) n (run_view v)
+          (record {
+            was = record { unlocked = may.unlocked; unwritten = may.unwritten; uncommitted = may.uncommitted };
+            out = record { unlocked = may.unlocked; unwritten = may.unwritten; uncommitted = may.uncommitted };
+            tml = refl;
+            owned = refl;
+            bare = bare_now;
+            apart = none-apart good c w n g bare_now;
+            unread = refl;
+            entered = sym (may.plain e);
+          }) (inl refl)
           (λ a q. let t : true ≡ false = sym (granted-regime c w n g.gate g.install a q) ∙ e in cc) g.running)

@@ -12,5 +12,8 @@ abbrev pub Raised : World → Type 0
 Raised w = alg_of w.gate ≡ RingSw → (n : ℕ) → (w.views n).attempt.entered ≡ true → (w.views n).gate.quiescent ≡ true
 
 -- one caller changes its view
-pub raised-put : (w x : World) (n : ℕ) (v : View) → x.views ≡ put w.views n v → (alg_of x.gate ≡ RingSw → alg_of w.gate ≡ RingSw) → (alg_of x.gate ≡ RingSw → v.attempt.entered ≡ true → v.gate.quiescent ≡ true) → Raised w → Raised x
-raised-put w x n v is back own r e = subst (λ (f : ℕ → View). (m : ℕ) → (f m).attempt.entered ≡ true → (f m).gate.quiescent ≡ true) (sym is) (put-all w.views n v (λ m u. u.attempt.entered ≡ true → u.gate.quiescent ≡ true) (own e) (λ m d. r (back e) m))
+pub raised-put : (w x : World) (n : ℕ) (v : View) → x.views ≡ put w.views n v → (alg_of x.gate ≡ RingSw → alg_of w.gate ≡ RingSw)
+    → (alg_of x.gate ≡ RingSw → v.attempt.entered ≡ true → v.gate.quiescent ≡ true) → Raised w → Raised x
+raised-put w x n v is back own r e =
+    subst (λ (f : ℕ → View). (m : ℕ) → (f m).attempt.entered ≡ true → (f m).gate.quiescent ≡ true) (sym is)
+    (put-all w.views n v (λ m u. u.attempt.entered ≡ true → u.gate.quiescent ≡ true) (own e) (λ m d. r (back e) m))

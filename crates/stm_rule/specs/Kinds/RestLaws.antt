@@ -68,11 +68,19 @@ module _ (good : (ℕ → ℕ) → Type 0) (c : Config) (n : ℕ) (w : World) (g
       nobody-commits = nobody-by (λ m. (w.views m).ring_commit.committed ≡ true) (λ t. let f : true ≡ false = sym t ∙ uncommitted in cc) (λ m t. g.attempts.busy m (busy-turn (w.views m) t))
 
       -- while its attempt isn't promoted the heap is the memory
-      pub running-rests : (w.views n).gate.holds ≡ true → (w.views n).gate.granted ≡ false → (w.views n).gate.giving ≡ false → (has_records (alg_of w.gate) ≡ true → (r m : ℕ) → rec_of (w.records r) ≡ Taken m → ⊥) → ((a : ℕ) → w.heap a ≡ word_now w.history a) × (alg_of w.gate ≡ Tml → w.clock % 2 ≡ 0) × (alg_of w.gate ≡ RingSw → ((m : ℕ) → (w.views m).attempt.entered ≡ false) → w.done ≡ w.clock)
-      running-rests holds plain kept freed = at-rest c (alg_of w.gate) (run_projection w) (subst (λ (r : Regime). Runs c r (run_projection w)) (regime-held holds plain kept) g.running) (lock-rests unlocked) nobody-writes nobody-commits freed
+      pub running-rests : (w.views n).gate.holds ≡ true → (w.views n).gate.granted ≡ false → (w.views n).gate.giving ≡ false
+          → (has_records (alg_of w.gate) ≡ true → (r m : ℕ) → rec_of (w.records r) ≡ Taken m → ⊥)
+          → ((a : ℕ) → w.heap a ≡ word_now w.history a) × (alg_of w.gate ≡ Tml → w.clock % 2 ≡ 0)
+          × (alg_of w.gate ≡ RingSw → ((m : ℕ) → (w.views m).attempt.entered ≡ false) → w.done ≡ w.clock)
+      running-rests holds plain kept freed =
+          at-rest c (alg_of w.gate) (run_projection w)
+          (subst (λ (r : Regime). Runs c r (run_projection w)) (regime-held holds plain kept) g.running) (lock-rests unlocked) nobody-writes
+          nobody-commits freed
 
   record_free : (checked : HasChecked c.callers n (w.views n)) (r : ℕ) → touches (w.views n).owned.held r ≡ false → (b : Bool) → is_owned (w.records r) ≡ b → b ≡ false
-  record_free checked r bare true e = absurd (nobody-by checked (λ m. touches (w.views m).owned.held r ≡ true) (λ t. let f : true ≡ false = sym t ∙ bare in cc) (λ m t. g.records.inside m r t) (owner_of (w.records r)) (g.records.owned r e))
+  record_free checked r bare true e =
+      absurd (nobody-by checked (λ m. touches (w.views m).owned.held r ≡ true) (λ t. let f : true ≡ false = sym t ∙ bare in cc)
+      (λ m t. g.records.inside m r t) (owner_of (w.records r)) (g.records.owned r e))
   record_free checked r bare false e = refl
 
   -- who has seen all others idle alone may have raised the clock as the gate's holder
@@ -99,7 +107,9 @@ module _ (good : (ℕ → ℕ) → Type 0) (c : Config) (n : ℕ) (w : World) (g
       go false e = refl
 
   -- the parts of rest that are the same for who closes and who promotes
-  rest_of : (checked : HasChecked c.callers n (w.views n)) → (w.views n).gate.holds ≡ true → w.lock ≡ 0 → ((a : ℕ) → w.heap a ≡ over (in_place (w.views n)) a (word_now w.history a)) → (alg_of w.gate ≡ Tml → w.clock % 2 ≡ 0) → (alg_of w.gate ≡ RingSw → (w.views n).attempt.entered ≡ false → w.done ≡ w.clock) → BareRest n w
+  rest_of : (checked : HasChecked c.callers n (w.views n)) → (w.views n).gate.holds ≡ true → w.lock ≡ 0
+      → ((a : ℕ) → w.heap a ≡ over (in_place (w.views n)) a (word_now w.history a)) → (alg_of w.gate ≡ Tml → w.clock % 2 ≡ 0)
+      → (alg_of w.gate ≡ RingSw → (w.views n).attempt.entered ≡ false → w.done ≡ w.clock) → BareRest n w
   rest_of checked holds lock heap even done = record {
     gate = g.gate.mine n holds;
     others = others-rest c.callers w n checked g.gate;
@@ -112,7 +122,10 @@ module _ (good : (ℕ → ℕ) → Type 0) (c : Config) (n : ℕ) (w : World) (g
 
   -- THE LAW OF QUIESCENCE OF A PROMOTED ATTEMPT: its own stores lie in the heap, and all else is at rest
   pub granted-rests : (w.views n).gate.granted ≡ true → BareRest n w
-  granted-rests granted = rest_of checked holds (lock-rests checked d.direct.unlocked) (λ a. d.direct.stored a ∙ ap (λ (l : List Cell). over l a (word_now w.history a)) (sym own)) (λ q. even (sym named ∙ q)) (λ q. (d.ring (sym named ∙ q)).level)
+  granted-rests granted =
+      rest_of checked holds (lock-rests checked d.direct.unlocked)
+      (λ a. d.direct.stored a ∙ ap (λ (l : List Cell). over l a (word_now w.history a)) (sym own)) (λ q. even (sym named ∙ q)) (λ q.
+      (d.ring (sym named ∙ q)).level)
     where
       promoted : ((w.views n).gate.quiescent ≡ true) × ((w.views n).gate.phase ≡ In)
       promoted = g.install.promoted n granted
@@ -175,16 +188,32 @@ module _ (good : (ℕ → ℕ) → Type 0) (c : Config) (n : ℕ) (w : World) (g
     pub heap-rests : ((a : ℕ) → w.heap a ≡ word_now w.history a) × (alg_of w.gate ≡ Tml → w.clock % 2 ≡ 0) × (alg_of w.gate ≡ RingSw → ((m : ℕ) → (w.views m).attempt.entered ≡ false) → w.done ≡ w.clock)
     heap-rests = by (w.views n).gate.giving refl
       where
-        by : (b : Bool) → (w.views n).gate.giving ≡ b → ((a : ℕ) → w.heap a ≡ word_now w.history a) × (alg_of w.gate ≡ Tml → w.clock % 2 ≡ 0) × (alg_of w.gate ≡ RingSw → ((m : ℕ) → (w.views m).attempt.entered ≡ false) → w.done ≡ w.clock)
+        by : (b : Bool) → (w.views n).gate.giving ≡ b
+            → ((a : ℕ) → w.heap a ≡ word_now w.history a) × (alg_of w.gate ≡ Tml → w.clock % 2 ≡ 0)
+            × (alg_of w.gate ≡ RingSw → ((m : ℕ) → (w.views m).attempt.entered ≡ false) → w.done ≡ w.clock)
         by true e =
             let named = g.gate.held n (g.gate.closing n quiet.closing) in
             let k : Gives (w.views n).gate.algorithm (run_projection w) = subst (λ (r : Regime). Runs c r (run_projection w)) (regime-given c w n g.gate g.install e) g.running in
             (k.heap, λ q. k.even (sym named ∙ q), λ q. k.level (sym named ∙ q))
-        by false e = running-rests quiet.checked (free (w.views n).lock.taken refl) (reads (w.views n).tml.writer refl) (early (w.views n).ring_commit.committed refl) (g.gate.closing n quiet.closing) plain e (λ has. quiet-freed)
+        by false e =
+            running-rests quiet.checked (free (w.views n).lock.taken refl) (reads (w.views n).tml.writer refl)
+            (early (w.views n).ring_commit.committed refl) (g.gate.closing n quiet.closing) plain e (λ has. quiet-freed)
 
     -- nobody is in an attempt
     pub quiet-ease : Ease (run_projection w)
-    quiet-ease = record { heap = heap-rests.0; unlocked = λ m t. nobody_in m (g.lock.inside m t); outside = λ m t. nobody_in m (g.attempts.busy m (busy-tml (w.views m) t)); unwritten = λ m t. nobody_in m (g.attempts.busy m (busy-writer (w.views m) t)); unread = λ m t. nobody_in m (g.attempts.busy m (busy-ring (w.views m) t)); uncommitted = λ m t. nobody_in m (g.attempts.busy m (busy-turn (w.views m) t)); inside = λ m t. nobody_in m (g.attempts.busy m (busy-owned (w.views m) t)); unheld = λ m r t. nobody_in m (g.records.inside m r t); freed = quiet-freed; below = g.history.below }
+    quiet-ease =
+        record {
+          heap = heap-rests.0;
+          unlocked = λ m t. nobody_in m (g.lock.inside m t);
+          outside = λ m t. nobody_in m (g.attempts.busy m (busy-tml (w.views m) t));
+          unwritten = λ m t. nobody_in m (g.attempts.busy m (busy-writer (w.views m) t));
+          unread = λ m t. nobody_in m (g.attempts.busy m (busy-ring (w.views m) t));
+          uncommitted = λ m t. nobody_in m (g.attempts.busy m (busy-turn (w.views m) t));
+          inside = λ m t. nobody_in m (g.attempts.busy m (busy-owned (w.views m) t));
+          unheld = λ m r t. nobody_in m (g.records.inside m r t);
+          freed = quiet-freed;
+          below = g.history.below;
+        }
 
     -- THE LAW OF QUIESCENCE
     pub quiet-rests : BareAtRest n w

@@ -103,8 +103,15 @@ module _ (good : (ℕ → ℕ) → Type 0) (c : Config) (n : ℕ) where
   grants_after w u t g o clock = record {
     history = history-kept good c y z n v twice refl refl (ap (λ (q : View). q.history) (sym own)) g.history;
     steps = subst (StepsRule c) (sym steps) g.steps;
-    gate = gate-marked c.callers y z n v twice refl refl (ap (λ (q : View). q.gate.phase) (sym own)) (ap (λ (q : View). q.gate.present) (sym own)) (ap (λ (q : View). q.gate.algorithm) (sym own)) (ap (λ (q : View). q.gate.fence) (sym own)) (ap (λ (q : View). q.gate.aim) (sym own)) (ap (λ (q : View). q.gate.holds) (sym own)) (ap (λ (q : View). q.gate.checked) (sym own)) g.gate;
-    install = grant-install c y z n v twice refl refl refl ((λ i. granted_at (clock i) u.gate) ∙ ap (λ (q : View). granted_at w.clock q.gate) (sym own)) e.phase (g.install.holding n e.quiescent) (λ k low other. g.install.alone n k e.quiescent low other) g.install;
+    gate =
+        gate-marked c.callers y z n v twice refl refl (ap (λ (q : View). q.gate.phase) (sym own))
+        (ap (λ (q : View). q.gate.present) (sym own)) (ap (λ (q : View). q.gate.algorithm) (sym own))
+        (ap (λ (q : View). q.gate.fence) (sym own)) (ap (λ (q : View). q.gate.aim) (sym own)) (ap (λ (q : View). q.gate.holds) (sym own))
+        (ap (λ (q : View). q.gate.checked) (sym own)) g.gate;
+    install =
+        grant-install c y z n v twice refl refl refl
+        ((λ i. granted_at (clock i) u.gate) ∙ ap (λ (q : View). granted_at w.clock q.gate) (sym own)) e.phase
+        (g.install.holding n e.quiescent) (λ k low other. g.install.alone n k e.quiescent low other) g.install;
     records = records-stay y z n v twice (le_refl w.clock) refl (ap (λ (q : View). q.owned.held) (sym own)) (ap (λ (q : View). q.gate.phase) (sym own)) g.records;
     lock = subst LockRule (sym (lock_projection-kept y z n v twice refl (ap (λ (q : View). q.lock.taken) (sym own)) (ap (λ (q : View). q.gate.phase) (sym own)))) g.lock;
     attempts = attempts-stay y z n v twice (ap (λ (q : View). is_busy q) (sym own)) (ap (λ (q : View). q.attempt.entered) (sym own)) (ap (λ (q : View). q.gate.phase) (sym own)) g.attempts;

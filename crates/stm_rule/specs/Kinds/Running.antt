@@ -38,7 +38,9 @@ use Rattle.rule_promoted.specs.PromotedRule.{direct_part, DirectRule, suit_part,
 use Rattle.stm_rule.specs.Product.{Gives, Runs}
 
 -- the projection after a step that leaves it alone
-pub run_projection-kept : (w x : World) (n : ℕ) (v : View) → x.views ≡ put w.views n v → x.clock ≡ w.clock → x.lock ≡ w.lock → x.base ≡ w.base → x.done ≡ w.done → x.records ≡ w.records → x.slots ≡ w.slots → x.heap ≡ w.heap → x.history ≡ w.history → run_view v ≡ run_view (w.views n) → run_projection x ≡ run_projection w
+pub run_projection-kept : (w x : World) (n : ℕ) (v : View) → x.views ≡ put w.views n v → x.clock ≡ w.clock → x.lock ≡ w.lock
+    → x.base ≡ w.base → x.done ≡ w.done → x.records ≡ w.records → x.slots ≡ w.slots → x.heap ≡ w.heap → x.history ≡ w.history
+    → run_view v ≡ run_view (w.views n) → run_projection x ≡ run_projection w
 run_projection-kept w x n v is clock lock base done records slots heap history own = λ i. record {
   clock = clock i;
   lock = lock i;
@@ -51,7 +53,9 @@ run_projection-kept w x n v is clock lock base done records slots heap history o
   views = (ap (parts run_view) is ∙ parts-kept run_view w.views n v own) i;
 }
 
-pub run_projection-put : (w x : World) (n : ℕ) (v : View) → x.views ≡ put w.views n v → x.clock ≡ w.clock → x.lock ≡ w.lock → x.base ≡ w.base → x.done ≡ w.done → x.records ≡ w.records → x.slots ≡ w.slots → x.heap ≡ w.heap → x.history ≡ w.history → run_projection x ≡ record (run_projection w) { views = put (run_projection w).views n (run_view v) }
+pub run_projection-put : (w x : World) (n : ℕ) (v : View) → x.views ≡ put w.views n v → x.clock ≡ w.clock → x.lock ≡ w.lock
+    → x.base ≡ w.base → x.done ≡ w.done → x.records ≡ w.records → x.slots ≡ w.slots → x.heap ≡ w.heap → x.history ≡ w.history
+    → run_projection x ≡ record (run_projection w) { views = put (run_projection w).views n (run_view v) }
 run_projection-put w x n v is clock lock base done records slots heap history = λ i. record {
   clock = clock i;
   lock = lock i;
@@ -131,7 +135,9 @@ ease-moved s t clock records heap history views e = record {
 }
 
 -- who is at ease changes its part, but for what it has of an attempt
-pub ease-own : (w x : World) (n : ℕ) (v : View) → x.views ≡ put w.views n v → w.clock ≤ x.clock → x.records ≡ w.records → x.heap ≡ w.heap → x.history ≡ w.history → v.lock ≡ (w.views n).lock → v.tml ≡ (w.views n).tml → v.owned ≡ (w.views n).owned → v.ring_read ≡ (w.views n).ring_read → v.ring_commit ≡ (w.views n).ring_commit → Ease (run_projection w) → Ease (run_projection x)
+pub ease-own : (w x : World) (n : ℕ) (v : View) → x.views ≡ put w.views n v → w.clock ≤ x.clock → x.records ≡ w.records → x.heap ≡ w.heap
+    → x.history ≡ w.history → v.lock ≡ (w.views n).lock → v.tml ≡ (w.views n).tml → v.owned ≡ (w.views n).owned
+    → v.ring_read ≡ (w.views n).ring_read → v.ring_commit ≡ (w.views n).ring_commit → Ease (run_projection w) → Ease (run_projection x)
 ease-own w x n v is clock records heap history lock tml owned read turn e = subst (λ (s : RunProjection). Ease s) (sym path) (record {
   heap = λ a. ap (λ (f : ℕ → ℕ). f a) heap ∙ (e.heap a ∙ ap (λ (h : List Entry). word_now h a) (sym history));
   unlocked = put-all w.views n v (λ m u. u.lock.taken ≡ true → ⊥) (subst (λ (q : LockView). q.taken ≡ true → ⊥) (sym lock) (e.unlocked n)) (λ m d. e.unlocked m);
@@ -161,11 +167,14 @@ vouched-moved : (c : Config) (s t : RunProjection) → Moved s t → OrecRuns c 
 vouched-moved c s t m k q late v is =
     let same : last_write t.history q ≡ last_write s.history q = ap (λ (h : List Entry). last_write h q) m.history in
     let word : rec_of (s.records (home_of c q)) ≡ Free v = sym (ap (λ (f : ℕ → ℕ). rec_of (f (home_of c q))) m.records) ∙ is in
-    let vouched : 2 * last_write s.history q ≤ rank_of (orec_part s).views (home_of c q) (Free v) = subst (λ (x : Rec). 2 * last_write s.history q ≤ rank_of (orec_part s).views (home_of c q) x) word (k.stamped q (let up = m.base in omega arith)) in
+    let vouched : 2 * last_write s.history q ≤ rank_of (orec_part s).views (home_of c q) (Free v) = subst
+    (λ (x : Rec). 2 * last_write s.history q ≤ rank_of (orec_part s).views (home_of c q) x) word
+    (k.stamped q (let up = m.base in omega arith)) in
     omega arith
 
 -- STILL AT REST: who installs moves the clock, BASE or DONE while the old algorithm is still named
-pub runs-moved : (c : Config) (a : Alg) (s t : RunProjection) → Runs c (Running a) s → Ease s → Ease t → Moved s t → (a ≡ Tml → t.clock % 2 ≡ 0) → (a ≡ RingSw → ((n : ℕ) → (t.views n).attempt.entered ≡ false) → t.done ≡ t.clock) → Runs c (Running a) t
+pub runs-moved : (c : Config) (a : Alg) (s t : RunProjection) → Runs c (Running a) s → Ease s → Ease t → Moved s t
+    → (a ≡ Tml → t.clock % 2 ≡ 0) → (a ≡ RingSw → ((n : ℕ) → (t.views n).attempt.entered ≡ false) → t.done ≡ t.clock) → Runs c (Running a) t
 runs-moved c Cgl s t k e f m even level = record { free = λ z. f.heap; holder = λ n t. absurd (f.unlocked n t) }
 runs-moved c Tml s t k e f m even level = tml-from-rest c.words (tml_part t) f.outside f.unwritten (even refl) f.heap
 runs-moved c OrecLazy s t k e f m even level = orec-vouched (home_of c) c.words (orec_part t) f.inside f.unheld f.freed m.based f.heap (vouched-moved c s t m k)
@@ -174,12 +183,18 @@ runs-moved c RingSw s t k e f m even level = ring-from-rest slot_filter c.ring c
     (λ n. subst (λ (q : ℕ). q ≤ t.done) (sym (m.fronts n)) (le_trans (k.fresh n (nobody-late s e n)) m.done))
     (subst (λ (h : List Entry). Below h (t.done + 1)) (sym m.history) (below-more s.history (s.done + 1) (t.done + 1) (k.covered (nobody-late s e)) (let d = m.done in omega arith)))
     (level refl)
-    (λ q i b near h low. ap (λ (g : ℕ → ℕ). g (slot_place c.ring q i)) m.slots ∙ (k.slots q i (let d = m.base in omega arith) (let d = m.clock in omega arith) (subst (λ (h : List Entry). has_entry h q ≡ true) m.history h) low ∙ ap (λ (h : List Entry). slot_filter.word (writes_of h q) i) (sym m.history)))
+    (λ q i b near h low.
+    ap (λ (g : ℕ → ℕ). g (slot_place c.ring q i)) m.slots
+    ∙ (k.slots q i (let d = m.base in omega arith) (let d = m.clock in omega arith)
+    (subst (λ (h : List Entry). has_entry h q ≡ true) m.history h) low
+    ∙ ap (λ (h : List Entry). slot_filter.word (writes_of h q) i) (sym m.history)))
     f.heap
 runs-moved c Serial s t k e f m even level = record { free = λ z. f.heap; holder = λ n t. absurd (f.unlocked n t) }
 
 -- and after an attempt of the records that was promoted
-vouched-back : (c : Config) (n : ℕ) (s t : RunProjection) → OrecSuits (home_of c) (suit_part n s) → Below t.history (t.clock + 1) → Moved s t → ((s.views n).attempt.entered ≡ true → (t.base ≡ t.clock) × (t.done ≡ t.clock)) → (q : ℕ) → t.base < last_write t.history q → (v : ℕ) → rec_of (t.records (home_of c q)) ≡ Free v → 2 * last_write t.history q ≤ 2 * v + 1
+vouched-back : (c : Config) (n : ℕ) (s t : RunProjection) → OrecSuits (home_of c) (suit_part n s) → Below t.history (t.clock + 1)
+    → Moved s t → ((s.views n).attempt.entered ≡ true → (t.base ≡ t.clock) × (t.done ≡ t.clock)) → (q : ℕ) → t.base < last_write t.history q
+    → (v : ℕ) → rec_of (t.records (home_of c q)) ≡ Free v → 2 * last_write t.history q ≤ 2 * v + 1
 vouched-back c n s t k below m marked q late v is = go (s.views n).attempt.entered refl
   where
     go : (b : Bool) → (s.views n).attempt.entered ≡ b → 2 * last_write t.history q ≤ 2 * v + 1
@@ -187,11 +202,15 @@ vouched-back c n s t k below m marked q late v is = go (s.views n).attempt.enter
     go false yet =
         let same : last_write t.history q ≡ last_write s.history q = ap (λ (h : List Entry). last_write h q) m.history in
         let word : rec_of (s.records (home_of c q)) ≡ Free v = sym (ap (λ (f : ℕ → ℕ). rec_of (f (home_of c q))) m.records) ∙ is in
-        let vouched : 2 * last_write s.history q ≤ rank_one (s.views n).owned (home_of c q) (Free v) = subst (λ (x : Rec). 2 * last_write s.history q ≤ rank_one (s.views n).owned (home_of c q) x) word (k.stamped yet q (let up = m.base in omega arith)) in
+        let vouched : 2 * last_write s.history q ≤ rank_one (s.views n).owned (home_of c q) (Free v) = subst
+        (λ (x : Rec). 2 * last_write s.history q ≤ rank_one (s.views n).owned (home_of c q) x) word
+        (k.stamped yet q (let up = m.base in omega arith)) in
         omega arith
 
 -- BACK: the attempt of caller n was promoted, and left nothing; t is the projection without it
-pub back : (c : Config) (a : Alg) (n : ℕ) (s t : RunProjection) → DirectRuns c a n s → Ease t → Moved s t → t.clock ≡ s.clock → ((s.views n).attempt.entered ≡ true → (t.base ≡ t.clock) × (t.done ≡ t.clock)) → ((m : ℕ) → (t.views m).front ≤ t.clock) → Runs c (Running a) t
+pub back : (c : Config) (a : Alg) (n : ℕ) (s t : RunProjection) → DirectRuns c a n s → Ease t → Moved s t → t.clock ≡ s.clock
+    → ((s.views n).attempt.entered ≡ true → (t.base ≡ t.clock) × (t.done ≡ t.clock)) → ((m : ℕ) → (t.views m).front ≤ t.clock)
+    → Runs c (Running a) t
 back c Cgl n s t d e m clock marked fronts = absurd d.suits
 back c Tml n s t d e m clock marked fronts = tml-from-rest c.words (tml_part t) e.outside e.unwritten (ap (λ k. k % 2) clock ∙ d.suits.even) e.heap
 back c OrecLazy n s t d e m clock marked fronts = orec-vouched (home_of c) c.words (orec_part t) e.inside e.unheld e.freed m.based e.heap (vouched-back c n s t d.suits e.below m marked)
@@ -210,13 +229,18 @@ back c RingSw n s t d e m clock marked fronts = ring-from-rest slot_filter c.rin
     level : t.done ≡ t.clock
     level = level_by (s.views n).attempt.entered refl
 
-    slots : (b : Bool) → (s.views n).attempt.entered ≡ b → (q i : ℕ) → t.base < q → t.clock + 1 < q + c.ring → has_entry t.history q ≡ true → i < SLOT_WORDS → t.slots (slot_place c.ring q i) ≡ slot_filter.word (writes_of t.history q) i
+    slots : (b : Bool) → (s.views n).attempt.entered ≡ b → (q i : ℕ) → t.base < q → t.clock + 1 < q + c.ring → has_entry t.history q ≡ true
+        → i < SLOT_WORDS → t.slots (slot_place c.ring q i) ≡ slot_filter.word (writes_of t.history q) i
     slots true f q i b near h low = absurd (let p = entry-before t.history (t.clock + 1) q e.below h in let z = (marked f).0 in omega arith)
-    slots false f q i b near h low = ap (λ (g : ℕ → ℕ). g (slot_place c.ring q i)) m.slots ∙ (k.slots f q i (let z = m.base in omega arith) (omega arith) (subst (λ (h : List Entry). has_entry h q ≡ true) m.history h) low ∙ ap (λ (h : List Entry). slot_filter.word (writes_of h q) i) (sym m.history))
+    slots false f q i b near h low =
+        ap (λ (g : ℕ → ℕ). g (slot_place c.ring q i)) m.slots
+        ∙ (k.slots f q i (let z = m.base in omega arith) (omega arith) (subst (λ (h : List Entry). has_entry h q ≡ true) m.history h) low
+        ∙ ap (λ (h : List Entry). slot_filter.word (writes_of h q) i) (sym m.history))
 back c Serial n s t d e m clock marked fronts = absurd d.suits
 
 -- AT REST: each algorithm leaves the memory in the heap when nobody is in an attempt of it
-pub at-rest : (c : Config) (a : Alg) (s : RunProjection) → Runs c (Running a) s → s.lock ≡ 0 → ((n : ℕ) → (s.views n).tml.writer ≡ true → ⊥) → ((n : ℕ) → (s.views n).ring_commit.committed ≡ true → ⊥) → (has_records a ≡ true → (r n : ℕ) → rec_of (s.records r) ≡ Taken n → ⊥)
+pub at-rest : (c : Config) (a : Alg) (s : RunProjection) → Runs c (Running a) s → s.lock ≡ 0 → ((n : ℕ) → (s.views n).tml.writer ≡ true → ⊥)
+    → ((n : ℕ) → (s.views n).ring_commit.committed ≡ true → ⊥) → (has_records a ≡ true → (r n : ℕ) → rec_of (s.records r) ≡ Taken n → ⊥)
     → ((at : ℕ) → s.heap at ≡ word_now s.history at) × (a ≡ Tml → s.clock % 2 ≡ 0) × (a ≡ RingSw → ((n : ℕ) → (s.views n).attempt.entered ≡ false) → s.done ≡ s.clock)
 at-rest c Cgl s k free none early freed = (k.free free, λ e. absurd cc, λ e. absurd cc)
 at-rest c Tml s k free none early freed = ((k.free none).1, λ e. (k.free none).0, λ e. absurd cc)
@@ -268,7 +292,9 @@ pub record Leaves (s : RunProjection) (n : ℕ) (u : RunView) : Type 0 where
   pub unread : u.ring_read.inside ≡ false
   pub entered : u.attempt.entered ≡ (s.views n).attempt.entered
 
-pub runs-leave : (c : Config) (r : Regime) (s : RunProjection) (n : ℕ) (u : RunView) → Leaves s n u → (u.front ≡ (s.views n).front) ⊎ (named_in r ≡ RingSw → u.front ≤ s.done) → ((a : Alg) → r ≡ Promoted a n → ⊥) → Runs c r s → Runs c r (record s { views = put s.views n u })
+pub runs-leave : (c : Config) (r : Regime) (s : RunProjection) (n : ℕ) (u : RunView) → Leaves s n u
+    → (u.front ≡ (s.views n).front) ⊎ (named_in r ≡ RingSw → u.front ≤ s.done) → ((a : Alg) → r ≡ Promoted a n → ⊥) → Runs c r s
+    → Runs c r (record s { views = put s.views n u })
 runs-leave c r s n u l front plain k = by r front plain k
   where
     cgl : CglRuns c s → CglRuns c (record s { views = put s.views n u })
@@ -276,7 +302,20 @@ runs-leave c r s n u l front plain k = by r front plain k
       free = q.free;
       holder = put-all (cgl_part s).views n part (λ m v. v.lock.taken ≡ true → CglHolder c.words (record (cgl_part s) { views = put (cgl_part s).views n part }) v)
           (λ t. absurd (let f : true ≡ false = sym t ∙ l.out.unlocked in cc))
-          (λ m d t. let h = q.holder m t in record { stored = h.stored; unstored = h.unstored; start = h.start; front = h.front; sees = h.sees; reads_inside = h.reads_inside; stores_inside = h.stores_inside; stores_small = h.stores_small; undone = h.undone; covered = h.covered });
+          (λ m d t.
+          let h = q.holder m t in
+          record {
+            stored = h.stored;
+            unstored = h.unstored;
+            start = h.start;
+            front = h.front;
+            sees = h.sees;
+            reads_inside = h.reads_inside;
+            stores_inside = h.stores_inside;
+            stores_small = h.stores_small;
+            undone = h.undone;
+            covered = h.covered;
+          });
     })
       where
         part : CglView
@@ -301,10 +340,23 @@ runs-leave c r s n u l front plain k = by r front plain k
         part = record { attempt = u.attempt; owned = u.owned; sample = u.sample; check = u.check; front = u.front }
 
         path : orec_part (record s { views = put s.views n u }) ≡ record (orec_part s) { views = put (orec_part s).views n part }
-        path = λ i. record { clock = s.clock; base = s.base; records = parts rec_of s.records; heap = s.heap; history = s.history; views = parts-put (λ (v : RunView). record { attempt = v.attempt; owned = v.owned; sample = v.sample; check = v.check; front = v.front }) s.views n u i }
+        path =
+            λ i.
+            record {
+              clock = s.clock;
+              base = s.base;
+              records = parts rec_of s.records;
+              heap = s.heap;
+              history = s.history;
+              views = parts-put
+                  (λ (v : RunView). record { attempt = v.attempt; owned = v.owned; sample = v.sample; check = v.check; front = v.front }) s.views
+                  n u i;
+            }
 
     ring : (u.front ≡ (s.views n).front) ⊎ (RingSw ≡ RingSw → u.front ≤ s.done) → RingRuns slot_filter c s → RingRuns slot_filter c (record s { views = put s.views n u })
-    ring front q = subst (RingRule slot_filter c.ring c.words) (sym path) (ring-own slot_filter c.ring c.words n (ring_part s) part (l.out.unlocked ∙ sym l.was.unlocked) (not_late part l.out.uncommitted ∙ sym (not_late ((ring_part s).views n) l.was.uncommitted)) l.entered (l.out.uncommitted ∙ sym l.was.uncommitted)
+    ring front q = subst (RingRule slot_filter c.ring c.words) (sym path) (ring-own slot_filter c.ring c.words n (ring_part s) part
+        (l.out.unlocked ∙ sym l.was.unlocked) (not_late part l.out.uncommitted ∙ sym (not_late ((ring_part s).views n) l.was.uncommitted))
+        l.entered (l.out.uncommitted ∙ sym l.was.uncommitted)
         (λ q2. ⊎_elim (λ same. subst (λ (k : ℕ). k ≤ s.done) (sym same) (q.fresh n (not_late ((ring_part s).views n) l.was.uncommitted))) (λ low. low refl) front)
         (λ t. absurd (let f : true ≡ false = sym t ∙ l.unread in cc)) (λ t. absurd (let f : true ≡ false = sym t ∙ l.out.unlocked in cc)) q)
       where

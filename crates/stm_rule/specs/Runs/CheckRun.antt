@@ -22,12 +22,24 @@ abbrev pub cell_of : ℕ → List Cell
 cell_of x = record { at = 1; value = x } ∷ []
 
 -- the only slot since the start was loaded, and doesn't meet the filter
-one_move : {v : View} → HasRing v → v.attempt.start ≡ 0 → v.ring_read.clock ≡ 1 → v.ring_read.checking ≡ true → v.ring_read.sure ≡ true → has_word v.ring_read.words 1 0 ≡ true → has_word v.ring_read.words 1 1 ≡ true → has_word v.ring_read.words 1 2 ≡ true → has_word v.ring_read.words 1 3 ≡ true → has_word v.ring_read.words 1 4 ≡ true → has_word v.ring_read.words 1 5 ≡ true → has_word v.ring_read.words 1 6 ≡ true → has_word v.ring_read.words 1 7 ≡ true → has_word v.ring_read.words 1 8 ≡ true → has_word v.ring_read.words 1 9 ≡ true → has_word v.ring_read.words 1 10 ≡ true → has_word v.ring_read.words 1 11 ≡ true → has_word v.ring_read.words 1 12 ≡ true → has_word v.ring_read.words 1 13 ≡ true → has_word v.ring_read.words 1 14 ≡ true → has_word v.ring_read.words 1 15 ≡ true → slot_filter.meets (loaded_word v.ring_read.words 1) (slot_filter.word v.ring_read.watched) ≡ false → CanRingMove slot_filter v
+one_move : {v : View} → HasRing v → v.attempt.start ≡ 0 → v.ring_read.clock ≡ 1 → v.ring_read.checking ≡ true → v.ring_read.sure ≡ true
+    → has_word v.ring_read.words 1 0 ≡ true → has_word v.ring_read.words 1 1 ≡ true → has_word v.ring_read.words 1 2 ≡ true
+    → has_word v.ring_read.words 1 3 ≡ true → has_word v.ring_read.words 1 4 ≡ true → has_word v.ring_read.words 1 5 ≡ true
+    → has_word v.ring_read.words 1 6 ≡ true → has_word v.ring_read.words 1 7 ≡ true → has_word v.ring_read.words 1 8 ≡ true
+    → has_word v.ring_read.words 1 9 ≡ true → has_word v.ring_read.words 1 10 ≡ true → has_word v.ring_read.words 1 11 ≡ true
+    → has_word v.ring_read.words 1 12 ≡ true → has_word v.ring_read.words 1 13 ≡ true → has_word v.ring_read.words 1 14 ≡ true
+    → has_word v.ring_read.words 1 15 ≡ true
+    → slot_filter.meets (loaded_word v.ring_read.words 1) (slot_filter.word v.ring_read.watched) ≡ false → CanRingMove slot_filter v
 one_move {v = v} has start clock checking sure p0 p1 p2 p3 p4 p5 p6 p7 p8 p9 p10 p11 p12 p13 p14 p15 apart = record {
   has = has;
   checking = checking;
   sure = sure;
-  clear = λ e l m slot is. let s : e ≡ 1 = omega arith in sym (slot_filter.same (loaded_word v.ring_read.words 1) slot (slot_filter.word v.ring_read.watched) (λ i low. subst (λ (t : ℕ). (j : ℕ) → j < SLOT_WORDS → has_word v.ring_read.words t j ≡ true → loaded_word v.ring_read.words t j ≡ slot j) s is i low (each i low))) ∙ apart;
+  clear =
+      λ e l m slot is.
+      let s : e ≡ 1 = omega arith in
+      sym (slot_filter.same (loaded_word v.ring_read.words 1) slot (slot_filter.word v.ring_read.watched) (λ i low.
+      subst (λ (t : ℕ). (j : ℕ) → j < SLOT_WORDS → has_word v.ring_read.words t j ≡ true → loaded_word v.ring_read.words t j ≡ slot j) s is
+      i low (each i low))) ∙ apart;
 }
   where
     each : (i : ℕ) → i < SLOT_WORDS → has_word v.ring_read.words 1 i ≡ true
@@ -50,7 +62,25 @@ one_move {v = v} has start clock checking sure p0 p1 p2 p3 p4 p5 p6 p7 p8 p9 p10
     each (suc (suc (suc (suc (suc (suc (suc (suc (suc (suc (suc (suc (suc (suc (suc (suc i)))))))))))))))) l = absurd (omega arith)
 
 abbrev pub checked_run : ℕ → List (ℕ × CoreStep)
-checked_run x = (0, announces) ∷ (0, aims) ∷ (0, takes_gate 0) ∷ (0, checks 1) ∷ (0, departs) ∷ (0, settles) ∷ (0, stores_base 0) ∷ (0, stores_done 0) ∷ (0, installs 0 RingSw) ∷ (0, reopens 0 RingSw) ∷ (1, announces) ∷ (1, loads_gate) ∷ (1, of_ring ring_begins) ∷ (1, of_ring (ring_loads 0)) ∷ (0, announces) ∷ (0, loads_gate) ∷ (0, of_ring ring_begins) ∷ (0, of_ring ring_locks) ∷ (0, of_ring ring_ticks) ∷ (0, of_ring ring_looks) ∷ (0, of_ring (ring_slots 2 1 0 (cell_of x))) ∷ (0, of_ring (ring_slots 2 1 1 (cell_of x))) ∷ (0, of_ring (ring_slots 2 1 2 (cell_of x))) ∷ (0, of_ring (ring_slots 2 1 3 (cell_of x))) ∷ (0, of_ring (ring_slots 2 1 4 (cell_of x))) ∷ (0, of_ring (ring_slots 2 1 5 (cell_of x))) ∷ (0, of_ring (ring_slots 2 1 6 (cell_of x))) ∷ (0, of_ring (ring_slots 2 1 7 (cell_of x))) ∷ (0, of_ring (ring_slots 2 1 8 (cell_of x))) ∷ (0, of_ring (ring_slots 2 1 9 (cell_of x))) ∷ (0, of_ring (ring_slots 2 1 10 (cell_of x))) ∷ (0, of_ring (ring_slots 2 1 11 (cell_of x))) ∷ (0, of_ring (ring_slots 2 1 12 (cell_of x))) ∷ (0, of_ring (ring_slots 2 1 13 (cell_of x))) ∷ (0, of_ring (ring_slots 2 1 14 (cell_of x))) ∷ (0, of_ring (ring_slots 2 1 15 (cell_of x))) ∷ (0, of_ring (ring_enters 1)) ∷ (0, of_ring (ring_writes 1 x)) ∷ (0, of_ring (ring_dones 1)) ∷ (0, of_ring ring_frees) ∷ (0, departs) ∷ (1, of_ring ring_looks) ∷ (1, of_ring (ring_words 2 1 0)) ∷ (1, of_ring (ring_words 2 1 1)) ∷ (1, of_ring (ring_words 2 1 2)) ∷ (1, of_ring (ring_words 2 1 3)) ∷ (1, of_ring (ring_words 2 1 4)) ∷ (1, of_ring (ring_words 2 1 5)) ∷ (1, of_ring (ring_words 2 1 6)) ∷ (1, of_ring (ring_words 2 1 7)) ∷ (1, of_ring (ring_words 2 1 8)) ∷ (1, of_ring (ring_words 2 1 9)) ∷ (1, of_ring (ring_words 2 1 10)) ∷ (1, of_ring (ring_words 2 1 11)) ∷ (1, of_ring (ring_words 2 1 12)) ∷ (1, of_ring (ring_words 2 1 13)) ∷ (1, of_ring (ring_words 2 1 14)) ∷ (1, of_ring (ring_words 2 1 15)) ∷ (1, of_ring (ring_agains 2)) ∷ (1, of_ring ring_moves) ∷ (1, departs) ∷ []
+checked_run x =
+    (0, announces) ∷ (0, aims) ∷ (0, takes_gate 0) ∷ (0, checks 1) ∷ (0, departs) ∷ (0, settles) ∷ (0, stores_base 0) ∷ (0, stores_done 0)
+    ∷ (0, installs 0 RingSw) ∷ (0, reopens 0 RingSw) ∷ (1, announces) ∷ (1, loads_gate) ∷ (1, of_ring ring_begins)
+    ∷ (1, of_ring (ring_loads 0)) ∷ (0, announces) ∷ (0, loads_gate) ∷ (0, of_ring ring_begins) ∷ (0, of_ring ring_locks)
+    ∷ (0, of_ring ring_ticks) ∷ (0, of_ring ring_looks) ∷ (0, of_ring (ring_slots 2 1 0 (cell_of x)))
+    ∷ (0, of_ring (ring_slots 2 1 1 (cell_of x))) ∷ (0, of_ring (ring_slots 2 1 2 (cell_of x)))
+    ∷ (0, of_ring (ring_slots 2 1 3 (cell_of x))) ∷ (0, of_ring (ring_slots 2 1 4 (cell_of x)))
+    ∷ (0, of_ring (ring_slots 2 1 5 (cell_of x))) ∷ (0, of_ring (ring_slots 2 1 6 (cell_of x)))
+    ∷ (0, of_ring (ring_slots 2 1 7 (cell_of x))) ∷ (0, of_ring (ring_slots 2 1 8 (cell_of x)))
+    ∷ (0, of_ring (ring_slots 2 1 9 (cell_of x))) ∷ (0, of_ring (ring_slots 2 1 10 (cell_of x)))
+    ∷ (0, of_ring (ring_slots 2 1 11 (cell_of x))) ∷ (0, of_ring (ring_slots 2 1 12 (cell_of x)))
+    ∷ (0, of_ring (ring_slots 2 1 13 (cell_of x))) ∷ (0, of_ring (ring_slots 2 1 14 (cell_of x)))
+    ∷ (0, of_ring (ring_slots 2 1 15 (cell_of x))) ∷ (0, of_ring (ring_enters 1)) ∷ (0, of_ring (ring_writes 1 x))
+    ∷ (0, of_ring (ring_dones 1)) ∷ (0, of_ring ring_frees) ∷ (0, departs) ∷ (1, of_ring ring_looks) ∷ (1, of_ring (ring_words 2 1 0))
+    ∷ (1, of_ring (ring_words 2 1 1)) ∷ (1, of_ring (ring_words 2 1 2)) ∷ (1, of_ring (ring_words 2 1 3)) ∷ (1, of_ring (ring_words 2 1 4))
+    ∷ (1, of_ring (ring_words 2 1 5)) ∷ (1, of_ring (ring_words 2 1 6)) ∷ (1, of_ring (ring_words 2 1 7)) ∷ (1, of_ring (ring_words 2 1 8))
+    ∷ (1, of_ring (ring_words 2 1 9)) ∷ (1, of_ring (ring_words 2 1 10)) ∷ (1, of_ring (ring_words 2 1 11))
+    ∷ (1, of_ring (ring_words 2 1 12)) ∷ (1, of_ring (ring_words 2 1 13)) ∷ (1, of_ring (ring_words 2 1 14))
+    ∷ (1, of_ring (ring_words 2 1 15)) ∷ (1, of_ring (ring_agains 2)) ∷ (1, of_ring ring_moves) ∷ (1, departs) ∷ []
 
 abbrev pub CoreChecks : ((ℕ → ℕ) → Type 0) → Config → Type 0
 CoreChecks good c = (x : ℕ) → 0 < c.words → 1 < c.words → x < 2 ^ 64 → Keeps good [] (cell_of x)
@@ -102,43 +132,425 @@ core_checks_lem good c x low high small keeps = (
                                         (
                                           (omega arith, record { has = record { runs = record { phase = refl; algorithm = refl; plain = refl }; inside = refl } }),
                                           (
-                                            (omega arith, (refl, record { turn = record { has = record { runs = record { phase = refl; algorithm = refl; plain = refl }; inside = refl }; taken = refl; unentered = refl }; ticked = refl; checked = refl; next = refl; index = refl; low = omega arith; same = λ l. absurd (omega arith) })),
                                             (
-                                              (omega arith, (refl, record { turn = record { has = record { runs = record { phase = refl; algorithm = refl; plain = refl }; inside = refl }; taken = refl; unentered = refl }; ticked = refl; checked = refl; next = refl; index = refl; low = omega arith; same = λ l. refl })),
+                                              omega arith,
                                               (
-                                                (omega arith, (refl, record { turn = record { has = record { runs = record { phase = refl; algorithm = refl; plain = refl }; inside = refl }; taken = refl; unentered = refl }; ticked = refl; checked = refl; next = refl; index = refl; low = omega arith; same = λ l. refl })),
+                                                refl,
+                                                record {
+                                                  turn = record {
+                                                    has =
+                                                        record { runs = record { phase = refl; algorithm = refl; plain = refl }; inside = refl };
+                                                    taken = refl;
+                                                    unentered = refl;
+                                                  };
+                                                  ticked = refl;
+                                                  checked = refl;
+                                                  next = refl;
+                                                  index = refl;
+                                                  low = omega arith;
+                                                  same = λ l. absurd (omega arith);
+                                                },
+                                              ),
+                                            ),
+                                            (
+                                              (
+                                                omega arith,
                                                 (
-                                                  (omega arith, (refl, record { turn = record { has = record { runs = record { phase = refl; algorithm = refl; plain = refl }; inside = refl }; taken = refl; unentered = refl }; ticked = refl; checked = refl; next = refl; index = refl; low = omega arith; same = λ l. refl })),
+                                                  refl,
+                                                  record {
+                                                    turn = record {
+                                                      has =
+                                                          record { runs = record { phase = refl; algorithm = refl; plain = refl }; inside = refl };
+                                                      taken = refl;
+                                                      unentered = refl;
+                                                    };
+                                                    ticked = refl;
+                                                    checked = refl;
+                                                    next = refl;
+                                                    index = refl;
+                                                    low = omega arith;
+                                                    same = λ l. refl;
+                                                  },
+                                                ),
+                                              ),
+                                              (
+                                                (
+                                                  omega arith,
                                                   (
-                                                    (omega arith, (refl, record { turn = record { has = record { runs = record { phase = refl; algorithm = refl; plain = refl }; inside = refl }; taken = refl; unentered = refl }; ticked = refl; checked = refl; next = refl; index = refl; low = omega arith; same = λ l. refl })),
+                                                    refl,
+                                                    record {
+                                                      turn = record {
+                                                        has =
+                                                            record { runs = record { phase = refl; algorithm = refl; plain = refl }; inside = refl };
+                                                        taken = refl;
+                                                        unentered = refl;
+                                                      };
+                                                      ticked = refl;
+                                                      checked = refl;
+                                                      next = refl;
+                                                      index = refl;
+                                                      low = omega arith;
+                                                      same = λ l. refl;
+                                                    },
+                                                  ),
+                                                ),
+                                                (
+                                                  (
+                                                    omega arith,
                                                     (
-                                                      (omega arith, (refl, record { turn = record { has = record { runs = record { phase = refl; algorithm = refl; plain = refl }; inside = refl }; taken = refl; unentered = refl }; ticked = refl; checked = refl; next = refl; index = refl; low = omega arith; same = λ l. refl })),
+                                                      refl,
+                                                      record {
+                                                        turn = record {
+                                                          has =
+                                                              record { runs = record { phase = refl; algorithm = refl; plain = refl }; inside = refl };
+                                                          taken = refl;
+                                                          unentered = refl;
+                                                        };
+                                                        ticked = refl;
+                                                        checked = refl;
+                                                        next = refl;
+                                                        index = refl;
+                                                        low = omega arith;
+                                                        same = λ l. refl;
+                                                      },
+                                                    ),
+                                                  ),
+                                                  (
+                                                    (
+                                                      omega arith,
                                                       (
-                                                        (omega arith, (refl, record { turn = record { has = record { runs = record { phase = refl; algorithm = refl; plain = refl }; inside = refl }; taken = refl; unentered = refl }; ticked = refl; checked = refl; next = refl; index = refl; low = omega arith; same = λ l. refl })),
+                                                        refl,
+                                                        record {
+                                                          turn = record {
+                                                            has = record
+                                                                { runs = record { phase = refl; algorithm = refl; plain = refl }; inside = refl };
+                                                            taken = refl;
+                                                            unentered = refl;
+                                                          };
+                                                          ticked = refl;
+                                                          checked = refl;
+                                                          next = refl;
+                                                          index = refl;
+                                                          low = omega arith;
+                                                          same = λ l. refl;
+                                                        },
+                                                      ),
+                                                    ),
+                                                    (
+                                                      (
+                                                        omega arith,
                                                         (
-                                                          (omega arith, (refl, record { turn = record { has = record { runs = record { phase = refl; algorithm = refl; plain = refl }; inside = refl }; taken = refl; unentered = refl }; ticked = refl; checked = refl; next = refl; index = refl; low = omega arith; same = λ l. refl })),
+                                                          refl,
+                                                          record {
+                                                            turn = record {
+                                                              has = record
+                                                                  { runs = record { phase = refl; algorithm = refl; plain = refl }; inside = refl };
+                                                              taken = refl;
+                                                              unentered = refl;
+                                                            };
+                                                            ticked = refl;
+                                                            checked = refl;
+                                                            next = refl;
+                                                            index = refl;
+                                                            low = omega arith;
+                                                            same = λ l. refl;
+                                                          },
+                                                        ),
+                                                      ),
+                                                      (
+                                                        (
+                                                          omega arith,
                                                           (
-                                                            (omega arith, (refl, record { turn = record { has = record { runs = record { phase = refl; algorithm = refl; plain = refl }; inside = refl }; taken = refl; unentered = refl }; ticked = refl; checked = refl; next = refl; index = refl; low = omega arith; same = λ l. refl })),
+                                                            refl,
+                                                            record {
+                                                              turn = record {
+                                                                has = record
+                                                                    { runs = record { phase = refl; algorithm = refl; plain = refl }; inside = refl };
+                                                                taken = refl;
+                                                                unentered = refl;
+                                                              };
+                                                              ticked = refl;
+                                                              checked = refl;
+                                                              next = refl;
+                                                              index = refl;
+                                                              low = omega arith;
+                                                              same = λ l. refl;
+                                                            },
+                                                          ),
+                                                        ),
+                                                        (
+                                                          (
+                                                            omega arith,
                                                             (
-                                                              (omega arith, (refl, record { turn = record { has = record { runs = record { phase = refl; algorithm = refl; plain = refl }; inside = refl }; taken = refl; unentered = refl }; ticked = refl; checked = refl; next = refl; index = refl; low = omega arith; same = λ l. refl })),
+                                                              refl,
+                                                              record {
+                                                                turn = record {
+                                                                  has = record
+                                                                      { runs = record { phase = refl; algorithm = refl; plain = refl }; inside = refl };
+                                                                  taken = refl;
+                                                                  unentered = refl;
+                                                                };
+                                                                ticked = refl;
+                                                                checked = refl;
+                                                                next = refl;
+                                                                index = refl;
+                                                                low = omega arith;
+                                                                same = λ l. refl;
+                                                              },
+                                                            ),
+                                                          ),
+                                                          (
+                                                            (
+                                                              omega arith,
                                                               (
-                                                                (omega arith, (refl, record { turn = record { has = record { runs = record { phase = refl; algorithm = refl; plain = refl }; inside = refl }; taken = refl; unentered = refl }; ticked = refl; checked = refl; next = refl; index = refl; low = omega arith; same = λ l. refl })),
+                                                                refl,
+                                                                record {
+                                                                  turn = record {
+                                                                    has = record {
+                                                                      runs =
+                                                                          record { phase = refl; algorithm = refl; plain = refl };
+                                                                      inside = refl;
+                                                                    };
+                                                                    taken = refl;
+                                                                    unentered = refl;
+                                                                  };
+                                                                  ticked = refl;
+                                                                  checked = refl;
+                                                                  next = refl;
+                                                                  index = refl;
+                                                                  low = omega arith;
+                                                                  same = λ l. refl;
+                                                                },
+                                                              ),
+                                                            ),
+                                                            (
+                                                              (
+                                                                omega arith,
                                                                 (
-                                                                  (omega arith, (refl, record { turn = record { has = record { runs = record { phase = refl; algorithm = refl; plain = refl }; inside = refl }; taken = refl; unentered = refl }; ticked = refl; checked = refl; next = refl; index = refl; low = omega arith; same = λ l. refl })),
+                                                                  refl,
+                                                                  record {
+                                                                    turn = record {
+                                                                      has = record {
+                                                                        runs =
+                                                                            record { phase = refl; algorithm = refl; plain = refl };
+                                                                        inside = refl;
+                                                                      };
+                                                                      taken = refl;
+                                                                      unentered = refl;
+                                                                    };
+                                                                    ticked = refl;
+                                                                    checked = refl;
+                                                                    next = refl;
+                                                                    index = refl;
+                                                                    low = omega arith;
+                                                                    same = λ l. refl;
+                                                                  },
+                                                                ),
+                                                              ),
+                                                              (
+                                                                (
+                                                                  omega arith,
                                                                   (
-                                                                    (omega arith, (refl, record { turn = record { has = record { runs = record { phase = refl; algorithm = refl; plain = refl }; inside = refl }; taken = refl; unentered = refl }; ticked = refl; checked = refl; next = refl; index = refl; low = omega arith; same = λ l. refl })),
+                                                                    refl,
+                                                                    record {
+                                                                      turn = record {
+                                                                        has = record {
+                                                                          runs =
+                                                                              record { phase = refl; algorithm = refl; plain = refl };
+                                                                          inside = refl;
+                                                                        };
+                                                                        taken = refl;
+                                                                        unentered = refl;
+                                                                      };
+                                                                      ticked = refl;
+                                                                      checked = refl;
+                                                                      next = refl;
+                                                                      index = refl;
+                                                                      low = omega arith;
+                                                                      same = λ l. refl;
+                                                                    },
+                                                                  ),
+                                                                ),
+                                                                (
+                                                                  (
+                                                                    omega arith,
                                                                     (
-                                                                      (omega arith, (refl, record { turn = record { has = record { runs = record { phase = refl; algorithm = refl; plain = refl }; inside = refl }; taken = refl; unentered = refl }; ticked = refl; checked = refl; next = refl; index = refl; low = omega arith; same = λ l. refl })),
+                                                                      refl,
+                                                                      record {
+                                                                        turn = record {
+                                                                          has = record {
+                                                                            runs =
+                                                                                record { phase = refl; algorithm = refl; plain = refl };
+                                                                            inside = refl;
+                                                                          };
+                                                                          taken = refl;
+                                                                          unentered = refl;
+                                                                        };
+                                                                        ticked = refl;
+                                                                        checked = refl;
+                                                                        next = refl;
+                                                                        index = refl;
+                                                                        low = omega arith;
+                                                                        same = λ l. refl;
+                                                                      },
+                                                                    ),
+                                                                  ),
+                                                                  (
+                                                                    (
+                                                                      omega arith,
                                                                       (
-                                                                        (omega arith, (refl, record { turn = record { has = record { runs = record { phase = refl; algorithm = refl; plain = refl }; inside = refl }; taken = refl; unentered = refl }; ticked = refl; checked = refl; next = refl; index = refl; low = omega arith; same = λ l. refl })),
+                                                                        refl,
+                                                                        record {
+                                                                          turn = record {
+                                                                            has = record {
+                                                                              runs =
+                                                                                  record { phase = refl; algorithm = refl; plain = refl };
+                                                                              inside = refl;
+                                                                            };
+                                                                            taken = refl;
+                                                                            unentered = refl;
+                                                                          };
+                                                                          ticked = refl;
+                                                                          checked = refl;
+                                                                          next = refl;
+                                                                          index = refl;
+                                                                          low = omega arith;
+                                                                          same = λ l. refl;
+                                                                        },
+                                                                      ),
+                                                                    ),
+                                                                    (
+                                                                      (
+                                                                        omega arith,
                                                                         (
-                                                                          (omega arith, (refl, record { turn = record { has = record { runs = record { phase = refl; algorithm = refl; plain = refl }; inside = refl }; taken = refl; unentered = refl }; ticked = refl; checked = refl; next = refl; index = refl; low = omega arith; same = λ l. refl })),
+                                                                          refl,
+                                                                          record {
+                                                                            turn = record {
+                                                                              has = record {
+                                                                                runs =
+                                                                                    record { phase = refl; algorithm = refl; plain = refl };
+                                                                                inside = refl;
+                                                                              };
+                                                                              taken = refl;
+                                                                              unentered = refl;
+                                                                            };
+                                                                            ticked = refl;
+                                                                            checked = refl;
+                                                                            next = refl;
+                                                                            index = refl;
+                                                                            low = omega arith;
+                                                                            same = λ l. refl;
+                                                                          },
+                                                                        ),
+                                                                      ),
+                                                                      (
+                                                                        (
+                                                                          omega arith,
                                                                           (
-                                                                            (omega arith, (record { turn = record { has = record { runs = record { phase = refl; algorithm = refl; plain = refl }; inside = refl }; taken = refl; unentered = refl }; ticked = refl; checked = refl; full = refl; time = refl; limit = omega arith; settled = refl; free = refl; wrote = λ e. cc; writes_inside = inside-more c.words (record { at = 1; value = x }) [] high (λ a e. absurd cc); writes_small = small-more (record { at = 1; value = x }) [] small (λ a d l. l); keeps = keeps }, λ b e. fenced-none b)),
+                                                                            refl,
+                                                                            record {
+                                                                              turn = record {
+                                                                                has = record {
+                                                                                  runs =
+                                                                                      record { phase = refl; algorithm = refl; plain = refl };
+                                                                                  inside = refl;
+                                                                                };
+                                                                                taken = refl;
+                                                                                unentered = refl;
+                                                                              };
+                                                                              ticked = refl;
+                                                                              checked = refl;
+                                                                              next = refl;
+                                                                              index = refl;
+                                                                              low = omega arith;
+                                                                              same = λ l. refl;
+                                                                            },
+                                                                          ),
+                                                                        ),
+                                                                        (
+                                                                          (
+                                                                            omega arith,
                                                                             (
-                                                                              (omega arith, record { entered = record { runs = record { phase = refl; algorithm = refl; plain = refl }; committed = refl; unfinished = refl }; owed = refl; value = refl }),
+                                                                              refl,
+                                                                              record {
+                                                                                turn = record {
+                                                                                  has = record {
+                                                                                    runs =
+                                                                                        record { phase = refl; algorithm = refl; plain = refl };
+                                                                                    inside = refl;
+                                                                                  };
+                                                                                  taken = refl;
+                                                                                  unentered = refl;
+                                                                                };
+                                                                                ticked = refl;
+                                                                                checked = refl;
+                                                                                next = refl;
+                                                                                index = refl;
+                                                                                low = omega arith;
+                                                                                same = λ l. refl;
+                                                                              },
+                                                                            ),
+                                                                          ),
+                                                                          (
+                                                                            (
+                                                                              omega arith,
                                                                               (
-                                                                                (omega arith, record { entered = record { runs = record { phase = refl; algorithm = refl; plain = refl }; committed = refl; unfinished = refl }; time = refl; written = λ a. refl; free = refl }),
+                                                                                record {
+                                                                                  turn = record {
+                                                                                    has = record {
+                                                                                      runs =
+                                                                                          record { phase = refl; algorithm = refl; plain = refl };
+                                                                                      inside = refl;
+                                                                                    };
+                                                                                    taken = refl;
+                                                                                    unentered = refl;
+                                                                                  };
+                                                                                  ticked = refl;
+                                                                                  checked = refl;
+                                                                                  full = refl;
+                                                                                  time = refl;
+                                                                                  limit = omega arith;
+                                                                                  settled = refl;
+                                                                                  free = refl;
+                                                                                  wrote = λ e. cc;
+                                                                                  writes_inside = inside-more c.words
+                                                                                      (record { at = 1; value = x }) [] high (λ a e. absurd cc);
+                                                                                  writes_small =
+                                                                                      small-more (record { at = 1; value = x }) [] small (λ a d l. l);
+                                                                                  keeps = keeps;
+                                                                                },
+                                                                                λ b e. fenced-none b,
+                                                                              ),
+                                                                            ),
+                                                                            (
+                                                                              (
+                                                                                omega arith,
+                                                                                record {
+                                                                                  entered = record {
+                                                                                    runs =
+                                                                                        record { phase = refl; algorithm = refl; plain = refl };
+                                                                                    committed = refl;
+                                                                                    unfinished = refl;
+                                                                                  };
+                                                                                  owed = refl;
+                                                                                  value = refl;
+                                                                                },
+                                                                              ),
+                                                                              (
+                                                                                (
+                                                                                  omega arith,
+                                                                                  record {
+                                                                                    entered = record {
+                                                                                      runs =
+                                                                                          record { phase = refl; algorithm = refl; plain = refl };
+                                                                                      committed = refl;
+                                                                                      unfinished = refl;
+                                                                                    };
+                                                                                    time = refl;
+                                                                                    written = λ a. refl;
+                                                                                    free = refl;
+                                                                                  },
+                                                                                ),
                                                                                 (
                                                                                   (omega arith, record { runs = record { phase = refl; algorithm = refl; plain = refl }; taken = refl; finished = λ e. refl }),
                                                                                   (
@@ -146,43 +558,436 @@ core_checks_lem good c x low high small keeps = (
                                                                                     (
                                                                                       (omega arith, record { has = record { runs = record { phase = refl; algorithm = refl; plain = refl }; inside = refl } }),
                                                                                       (
-                                                                                        (omega arith, (refl, record { has = record { runs = record { phase = refl; algorithm = refl; plain = refl }; inside = refl }; checking = refl; unsure = refl; since = omega arith; upto = omega arith; near = omega arith; index = omega arith })),
                                                                                         (
-                                                                                          (omega arith, (refl, record { has = record { runs = record { phase = refl; algorithm = refl; plain = refl }; inside = refl }; checking = refl; unsure = refl; since = omega arith; upto = omega arith; near = omega arith; index = omega arith })),
+                                                                                          omega arith,
                                                                                           (
-                                                                                            (omega arith, (refl, record { has = record { runs = record { phase = refl; algorithm = refl; plain = refl }; inside = refl }; checking = refl; unsure = refl; since = omega arith; upto = omega arith; near = omega arith; index = omega arith })),
+                                                                                            refl,
+                                                                                            record {
+                                                                                              has = record {
+                                                                                                runs = record
+                                                                                                    { phase = refl; algorithm = refl; plain = refl };
+                                                                                                inside = refl;
+                                                                                              };
+                                                                                              checking = refl;
+                                                                                              unsure = refl;
+                                                                                              since = omega arith;
+                                                                                              upto = omega arith;
+                                                                                              near = omega arith;
+                                                                                              index = omega arith;
+                                                                                            },
+                                                                                          ),
+                                                                                        ),
+                                                                                        (
+                                                                                          (
+                                                                                            omega arith,
                                                                                             (
-                                                                                              (omega arith, (refl, record { has = record { runs = record { phase = refl; algorithm = refl; plain = refl }; inside = refl }; checking = refl; unsure = refl; since = omega arith; upto = omega arith; near = omega arith; index = omega arith })),
+                                                                                              refl,
+                                                                                              record {
+                                                                                                has = record {
+                                                                                                  runs = record
+                                                                                                      { phase = refl; algorithm = refl; plain = refl };
+                                                                                                  inside = refl;
+                                                                                                };
+                                                                                                checking = refl;
+                                                                                                unsure = refl;
+                                                                                                since = omega arith;
+                                                                                                upto = omega arith;
+                                                                                                near = omega arith;
+                                                                                                index = omega arith;
+                                                                                              },
+                                                                                            ),
+                                                                                          ),
+                                                                                          (
+                                                                                            (
+                                                                                              omega arith,
                                                                                               (
-                                                                                                (omega arith, (refl, record { has = record { runs = record { phase = refl; algorithm = refl; plain = refl }; inside = refl }; checking = refl; unsure = refl; since = omega arith; upto = omega arith; near = omega arith; index = omega arith })),
+                                                                                                refl,
+                                                                                                record {
+                                                                                                  has = record {
+                                                                                                    runs = record {
+                                                                                                      phase =
+                                                                                                          refl;
+                                                                                                      algorithm = refl;
+                                                                                                      plain = refl;
+                                                                                                    };
+                                                                                                    inside = refl;
+                                                                                                  };
+                                                                                                  checking = refl;
+                                                                                                  unsure = refl;
+                                                                                                  since = omega arith;
+                                                                                                  upto = omega arith;
+                                                                                                  near = omega arith;
+                                                                                                  index = omega arith;
+                                                                                                },
+                                                                                              ),
+                                                                                            ),
+                                                                                            (
+                                                                                              (
+                                                                                                omega arith,
                                                                                                 (
-                                                                                                  (omega arith, (refl, record { has = record { runs = record { phase = refl; algorithm = refl; plain = refl }; inside = refl }; checking = refl; unsure = refl; since = omega arith; upto = omega arith; near = omega arith; index = omega arith })),
+                                                                                                  refl,
+                                                                                                  record {
+                                                                                                    has = record {
+                                                                                                      runs = record {
+                                                                                                        phase
+                                                                                                            = refl;
+                                                                                                        algorithm = refl;
+                                                                                                        plain = refl;
+                                                                                                      };
+                                                                                                      inside = refl;
+                                                                                                    };
+                                                                                                    checking = refl;
+                                                                                                    unsure = refl;
+                                                                                                    since = omega arith;
+                                                                                                    upto = omega arith;
+                                                                                                    near = omega arith;
+                                                                                                    index = omega arith;
+                                                                                                  },
+                                                                                                ),
+                                                                                              ),
+                                                                                              (
+                                                                                                (
+                                                                                                  omega arith,
                                                                                                   (
-                                                                                                    (omega arith, (refl, record { has = record { runs = record { phase = refl; algorithm = refl; plain = refl }; inside = refl }; checking = refl; unsure = refl; since = omega arith; upto = omega arith; near = omega arith; index = omega arith })),
+                                                                                                    refl,
+                                                                                                    record {
+                                                                                                      has = record {
+                                                                                                        runs = record {
+                                                                                                          phase = refl;
+                                                                                                          algorithm = refl;
+                                                                                                          plain = refl;
+                                                                                                        };
+                                                                                                        inside = refl;
+                                                                                                      };
+                                                                                                      checking = refl;
+                                                                                                      unsure = refl;
+                                                                                                      since = omega arith;
+                                                                                                      upto = omega arith;
+                                                                                                      near = omega arith;
+                                                                                                      index = omega arith;
+                                                                                                    },
+                                                                                                  ),
+                                                                                                ),
+                                                                                                (
+                                                                                                  (
+                                                                                                    omega arith,
                                                                                                     (
-                                                                                                      (omega arith, (refl, record { has = record { runs = record { phase = refl; algorithm = refl; plain = refl }; inside = refl }; checking = refl; unsure = refl; since = omega arith; upto = omega arith; near = omega arith; index = omega arith })),
+                                                                                                      refl,
+                                                                                                      record {
+                                                                                                        has = record {
+                                                                                                          runs = record {
+                                                                                                            phase = refl;
+                                                                                                            algorithm = refl;
+                                                                                                            plain = refl;
+                                                                                                          };
+                                                                                                          inside = refl;
+                                                                                                        };
+                                                                                                        checking = refl;
+                                                                                                        unsure = refl;
+                                                                                                        since = omega arith;
+                                                                                                        upto = omega arith;
+                                                                                                        near = omega arith;
+                                                                                                        index = omega arith;
+                                                                                                      },
+                                                                                                    ),
+                                                                                                  ),
+                                                                                                  (
+                                                                                                    (
+                                                                                                      omega arith,
                                                                                                       (
-                                                                                                        (omega arith, (refl, record { has = record { runs = record { phase = refl; algorithm = refl; plain = refl }; inside = refl }; checking = refl; unsure = refl; since = omega arith; upto = omega arith; near = omega arith; index = omega arith })),
+                                                                                                        refl,
+                                                                                                        record {
+                                                                                                          has = record {
+                                                                                                            runs = record {
+                                                                                                              phase = refl;
+                                                                                                              algorithm = refl;
+                                                                                                              plain = refl;
+                                                                                                            };
+                                                                                                            inside = refl;
+                                                                                                          };
+                                                                                                          checking = refl;
+                                                                                                          unsure = refl;
+                                                                                                          since = omega arith;
+                                                                                                          upto = omega arith;
+                                                                                                          near = omega arith;
+                                                                                                          index = omega arith;
+                                                                                                        },
+                                                                                                      ),
+                                                                                                    ),
+                                                                                                    (
+                                                                                                      (
+                                                                                                        omega arith,
                                                                                                         (
-                                                                                                          (omega arith, (refl, record { has = record { runs = record { phase = refl; algorithm = refl; plain = refl }; inside = refl }; checking = refl; unsure = refl; since = omega arith; upto = omega arith; near = omega arith; index = omega arith })),
+                                                                                                          refl,
+                                                                                                          record {
+                                                                                                            has = record {
+                                                                                                              runs = record {
+                                                                                                                phase = refl;
+                                                                                                                algorithm = refl;
+                                                                                                                plain = refl;
+                                                                                                              };
+                                                                                                              inside = refl;
+                                                                                                            };
+                                                                                                            checking = refl;
+                                                                                                            unsure = refl;
+                                                                                                            since = omega arith;
+                                                                                                            upto = omega arith;
+                                                                                                            near = omega arith;
+                                                                                                            index = omega arith;
+                                                                                                          },
+                                                                                                        ),
+                                                                                                      ),
+                                                                                                      (
+                                                                                                        (
+                                                                                                          omega arith,
                                                                                                           (
-                                                                                                            (omega arith, (refl, record { has = record { runs = record { phase = refl; algorithm = refl; plain = refl }; inside = refl }; checking = refl; unsure = refl; since = omega arith; upto = omega arith; near = omega arith; index = omega arith })),
+                                                                                                            refl,
+                                                                                                            record {
+                                                                                                              has = record {
+                                                                                                                runs =
+                                                                                                                    record {
+                                                                                                                      phase = refl;
+                                                                                                                      algorithm = refl;
+                                                                                                                      plain = refl;
+                                                                                                                    };
+                                                                                                                inside = refl;
+                                                                                                              };
+                                                                                                              checking = refl;
+                                                                                                              unsure = refl;
+                                                                                                              since = omega arith;
+                                                                                                              upto = omega arith;
+                                                                                                              near = omega arith;
+                                                                                                              index = omega arith;
+                                                                                                            },
+                                                                                                          ),
+                                                                                                        ),
+                                                                                                        (
+                                                                                                          (
+                                                                                                            omega arith,
                                                                                                             (
-                                                                                                              (omega arith, (refl, record { has = record { runs = record { phase = refl; algorithm = refl; plain = refl }; inside = refl }; checking = refl; unsure = refl; since = omega arith; upto = omega arith; near = omega arith; index = omega arith })),
+                                                                                                              refl,
+                                                                                                              record {
+                                                                                                                has = record {
+                                                                                                                  runs =
+                                                                                                                      record {
+                                                                                                                        phase = refl;
+                                                                                                                        algorithm = refl;
+                                                                                                                        plain = refl;
+                                                                                                                      };
+                                                                                                                  inside = refl;
+                                                                                                                };
+                                                                                                                checking = refl;
+                                                                                                                unsure = refl;
+                                                                                                                since = omega arith;
+                                                                                                                upto = omega arith;
+                                                                                                                near = omega arith;
+                                                                                                                index = omega arith;
+                                                                                                              },
+                                                                                                            ),
+                                                                                                          ),
+                                                                                                          (
+                                                                                                            (
+                                                                                                              omega arith,
                                                                                                               (
-                                                                                                                (omega arith, (refl, record { has = record { runs = record { phase = refl; algorithm = refl; plain = refl }; inside = refl }; checking = refl; unsure = refl; since = omega arith; upto = omega arith; near = omega arith; index = omega arith })),
+                                                                                                                refl,
+                                                                                                                record {
+                                                                                                                  has = record {
+                                                                                                                    runs =
+                                                                                                                        record {
+                                                                                                                          phase = refl;
+                                                                                                                          algorithm = refl;
+                                                                                                                          plain = refl;
+                                                                                                                        };
+                                                                                                                    inside = refl;
+                                                                                                                  };
+                                                                                                                  checking = refl;
+                                                                                                                  unsure = refl;
+                                                                                                                  since = omega arith;
+                                                                                                                  upto = omega arith;
+                                                                                                                  near = omega arith;
+                                                                                                                  index = omega arith;
+                                                                                                                },
+                                                                                                              ),
+                                                                                                            ),
+                                                                                                            (
+                                                                                                              (
+                                                                                                                omega arith,
                                                                                                                 (
-                                                                                                                  (omega arith, (refl, record { has = record { runs = record { phase = refl; algorithm = refl; plain = refl }; inside = refl }; checking = refl; unsure = refl; since = omega arith; upto = omega arith; near = omega arith; index = omega arith })),
+                                                                                                                  refl,
+                                                                                                                  record {
+                                                                                                                    has = record {
+                                                                                                                      runs =
+                                                                                                                          record {
+                                                                                                                            phase = refl;
+                                                                                                                            algorithm = refl;
+                                                                                                                            plain = refl;
+                                                                                                                          };
+                                                                                                                      inside = refl;
+                                                                                                                    };
+                                                                                                                    checking = refl;
+                                                                                                                    unsure = refl;
+                                                                                                                    since = omega arith;
+                                                                                                                    upto = omega arith;
+                                                                                                                    near = omega arith;
+                                                                                                                    index = omega arith;
+                                                                                                                  },
+                                                                                                                ),
+                                                                                                              ),
+                                                                                                              (
+                                                                                                                (
+                                                                                                                  omega arith,
                                                                                                                   (
-                                                                                                                    (omega arith, (refl, record { has = record { runs = record { phase = refl; algorithm = refl; plain = refl }; inside = refl }; checking = refl; unsure = refl; since = omega arith; upto = omega arith; near = omega arith; index = omega arith })),
+                                                                                                                    refl,
+                                                                                                                    record {
+                                                                                                                      has = record {
+                                                                                                                        runs = record {
+                                                                                                                          phase =
+                                                                                                                              refl;
+                                                                                                                          algorithm = refl;
+                                                                                                                          plain = refl;
+                                                                                                                        };
+                                                                                                                        inside = refl;
+                                                                                                                      };
+                                                                                                                      checking = refl;
+                                                                                                                      unsure = refl;
+                                                                                                                      since = omega arith;
+                                                                                                                      upto = omega arith;
+                                                                                                                      near = omega arith;
+                                                                                                                      index = omega arith;
+                                                                                                                    },
+                                                                                                                  ),
+                                                                                                                ),
+                                                                                                                (
+                                                                                                                  (
+                                                                                                                    omega arith,
                                                                                                                     (
-                                                                                                                      (omega arith, (refl, record { has = record { runs = record { phase = refl; algorithm = refl; plain = refl }; inside = refl }; checking = refl; unsure = refl; since = omega arith; upto = omega arith; near = omega arith; index = omega arith })),
+                                                                                                                      refl,
+                                                                                                                      record {
+                                                                                                                        has = record {
+                                                                                                                          runs = record {
+                                                                                                                            phase =
+                                                                                                                                refl;
+                                                                                                                            algorithm = refl;
+                                                                                                                            plain = refl;
+                                                                                                                          };
+                                                                                                                          inside = refl;
+                                                                                                                        };
+                                                                                                                        checking = refl;
+                                                                                                                        unsure = refl;
+                                                                                                                        since = omega arith;
+                                                                                                                        upto = omega arith;
+                                                                                                                        near = omega arith;
+                                                                                                                        index = omega arith;
+                                                                                                                      },
+                                                                                                                    ),
+                                                                                                                  ),
+                                                                                                                  (
+                                                                                                                    (
+                                                                                                                      omega arith,
                                                                                                                       (
-                                                                                                                        (omega arith, (refl, record { has = record { runs = record { phase = refl; algorithm = refl; plain = refl }; inside = refl }; checking = refl })),
+                                                                                                                        refl,
+                                                                                                                        record {
+                                                                                                                          has = record {
+                                                                                                                            runs = record {
+                                                                                                                              phase =
+                                                                                                                                  refl;
+                                                                                                                              algorithm = refl;
+                                                                                                                              plain = refl;
+                                                                                                                            };
+                                                                                                                            inside = refl;
+                                                                                                                          };
+                                                                                                                          checking = refl;
+                                                                                                                          unsure = refl;
+                                                                                                                          since = omega arith;
+                                                                                                                          upto = omega arith;
+                                                                                                                          near = omega arith;
+                                                                                                                          index = omega arith;
+                                                                                                                        },
+                                                                                                                      ),
+                                                                                                                    ),
+                                                                                                                    (
+                                                                                                                      (
+                                                                                                                        omega arith,
                                                                                                                         (
-                                                                                                                          (omega arith, one_move (record { runs = record { phase = refl; algorithm = refl; plain = refl }; inside = refl }) refl refl refl refl refl refl refl refl refl refl refl refl refl refl refl refl refl refl refl refl refl),
+                                                                                                                          refl,
+                                                                                                                          record {
+                                                                                                                            has = record {
+                                                                                                                              runs = record {
+                                                                                                                                phase
+                                                                                                                                    = refl;
+                                                                                                                                algorithm = refl;
+                                                                                                                                plain = refl;
+                                                                                                                              };
+                                                                                                                              inside = refl;
+                                                                                                                            };
+                                                                                                                            checking = refl;
+                                                                                                                            unsure = refl;
+                                                                                                                            since = omega arith;
+                                                                                                                            upto = omega arith;
+                                                                                                                            near = omega arith;
+                                                                                                                            index =
+                                                                                                                                omega arith;
+                                                                                                                          },
+                                                                                                                        ),
+                                                                                                                      ),
+                                                                                                                      (
+                                                                                                                        (
+                                                                                                                          omega arith,
                                                                                                                           (
-                                                                                                                            (omega arith, record { phase = refl; reopened = λ e. refl; unlocked = refl; disowned = refl; unwritten = refl; uncommitted = refl; unentered = λ e. refl }),
+                                                                                                                            refl,
+                                                                                                                            record {
+                                                                                                                              has =
+                                                                                                                                  record {
+                                                                                                                                    runs =
+                                                                                                                                        record {
+                                                                                                                                          phase =
+                                                                                                                                              refl;
+                                                                                                                                          algorithm = refl;
+                                                                                                                                          plain = refl;
+                                                                                                                                        };
+                                                                                                                                    inside = refl;
+                                                                                                                                  };
+                                                                                                                              checking = refl;
+                                                                                                                            },
+                                                                                                                          ),
+                                                                                                                        ),
+                                                                                                                        (
+                                                                                                                          (
+                                                                                                                            omega arith,
+                                                                                                                            one_move (record {
+                                                                                                                              runs = record {
+                                                                                                                                phase = refl;
+                                                                                                                                algorithm = refl;
+                                                                                                                                plain = refl;
+                                                                                                                              };
+                                                                                                                              inside = refl;
+                                                                                                                            })
+                                                                                                                                refl refl refl
+                                                                                                                                refl refl refl
+                                                                                                                                refl refl refl
+                                                                                                                                refl refl refl
+                                                                                                                                refl refl refl
+                                                                                                                                refl refl refl
+                                                                                                                                refl refl refl,
+                                                                                                                          ),
+                                                                                                                          (
+                                                                                                                            (
+                                                                                                                              omega arith,
+                                                                                                                              record {
+                                                                                                                                phase =
+                                                                                                                                    refl;
+                                                                                                                                reopened =
+                                                                                                                                    λ e. refl;
+                                                                                                                                unlocked = refl;
+                                                                                                                                disowned = refl;
+                                                                                                                                unwritten =
+                                                                                                                                    refl;
+                                                                                                                                uncommitted =
+                                                                                                                                    refl;
+                                                                                                                                unentered =
+                                                                                                                                    λ e. refl;
+                                                                                                                              },
+                                                                                                                            ),
                                                                                                                             tt,
                                                                                                                           ),
                                                                                                                         ),

@@ -178,7 +178,9 @@ module _ (good : (ℕ → ℕ) → Type 0) (c : Config) where
 
   -- caller 0 comes in, reads the word at a, stores x there, commits at time t and leaves
   abbrev pub one_attempt : ℕ → ℕ → ℕ → List (ℕ × CoreStep)
-  one_attempt t a x = (0, announces) ∷ (0, loads_gate) ∷ (0, of_cgl acquires_lock) ∷ (0, of_cgl loads_start) ∷ (0, of_cgl (loads_heap a)) ∷ (0, of_cgl (stores_heap a x)) ∷ (0, of_cgl (stores_clock t)) ∷ (0, of_cgl frees_lock) ∷ (0, departs) ∷ []
+  one_attempt t a x =
+      (0, announces) ∷ (0, loads_gate) ∷ (0, of_cgl acquires_lock) ∷ (0, of_cgl loads_start) ∷ (0, of_cgl (loads_heap a))
+      ∷ (0, of_cgl (stores_heap a x)) ∷ (0, of_cgl (stores_clock t)) ∷ (0, of_cgl frees_lock) ∷ (0, departs) ∷ []
 
   -- from the opening, below the clock's limit, these steps are allowed, and the history is then this one entry
   abbrev pub CoreCommits : Type 0
@@ -189,15 +191,30 @@ module _ (good : (ℕ → ℕ) → Type 0) (c : Config) where
 
   -- caller 0 installs TML, commits once as a writer and once promoted, installs Serial, takes a store back, becomes irrevocable and commits
   abbrev pub one_of_each : ℕ → List (ℕ × CoreStep)
-  one_of_each x = (0, announces) ∷ (0, aims) ∷ (0, takes_gate 0) ∷ (0, departs) ∷ (0, settles) ∷ (0, stores_base 0) ∷ (0, stores_done 0) ∷ (0, installs 0 Tml) ∷ (0, reopens 0 Tml) ∷ (0, announces) ∷ (0, loads_gate) ∷ (0, of_tml tml_begins) ∷ (0, of_tml (tml_loads 0)) ∷ (0, of_tml tml_agains) ∷ (0, of_tml (tml_writes 0)) ∷ (0, of_tml (tml_stores 0 x)) ∷ (0, of_tml (tml_commits 2)) ∷ (0, departs) ∷ (0, announces) ∷ (0, loads_gate) ∷ (0, of_tml tml_begins) ∷ (0, looks_gate) ∷ (0, seizes 0 Tml) ∷ (0, grants) ∷ (0, direct_loads 0) ∷ (0, direct_stores 0 x) ∷ (0, direct_commits Tml 4) ∷ (0, stores_base 4) ∷ (0, stores_done 4) ∷ (0, returns 0 Tml) ∷ (0, departs) ∷ (0, announces) ∷ (0, aims) ∷ (0, takes_gate 1) ∷ (0, departs) ∷ (0, settles) ∷ (0, stores_base 4) ∷ (0, stores_done 4) ∷ (0, installs 0 Serial) ∷ (0, reopens 0 Serial) ∷ (0, announces) ∷ (0, loads_gate) ∷ (0, of_cgl acquires_lock) ∷ (0, of_cgl loads_start) ∷ (0, of_cgl (loads_heap 0)) ∷ (0, of_cgl (loads_undo 0)) ∷ (0, of_cgl (loads_limit false)) ∷ (0, of_cgl (stores_heap 0 0)) ∷ (0, of_cgl (stores_back 0 x)) ∷ (0, of_cgl (loads_limit true)) ∷ (0, of_cgl (stores_heap 0 x)) ∷ (0, of_cgl (stores_clock 5)) ∷ (0, of_cgl frees_lock) ∷ (0, departs) ∷ []
+  one_of_each x =
+      (0, announces) ∷ (0, aims) ∷ (0, takes_gate 0) ∷ (0, departs) ∷ (0, settles) ∷ (0, stores_base 0) ∷ (0, stores_done 0)
+      ∷ (0, installs 0 Tml) ∷ (0, reopens 0 Tml) ∷ (0, announces) ∷ (0, loads_gate) ∷ (0, of_tml tml_begins) ∷ (0, of_tml (tml_loads 0))
+      ∷ (0, of_tml tml_agains) ∷ (0, of_tml (tml_writes 0)) ∷ (0, of_tml (tml_stores 0 x)) ∷ (0, of_tml (tml_commits 2)) ∷ (0, departs)
+      ∷ (0, announces) ∷ (0, loads_gate) ∷ (0, of_tml tml_begins) ∷ (0, looks_gate) ∷ (0, seizes 0 Tml) ∷ (0, grants) ∷ (0, direct_loads 0)
+      ∷ (0, direct_stores 0 x) ∷ (0, direct_commits Tml 4) ∷ (0, stores_base 4) ∷ (0, stores_done 4) ∷ (0, returns 0 Tml) ∷ (0, departs)
+      ∷ (0, announces) ∷ (0, aims) ∷ (0, takes_gate 1) ∷ (0, departs) ∷ (0, settles) ∷ (0, stores_base 4) ∷ (0, stores_done 4)
+      ∷ (0, installs 0 Serial) ∷ (0, reopens 0 Serial) ∷ (0, announces) ∷ (0, loads_gate) ∷ (0, of_cgl acquires_lock)
+      ∷ (0, of_cgl loads_start) ∷ (0, of_cgl (loads_heap 0)) ∷ (0, of_cgl (loads_undo 0)) ∷ (0, of_cgl (loads_limit false))
+      ∷ (0, of_cgl (stores_heap 0 0)) ∷ (0, of_cgl (stores_back 0 x)) ∷ (0, of_cgl (loads_limit true)) ∷ (0, of_cgl (stores_heap 0 x))
+      ∷ (0, of_cgl (stores_clock 5)) ∷ (0, of_cgl frees_lock) ∷ (0, departs) ∷ []
 
 -- with one caller and from clock 0 these steps are allowed; after the first 24 its attempt is promoted, and the history is in the end these three entries
 abbrev pub CorePromotes : ((ℕ → ℕ) → Type 0) → Config → Type 0
 CorePromotes good c = (x : ℕ) → 0 < c.words → x < 2 ^ 64 → ((y : ℕ) → Keeps good (record { at = 0; value = y } ∷ []) (record { at = 0; value = x } ∷ []))
     → Allowed core_kind (CoreMay good (record c { callers = 1; clock = 0 })) (one_of_each good (record c { callers = 1; clock = 0 }) x) (opening_world (record c { callers = 1; clock = 0 }))
-    × (((run core_kind (CoreMay good (record c { callers = 1; clock = 0 })) (take 24 (one_of_each good (record c { callers = 1; clock = 0 }) x)) (opening_world (record c { callers = 1; clock = 0 }))).views 0).gate.granted ≡ true)
+    × (((run core_kind (CoreMay good (record c { callers = 1; clock = 0 }))
+    (take 24 (one_of_each good (record c { callers = 1; clock = 0 }) x)) (opening_world (record c { callers = 1; clock = 0 }))).views
+    0).gate.granted ≡ true)
     × ((run core_kind (CoreMay good (record c { callers = 1; clock = 0 })) (one_of_each good (record c { callers = 1; clock = 0 }) x) (opening_world (record c { callers = 1; clock = 0 }))).history
-    ≡ record { time = 5; caller = 0; number = 2; reads = record { at = 0; value = x } ∷ []; writes = record { at = 0; value = x } ∷ [] } ∷ record { time = 4; caller = 0; number = 1; reads = record { at = 0; value = x } ∷ []; writes = record { at = 0; value = x } ∷ [] } ∷ record { time = 2; caller = 0; number = 0; reads = record { at = 0; value = 0 } ∷ []; writes = record { at = 0; value = x } ∷ [] } ∷ [])
+    ≡ record { time = 5; caller = 0; number = 2; reads = record { at = 0; value = x } ∷ []; writes = record { at = 0; value = x } ∷ [] }
+    ∷ record { time = 4; caller = 0; number = 1; reads = record { at = 0; value = x } ∷ []; writes = record { at = 0; value = x } ∷ [] }
+    ∷ record { time = 2; caller = 0; number = 0; reads = record { at = 0; value = 0 } ∷ []; writes = record { at = 0; value = x } ∷ [] }
+    ∷ [])
 
 -- caller 0 closes the gate, sees caller 1 idle, loads and stores the clock and installs Serial
 abbrev pub one_install : ℕ → List (ℕ × CoreStep)
@@ -214,7 +231,22 @@ one_cell x = record { at = 0; value = x } ∷ []
 
 -- caller 0 installs RingSW, reads and commits word 0 by the ring, and once more promoted
 abbrev pub two_by_ring : Config → ℕ → List (ℕ × CoreStep)
-two_by_ring c x = (0, announces) ∷ (0, aims) ∷ (0, takes_gate 0) ∷ (0, departs) ∷ (0, settles) ∷ (0, stores_base 0) ∷ (0, stores_done 0) ∷ (0, installs 0 RingSw) ∷ (0, reopens 0 RingSw) ∷ (0, announces) ∷ (0, loads_gate) ∷ (0, of_ring ring_begins) ∷ (0, of_ring (ring_loads 0)) ∷ (0, of_ring ring_looks) ∷ (0, of_ring ring_locks) ∷ (0, of_ring ring_ticks) ∷ (0, of_ring ring_looks) ∷ (0, of_ring (ring_slots c.ring 1 0 (one_cell x))) ∷ (0, of_ring (ring_slots c.ring 1 1 (one_cell x))) ∷ (0, of_ring (ring_slots c.ring 1 2 (one_cell x))) ∷ (0, of_ring (ring_slots c.ring 1 3 (one_cell x))) ∷ (0, of_ring (ring_slots c.ring 1 4 (one_cell x))) ∷ (0, of_ring (ring_slots c.ring 1 5 (one_cell x))) ∷ (0, of_ring (ring_slots c.ring 1 6 (one_cell x))) ∷ (0, of_ring (ring_slots c.ring 1 7 (one_cell x))) ∷ (0, of_ring (ring_slots c.ring 1 8 (one_cell x))) ∷ (0, of_ring (ring_slots c.ring 1 9 (one_cell x))) ∷ (0, of_ring (ring_slots c.ring 1 10 (one_cell x))) ∷ (0, of_ring (ring_slots c.ring 1 11 (one_cell x))) ∷ (0, of_ring (ring_slots c.ring 1 12 (one_cell x))) ∷ (0, of_ring (ring_slots c.ring 1 13 (one_cell x))) ∷ (0, of_ring (ring_slots c.ring 1 14 (one_cell x))) ∷ (0, of_ring (ring_slots c.ring 1 15 (one_cell x))) ∷ (0, of_ring (ring_enters 1)) ∷ (0, of_ring (ring_writes 0 x)) ∷ (0, of_ring (ring_dones 1)) ∷ (0, of_ring ring_frees) ∷ (0, departs) ∷ (0, announces) ∷ (0, loads_gate) ∷ (0, of_ring ring_begins) ∷ (0, of_ring (ring_loads 0)) ∷ (0, looks_gate) ∷ (0, seizes 0 RingSw) ∷ (0, settles) ∷ (0, look_grants) ∷ (0, direct_stores 0 x) ∷ (0, direct_commits RingSw 2) ∷ (0, stores_base 2) ∷ (0, stores_done 2) ∷ (0, returns 0 RingSw) ∷ (0, departs) ∷ []
+two_by_ring c x =
+    (0, announces) ∷ (0, aims) ∷ (0, takes_gate 0) ∷ (0, departs) ∷ (0, settles) ∷ (0, stores_base 0) ∷ (0, stores_done 0)
+    ∷ (0, installs 0 RingSw) ∷ (0, reopens 0 RingSw) ∷ (0, announces) ∷ (0, loads_gate) ∷ (0, of_ring ring_begins)
+    ∷ (0, of_ring (ring_loads 0)) ∷ (0, of_ring ring_looks) ∷ (0, of_ring ring_locks) ∷ (0, of_ring ring_ticks) ∷ (0, of_ring ring_looks)
+    ∷ (0, of_ring (ring_slots c.ring 1 0 (one_cell x))) ∷ (0, of_ring (ring_slots c.ring 1 1 (one_cell x)))
+    ∷ (0, of_ring (ring_slots c.ring 1 2 (one_cell x))) ∷ (0, of_ring (ring_slots c.ring 1 3 (one_cell x)))
+    ∷ (0, of_ring (ring_slots c.ring 1 4 (one_cell x))) ∷ (0, of_ring (ring_slots c.ring 1 5 (one_cell x)))
+    ∷ (0, of_ring (ring_slots c.ring 1 6 (one_cell x))) ∷ (0, of_ring (ring_slots c.ring 1 7 (one_cell x)))
+    ∷ (0, of_ring (ring_slots c.ring 1 8 (one_cell x))) ∷ (0, of_ring (ring_slots c.ring 1 9 (one_cell x)))
+    ∷ (0, of_ring (ring_slots c.ring 1 10 (one_cell x))) ∷ (0, of_ring (ring_slots c.ring 1 11 (one_cell x)))
+    ∷ (0, of_ring (ring_slots c.ring 1 12 (one_cell x))) ∷ (0, of_ring (ring_slots c.ring 1 13 (one_cell x)))
+    ∷ (0, of_ring (ring_slots c.ring 1 14 (one_cell x))) ∷ (0, of_ring (ring_slots c.ring 1 15 (one_cell x))) ∷ (0, of_ring (ring_enters 1))
+    ∷ (0, of_ring (ring_writes 0 x)) ∷ (0, of_ring (ring_dones 1)) ∷ (0, of_ring ring_frees) ∷ (0, departs) ∷ (0, announces)
+    ∷ (0, loads_gate) ∷ (0, of_ring ring_begins) ∷ (0, of_ring (ring_loads 0)) ∷ (0, looks_gate) ∷ (0, seizes 0 RingSw) ∷ (0, settles)
+    ∷ (0, look_grants) ∷ (0, direct_stores 0 x) ∷ (0, direct_commits RingSw 2) ∷ (0, stores_base 2) ∷ (0, stores_done 2)
+    ∷ (0, returns 0 RingSw) ∷ (0, departs) ∷ []
 
 abbrev pub CoreRings : ((ℕ → ℕ) → Type 0) → Config → Type 0
 CoreRings good c = (x : ℕ) → 0 < c.words → x < 2 ^ 64 → ((y : ℕ) → Keeps good (record { at = 0; value = y } ∷ []) (one_cell x))
@@ -224,14 +256,40 @@ CoreRings good c = (x : ℕ) → 0 < c.words → x < 2 ^ 64 → ((y : ℕ) → K
 
 -- caller 0 installs OrecLazy and commits, installs OrecEager, stores in place, is promoted and commits, reads, is promoted after loading the record again and commits
 abbrev pub record_steps : ℕ → List (ℕ × CoreStep)
-record_steps x = (0, announces) ∷ (0, aims) ∷ (0, takes_gate 0) ∷ (0, departs) ∷ (0, settles) ∷ (0, stores_base 0) ∷ (0, stores_done 0) ∷ (0, installs 0 OrecLazy) ∷ (0, reopens 0 OrecLazy) ∷ (0, announces) ∷ (0, loads_gate) ∷ (0, of_orec orec_begins) ∷ (0, of_orec (orec_samples 0 0)) ∷ (0, of_orec (orec_loads 0)) ∷ (0, of_orec (orec_confirms 0)) ∷ (0, of_orec (orec_looks 0)) ∷ (0, of_orec (orec_locks 0 0)) ∷ (0, of_orec (orec_commits 0 (record { at = 0; value = x } ∷ []) (record { at = 0; value = x } ∷ []))) ∷ (0, of_orec (orec_writes_back 0 x)) ∷ (0, of_orec (orec_times 0 1)) ∷ (0, departs) ∷ (0, announces) ∷ (0, aims) ∷ (0, takes_gate 2) ∷ (0, departs) ∷ (0, settles) ∷ (0, stores_base 1) ∷ (0, stores_done 1) ∷ (0, installs 0 OrecEager) ∷ (0, reopens 0 OrecEager) ∷ (0, announces) ∷ (0, loads_gate) ∷ (0, of_orec orec_begins) ∷ (0, of_orec (orec_samples 0 0)) ∷ (0, of_orec (orec_loads 0)) ∷ (0, of_orec (orec_confirms 0)) ∷ (0, of_orec orec_limits) ∷ (0, of_orec (orec_looks 0)) ∷ (0, of_orec (orec_locks 0 1)) ∷ (0, of_orec (orec_saves 0)) ∷ (0, of_orec (orec_places 0 x)) ∷ (0, looks_gate) ∷ (0, seizes 0 OrecEager) ∷ (0, settles) ∷ (0, orec_grants_all) ∷ (0, direct_loads 0) ∷ (0, direct_stores 0 x) ∷ (0, direct_commits OrecEager 2) ∷ (0, direct_releases 0 2) ∷ (0, stores_base 2) ∷ (0, stores_done 2) ∷ (0, returns 0 OrecEager) ∷ (0, departs) ∷ (0, announces) ∷ (0, loads_gate) ∷ (0, of_orec orec_begins) ∷ (0, of_orec (orec_samples 0 0)) ∷ (0, of_orec (orec_loads 0)) ∷ (0, of_orec (orec_confirms 0)) ∷ (0, looks_gate) ∷ (0, seizes 0 OrecEager) ∷ (0, settles) ∷ (0, of_orec (orec_clocks (record { at = 0; value = x } ∷ []))) ∷ (0, orec_grants 0 0) ∷ (0, direct_stores 0 x) ∷ (0, direct_commits OrecEager 3) ∷ (0, stores_base 3) ∷ (0, stores_done 3) ∷ (0, returns 0 OrecEager) ∷ (0, departs) ∷ []
+record_steps x =
+    (0, announces) ∷ (0, aims) ∷ (0, takes_gate 0) ∷ (0, departs) ∷ (0, settles) ∷ (0, stores_base 0) ∷ (0, stores_done 0)
+    ∷ (0, installs 0 OrecLazy) ∷ (0, reopens 0 OrecLazy) ∷ (0, announces) ∷ (0, loads_gate) ∷ (0, of_orec orec_begins)
+    ∷ (0, of_orec (orec_samples 0 0)) ∷ (0, of_orec (orec_loads 0)) ∷ (0, of_orec (orec_confirms 0)) ∷ (0, of_orec (orec_looks 0))
+    ∷ (0, of_orec (orec_locks 0 0)) ∷ (0, of_orec (orec_commits 0 (record { at = 0; value = x } ∷ []) (record { at = 0; value = x } ∷ [])))
+    ∷ (0, of_orec (orec_writes_back 0 x)) ∷ (0, of_orec (orec_times 0 1)) ∷ (0, departs) ∷ (0, announces) ∷ (0, aims) ∷ (0, takes_gate 2)
+    ∷ (0, departs) ∷ (0, settles) ∷ (0, stores_base 1) ∷ (0, stores_done 1) ∷ (0, installs 0 OrecEager) ∷ (0, reopens 0 OrecEager)
+    ∷ (0, announces) ∷ (0, loads_gate) ∷ (0, of_orec orec_begins) ∷ (0, of_orec (orec_samples 0 0)) ∷ (0, of_orec (orec_loads 0))
+    ∷ (0, of_orec (orec_confirms 0)) ∷ (0, of_orec orec_limits) ∷ (0, of_orec (orec_looks 0)) ∷ (0, of_orec (orec_locks 0 1))
+    ∷ (0, of_orec (orec_saves 0)) ∷ (0, of_orec (orec_places 0 x)) ∷ (0, looks_gate) ∷ (0, seizes 0 OrecEager) ∷ (0, settles)
+    ∷ (0, orec_grants_all) ∷ (0, direct_loads 0) ∷ (0, direct_stores 0 x) ∷ (0, direct_commits OrecEager 2) ∷ (0, direct_releases 0 2)
+    ∷ (0, stores_base 2) ∷ (0, stores_done 2) ∷ (0, returns 0 OrecEager) ∷ (0, departs) ∷ (0, announces) ∷ (0, loads_gate)
+    ∷ (0, of_orec orec_begins) ∷ (0, of_orec (orec_samples 0 0)) ∷ (0, of_orec (orec_loads 0)) ∷ (0, of_orec (orec_confirms 0))
+    ∷ (0, looks_gate) ∷ (0, seizes 0 OrecEager) ∷ (0, settles) ∷ (0, of_orec (orec_clocks (record { at = 0; value = x } ∷ [])))
+    ∷ (0, orec_grants 0 0) ∷ (0, direct_stores 0 x) ∷ (0, direct_commits OrecEager 3) ∷ (0, stores_base 3) ∷ (0, stores_done 3)
+    ∷ (0, returns 0 OrecEager) ∷ (0, departs) ∷ []
 
 abbrev pub small_config : Config → Config
 small_config c = record c { callers = 1; records = 1; clock = 0 }
 
 -- with one caller and one record and from clock 0 these steps are allowed, and the history is then these three entries
 abbrev pub CoreRecords : ((ℕ → ℕ) → Type 0) → Config → Type 0
-CoreRecords good c = (x : ℕ) → 0 < c.words → x < 2 ^ 64 → ((y : ℕ) → Keeps good (record { at = 0; value = y } ∷ []) (record { at = 0; value = x } ∷ [])) → Keeps good (record { at = 0; value = x } ∷ []) (record { at = 0; value = x } ∷ record { at = 0; value = x } ∷ [])
+CoreRecords good c =
+    (x : ℕ) → 0 < c.words → x < 2 ^ 64 → ((y : ℕ) → Keeps good (record { at = 0; value = y } ∷ []) (record { at = 0; value = x } ∷ []))
+    → Keeps good (record { at = 0; value = x } ∷ []) (record { at = 0; value = x } ∷ record { at = 0; value = x } ∷ [])
     → Allowed core_kind (CoreMay good (small_config c)) (record_steps x) (opening_world (small_config c))
     × ((run core_kind (CoreMay good (small_config c)) (record_steps x) (opening_world (small_config c))).history
-    ≡ record { time = 3; caller = 0; number = 2; reads = record { at = 0; value = x } ∷ []; writes = record { at = 0; value = x } ∷ [] } ∷ record { time = 2; caller = 0; number = 1; reads = record { at = 0; value = x } ∷ []; writes = record { at = 0; value = x } ∷ record { at = 0; value = x } ∷ [] } ∷ record { time = 1; caller = 0; number = 0; reads = record { at = 0; value = 0 } ∷ []; writes = record { at = 0; value = x } ∷ [] } ∷ [])
+    ≡ record { time = 3; caller = 0; number = 2; reads = record { at = 0; value = x } ∷ []; writes = record { at = 0; value = x } ∷ [] }
+    ∷ record {
+      time = 2;
+      caller = 0;
+      number = 1;
+      reads = record { at = 0; value = x } ∷ [];
+      writes = record { at = 0; value = x } ∷ record { at = 0; value = x } ∷ [];
+    }
+    ∷ record { time = 1; caller = 0; number = 0; reads = record { at = 0; value = 0 } ∷ []; writes = record { at = 0; value = x } ∷ [] }
+    ∷ [])

@@ -12,7 +12,10 @@ use Rattle.stm_rule.specs.Runs.NoteRuns.{Shared, Deed, AllMay, after_deeds}
 use Rattle.stm_rule.specs.Runs.NoteRuns.Deed.{steps, tells, learns}
 
 abbrev pub told_run : ℕ → List (ℕ × Deed)
-told_run x = (0, steps announces) ∷ (0, steps loads_gate) ∷ (0, steps (of_cgl acquires_lock)) ∷ (0, steps (of_cgl loads_start)) ∷ (0, steps (of_cgl (loads_heap 0))) ∷ (0, steps (of_cgl (stores_heap 0 x))) ∷ (0, steps (of_cgl (stores_clock 1))) ∷ (0, steps (of_cgl frees_lock)) ∷ (0, steps departs) ∷ (0, tells) ∷ (1, learns 0) ∷ (1, steps hears) ∷ []
+told_run x =
+    (0, steps announces) ∷ (0, steps loads_gate) ∷ (0, steps (of_cgl acquires_lock)) ∷ (0, steps (of_cgl loads_start))
+    ∷ (0, steps (of_cgl (loads_heap 0))) ∷ (0, steps (of_cgl (stores_heap 0 x))) ∷ (0, steps (of_cgl (stores_clock 1)))
+    ∷ (0, steps (of_cgl frees_lock)) ∷ (0, steps departs) ∷ (0, tells) ∷ (1, learns 0) ∷ (1, steps hears) ∷ []
 
 abbrev pub opening_shared : Config → Shared
 opening_shared c = record { world = opening_world c; notes = [] }

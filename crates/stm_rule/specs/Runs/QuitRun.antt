@@ -15,7 +15,12 @@ use Rattle.stm_rule.specs.Runs.CoreRuns.CoreStep.{announces, loads_gate, departs
 
 -- caller 0 installs OrecEager, takes record 0, stores x in word 0 and takes it back, is promoted and quits
 abbrev pub quitting : ℕ → List (ℕ × CoreStep)
-quitting x = (0, announces) ∷ (0, aims) ∷ (0, takes_gate 0) ∷ (0, departs) ∷ (0, settles) ∷ (0, stores_base 0) ∷ (0, stores_done 0) ∷ (0, installs 0 OrecEager) ∷ (0, reopens 0 OrecEager) ∷ (0, announces) ∷ (0, loads_gate) ∷ (0, of_orec orec_begins) ∷ (0, of_orec (orec_looks 0)) ∷ (0, of_orec (orec_locks 0 0)) ∷ (0, of_orec (orec_saves 0)) ∷ (0, of_orec (orec_places 0 x)) ∷ (0, of_orec (orec_restores 0 0)) ∷ (0, looks_gate) ∷ (0, seizes 0 OrecEager) ∷ (0, settles) ∷ (0, orec_grants_all) ∷ (0, direct_raises_clock 1) ∷ (0, direct_ups 0 1) ∷ (0, returns 0 OrecEager) ∷ (0, departs) ∷ []
+quitting x =
+    (0, announces) ∷ (0, aims) ∷ (0, takes_gate 0) ∷ (0, departs) ∷ (0, settles) ∷ (0, stores_base 0) ∷ (0, stores_done 0)
+    ∷ (0, installs 0 OrecEager) ∷ (0, reopens 0 OrecEager) ∷ (0, announces) ∷ (0, loads_gate) ∷ (0, of_orec orec_begins)
+    ∷ (0, of_orec (orec_looks 0)) ∷ (0, of_orec (orec_locks 0 0)) ∷ (0, of_orec (orec_saves 0)) ∷ (0, of_orec (orec_places 0 x))
+    ∷ (0, of_orec (orec_restores 0 0)) ∷ (0, looks_gate) ∷ (0, seizes 0 OrecEager) ∷ (0, settles) ∷ (0, orec_grants_all)
+    ∷ (0, direct_raises_clock 1) ∷ (0, direct_ups 0 1) ∷ (0, returns 0 OrecEager) ∷ (0, departs) ∷ []
 
 abbrev pub quit_end : ((ℕ → ℕ) → Type 0) → Config → ℕ → World
 quit_end good c x = run core_kind (CoreMay good (small_config c)) (quitting x) (opening_world (small_config c))
@@ -78,13 +83,44 @@ core_quits_lem good c x = (
                                         (
                                           (omega arith, record { holds = refl; quiet = λ k l o. absurd (o (omega arith)) }),
                                           (
-                                            (omega arith, record { all = record { opens = record { has = record { runs = record { phase = refl; algorithm = refl; plain = refl }; inside = refl }; open_yet = refl }; mine = λ a t f. absurd cc; old = λ a t f. absurd cc }; holds = refl; quiet = λ k l o. absurd (o (omega arith)); stores = record { unlocked = refl; inside = λ a t. absurd cc; small = λ a d l. l } }),
+                                            (
+                                              omega arith,
+                                              record {
+                                                all = record {
+                                                  opens = record {
+                                                    has =
+                                                        record { runs = record { phase = refl; algorithm = refl; plain = refl }; inside = refl };
+                                                    open_yet = refl;
+                                                  };
+                                                  mine = λ a t f. absurd cc;
+                                                  old = λ a t f. absurd cc;
+                                                };
+                                                holds = refl;
+                                                quiet = λ k l o. absurd (o (omega arith));
+                                                stores = record { unlocked = refl; inside = λ a t. absurd cc; small = λ a d l. l };
+                                              },
+                                            ),
                                             (
                                               (omega arith, record { phase = refl; granted = refl; named = refl; unwritten = refl; unentered = refl; limit = omega arith; above = λ r t. low r; greatest = (0, refl, refl) }),
                                               (
                                                 (omega arith, record { phase = refl; granted = refl; named = refl; unentered = refl; held = refl; raised = refl; next = refl }),
                                                 (
-                                                  (omega arith, record { phase = refl; holds = refl; named = refl; spared = refl; marked = λ e. absurd cc; unstored = refl; unlocked = refl; disowned = refl; unwritten = refl; uncommitted = refl; plain = λ e. absurd cc }),
+                                                  (
+                                                    omega arith,
+                                                    record {
+                                                      phase = refl;
+                                                      holds = refl;
+                                                      named = refl;
+                                                      spared = refl;
+                                                      marked = λ e. absurd cc;
+                                                      unstored = refl;
+                                                      unlocked = refl;
+                                                      disowned = refl;
+                                                      unwritten = refl;
+                                                      uncommitted = refl;
+                                                      plain = λ e. absurd cc;
+                                                    },
+                                                  ),
                                                   (
                                                     (omega arith, record { phase = refl; reopened = λ e. refl; unlocked = refl; disowned = refl; unwritten = refl; uncommitted = refl; unentered = λ e. refl }),
                                                     tt,

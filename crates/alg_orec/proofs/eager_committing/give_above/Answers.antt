@@ -52,7 +52,9 @@ loop-i-init g c =
 -- the next record is one of those that are held still
 next : (g : _) (c : After-item-r g) → (touches c.loop-i.seat.me.0.view.owned.held c.item-r.result.0 ≡ true) × (c.item-r.result.1 ≡ over c.loop-i.seat.me.0.view.owned.held c.item-r.result.0 0)
 next g c =
-    let p = peeled c.args.local.now.locks.items c.loop-i.i c.loop-i.seat.me.0.view.owned.held c.item-r.result (omega (arith, c.loop-i-test.true, c.count-i-end.ensures.count)) c.count-i-end.ensures.once c.loop-i.invariant.gives.left c.item-r.ensures in
+    let p = peeled c.args.local.now.locks.items c.loop-i.i c.loop-i.seat.me.0.view.owned.held c.item-r.result
+    (omega (arith, c.loop-i-test.true, c.count-i-end.ensures.count)) c.count-i-end.ensures.once c.loop-i.invariant.gives.left
+    c.item-r.ensures in
     (p.0, p.1)
 
 pub overflow_add-version : goal.overflow_add-version
@@ -137,7 +139,8 @@ returns-clause-steps g c =
     let some : 0 < length c.args.local.now.locks.items = search rules in
     let least = c.newest-least.result + 1 in
     let w = c.direct_raise_clock.new.seat.me.0 in
-    let raise_clock = ap (λ (t : List TracedStep). length t) (laws.raise_clock-step_trace f c.args.local.now c.args.seat.now.me.0.view c.requires.view some c.newest-least.result c.newest-least.ensures least c.direct_raise_clock.result w.view
+    let raise_clock = ap (λ (t : List TracedStep). length t) (laws.raise_clock-step_trace f c.args.local.now c.args.seat.now.me.0.view
+    c.requires.view some c.newest-least.result c.newest-least.ensures least c.direct_raise_clock.result w.view
     (tells-of (direct_raise_clock least) (FindsStill f) c.args.seat.now.me.0 c.direct_raise_clock.result w c.direct_raise_clock.ensures.step)) in
     let q = c.loop-i.invariant.gives.steps in
     let most : c.loop-i.i ≤ length c.args.local.now.locks.items = omega (arith, c.loop-i.auto.i-end, c.count-i-end.ensures) in

@@ -15,4 +15,6 @@ leave-requires-clause-fence g c = record { is = ap (λ (y : View). y.gate.fence)
 
 pub returns-clause-aborts : goal.returns-clause-aborts
 returns-clause-aborts g c =
-    laws.takes-back c.args.stm.now.config c.args.local.now c.args.seat.now.me.0.view c.requires.view c.give_back.new.seat.me.0.view c.give_back.ensures.gives_back c.args.caller c.leave.new.seat.me.0.view c.leave.ensures.outside (ap (λ (y : SeatView g.row.K.Denot). y.view) c.leave.ensures.left)
+    laws.takes-back c.args.stm.now.config c.args.local.now c.args.seat.now.me.0.view c.requires.view c.give_back.new.seat.me.0.view
+    c.give_back.ensures.gives_back c.args.caller c.leave.new.seat.me.0.view c.leave.ensures.outside
+    (ap (λ (y : SeatView g.row.K.Denot). y.view) c.leave.ensures.left)

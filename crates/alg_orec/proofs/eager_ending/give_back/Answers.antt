@@ -22,7 +22,8 @@ overflow_add-least g c =
 pub raise_clock-requires-clause-view : goal.raise_clock-requires-clause-view
 raise_clock-requires-clause-view g c =
     let some : 0 < length c.args.local.now.locks.items = search rules in
-    laws.may-raise_clock c.args.stm.now.config c.args.local.now c.args.seat.now.me.0.view c.requires.view some c.newest-least.result c.newest-least.ensures c.restore_all.new.seat.me.0.view c.restore_all.ensures.restores (c.newest-least.result + 1) refl
+    laws.may-raise_clock c.args.stm.now.config c.args.local.now c.args.seat.now.me.0.view c.requires.view some c.newest-least.result
+    c.newest-least.ensures c.restore_all.new.seat.me.0.view c.restore_all.ensures.restores (c.newest-least.result + 1) refl
 
 pub release_all_above-requires-clause-view : goal.release_all_above-requires-clause-view
 release_all_above-requires-clause-view g c =

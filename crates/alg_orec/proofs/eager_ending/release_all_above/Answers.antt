@@ -16,8 +16,13 @@ use Rattle.alg_orec.proofs.eager_ending.release_all_above.Goals.{After-item-r}
 use Rattle.alg_orec.proofs.eager_ending.release_all_above.Goals as goal
 
 -- the next item is one of those that are left
-next : (g : _) (c : After-item-r g) → (touches c.loop-i.seat.me.0.view.owned.held c.item-r.result.0 ≡ true) × (c.item-r.result.1 ≡ over c.loop-i.seat.me.0.view.owned.held c.item-r.result.0 0) × (items (without c.loop-i.seat.me.0.view.owned.held c.item-r.result.0) ≡ drop (c.loop-i.i + 1) c.args.local.now.locks.items)
-next g c = peeled c.args.local.now.locks.items c.loop-i.i c.loop-i.seat.me.0.view.owned.held c.item-r.result (omega (arith, c.loop-i-test.true, c.count-i-end.ensures.count)) c.count-i-end.ensures.once c.loop-i.invariant.left c.item-r.ensures
+next : (g : _) (c : After-item-r g)
+    → (touches c.loop-i.seat.me.0.view.owned.held c.item-r.result.0 ≡ true)
+    × (c.item-r.result.1 ≡ over c.loop-i.seat.me.0.view.owned.held c.item-r.result.0 0)
+    × (items (without c.loop-i.seat.me.0.view.owned.held c.item-r.result.0) ≡ drop (c.loop-i.i + 1) c.args.local.now.locks.items)
+next g c =
+    peeled c.args.local.now.locks.items c.loop-i.i c.loop-i.seat.me.0.view.owned.held c.item-r.result
+    (omega (arith, c.loop-i-test.true, c.count-i-end.ensures.count)) c.count-i-end.ensures.once c.loop-i.invariant.left c.item-r.ensures
 
 pub loop-i-init : goal.loop-i-init
 loop-i-init g c = let k = c.requires.view in record {

@@ -13,7 +13,9 @@ use Rattle.alg_orec.proofs.eager_ending.restore_all.Goals as goal
 
 -- the next item's old value is what is to be restored
 next : (g : _) (c : After-item-a g) → (touches c.args.seat.now.me.0.view.owned.undo c.item-a.result.0 ≡ true) × (c.item-a.result.1 ≡ over c.args.seat.now.me.0.view.owned.undo c.item-a.result.0 0)
-next g c = old-value c.args.local.now.undo.items c.loop-i.i c.args.seat.now.me.0.view.owned.undo c.item-a.result (omega (arith, c.loop-i-test.true, c.count-i-end.ensures.count)) c.count-i-end.ensures.once c.requires.view.undo c.item-a.ensures
+next g c =
+    old-value c.args.local.now.undo.items c.loop-i.i c.args.seat.now.me.0.view.owned.undo c.item-a.result
+    (omega (arith, c.loop-i-test.true, c.count-i-end.ensures.count)) c.count-i-end.ensures.once c.requires.view.undo c.item-a.ensures
 
 pub loop-i-init : goal.loop-i-init
 loop-i-init g c = let k = c.requires.view in record {
@@ -59,7 +61,10 @@ loop-i-preserved g c =
       bare = same.2 ∙ i.bare;
       more = restore_item a x ∷ i.more;
       seat = restored-step c.args.seat.now.me.0 s t i.more a x x step.0 i.seat step.3;
-      ahead = subst (λ (cs : List Cell). IsAhead (c.loop-i.i + 1) us cs) (sym in_place) (ahead-more us c.loop-i.i s.view.owned.in_place c.item-a.result (omega (arith, c.loop-i-test.true, c.count-i-end.ensures.count)) c.item-a.ensures i.ahead);
+      ahead =
+          subst (λ (cs : List Cell). IsAhead (c.loop-i.i + 1) us cs) (sym in_place)
+          (ahead-more us c.loop-i.i s.view.owned.in_place c.item-a.result (omega (arith, c.loop-i-test.true, c.count-i-end.ensures.count))
+          c.item-a.ensures i.ahead);
       steps = (let l = ap (λ (y : SeatView g.row.K.Denot). length y.view.steps.step_trace) step.3 in let q = i.steps in omega arith);
     }
 

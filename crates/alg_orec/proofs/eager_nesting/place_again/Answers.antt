@@ -58,7 +58,8 @@ loop-i-preserved g c =
       more = restore_item a x ∷ i.more;
       seat = again-step c.args.seat.now.me.0 s t i.more a x x step.0 i.seat step.3;
       in_place = ap (λ (y : SeatView g.row.K.Denot). items y.view.owned.in_place) step.3
-          ∙ stored-next c.args.writes.now.items (items c.args.seat.now.me.0.view.owned.in_place) c.loop-i.i s.view.owned.in_place c.item-a.result low c.count-i-end.ensures.once c.requires.again.placed i.in_place c.item-a.ensures;
+          ∙ stored-next c.args.writes.now.items (items c.args.seat.now.me.0.view.owned.in_place) c.loop-i.i s.view.owned.in_place
+          c.item-a.result low c.count-i-end.ensures.once c.requires.again.placed i.in_place c.item-a.ensures;
       small = subst Small (sym (ap (λ (y : SeatView g.row.K.Denot). y.view.owned.in_place) step.3)) (small-more (record { at = a; value = x }) s.view.owned.in_place fits i.small);
     }
 

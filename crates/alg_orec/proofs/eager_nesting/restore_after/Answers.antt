@@ -51,7 +51,8 @@ restore-requires-clause-view g c =
     }
 
 -- the word is one of those that are stored
-peeled-here : (ws : List (ℕ × ℕ)) (count left : ℕ) (cs : List Cell) (a : ℕ) → left < count → count ≤ length ws → Once ws → items cs ≡ take count ws → a ≡ (get_or ws (count - 1) (0, 0)).0 → items (without cs a) ≡ take (count - 1) ws
+peeled-here : (ws : List (ℕ × ℕ)) (count left : ℕ) (cs : List Cell) (a : ℕ) → left < count → count ≤ length ws → Once ws
+    → items cs ≡ take count ws → a ≡ (get_or ws (count - 1) (0, 0)).0 → items (without cs a) ≡ take (count - 1) ws
 peeled-here ws count left cs a above high once in_place is =
     let next : count ≡ (count - 1) + 1 = omega arith in
     (peeled-last ws (count - 1) cs a (omega arith) once (in_place ∙ ap (λ (k : ℕ). take k ws) next) is).2
@@ -73,7 +74,10 @@ loop-count-preserved-in-Some g c =
       bare = same.2 ∙ i.bare;
       more = restore_item a x ∷ i.more;
       seat = restored-step c.args.seat.now.me.0 s t i.more a x x step.0 i.seat step.3;
-      in_place = ap items in_place ∙ peeled-here c.args.writes.now.items c.loop-count.count c.args.left s.view.owned.in_place a above i.high c.count-count.ensures.once i.in_place (ap (λ (q : ℕ × ℕ). q.0) c.item-a.ensures);
+      in_place =
+          ap items in_place
+          ∙ peeled-here c.args.writes.now.items c.loop-count.count c.args.left s.view.owned.in_place a above i.high
+          c.count-count.ensures.once i.in_place (ap (λ (q : ℕ × ℕ). q.0) c.item-a.ensures);
       small = subst Small (sym in_place) (small-without a s.view.owned.in_place i.small);
       low = inl (omega arith);
       high = (let h = i.high in omega arith);

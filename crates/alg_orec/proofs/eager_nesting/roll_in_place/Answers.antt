@@ -58,8 +58,12 @@ invariant_of-desc g c =
     let back = subst (λ (k : ℕ). RestoresAfter k c.desc.inside.local.writes.items c.desc.inside.seat.me.0.view c.restore_after.new.seat.me.0.view) count c.restore_after.ensures.behind in
     let some = some-by c.roll_to.new.self.items c.count_at-left.result count in
     let m : Local = record c.desc.inside.local { writes = c.roll_to.new.self; wrote = nat_lt 0 c.count_at-left.result; depth = c.args.depth } in
-    let who = ap (λ (y : SeatView g.row.K.Denot). y.who) c.place_again.ensures.same.1 ∙ ap (λ (y : SeatView g.row.K.Denot). y.who) c.restore_after.ensures.same.1 in
-    (search rules, stands-after _ _ a c.place_again.new.seat.me.0 m who (laws.stands-rolled k c.requires.algorithm c.requires.revocable c.roll_to.new.self c.args.depth c.requires.low high c.roll_to.ensures.rolled c.roll_to.ensures.prefix _ back _ c.place_again.ensures.again m.wrote some))
+    let who = ap (λ (y : SeatView g.row.K.Denot). y.who) c.place_again.ensures.same.1 ∙ ap (λ (y : SeatView g.row.K.Denot). y.who) c.restore_after.ensures.same.1 in (
+      search rules,
+      stands-after _ _ a c.place_again.new.seat.me.0 m who
+          (laws.stands-rolled k c.requires.algorithm c.requires.revocable c.roll_to.new.self c.args.depth c.requires.low high
+          c.roll_to.ensures.rolled c.roll_to.ensures.prefix _ back _ c.place_again.ensures.again m.wrote some),
+    )
 
 pub returns-clause-rolls : goal.returns-clause-rolls
 returns-clause-rolls g c =

@@ -21,7 +21,10 @@ use Rattle.alg_orec.proofs.eager_reading.confirm.Goals.{After-desc, After-confir
 use Rattle.alg_orec.proofs.eager_reading.confirm.Goals as goal
 
 opened : (g : _) (c : After-desc g) → EagerOpening g.K.MemRule.good c.args.stm.now c.args.desc.now c.desc.inside.seat.me c.desc.inside.number c.desc.inside.local
-opened g c = opens-eager g.K.MemRule.good c.args.stm.now c.desc.inside.number c.desc.inside.local c.desc.inside.seat.me (handle_of c.desc.inside.seat (own_of c.desc.inside.local)) c.desc.view_is c.desc.invariant.0 c.desc.invariant.1 c.requires.stm c.requires.running c.requires.algorithm c.requires.revocable
+opened g c =
+    opens-eager g.K.MemRule.good c.args.stm.now c.desc.inside.number c.desc.inside.local c.desc.inside.seat.me
+    (handle_of c.desc.inside.seat (own_of c.desc.inside.local)) c.desc.view_is c.desc.invariant.0 c.desc.invariant.1 c.requires.stm
+    c.requires.running c.requires.algorithm c.requires.revocable
 
 fresh : (g : _) (c : After-desc g) → laws.IsUnread c.desc.inside.local c.args.a
 fresh g c = laws.unread-new _ _ _ _ _ (opened g c).runs c.args.a (of-view _ _ (opened g c).call.opening (λ n v. IsNew c.args.a v) c.requires.fresh)
@@ -29,7 +32,10 @@ fresh g c = laws.unread-new _ _ _ _ _ (opened g c).runs c.args.a (of-view _ _ (o
 loaded : (g : _) (c : After-desc g) → IsLoaded c.args.stm.now.config c.args.a c.args.word c.args.x c.desc.inside.seat.me.0.view
 loaded g c = of-seen _ _ (opened g c).call.opening (λ (n : ℕ) (v : View). IsLoaded c.args.stm.now.config c.args.a c.args.word c.args.x v) c.requires.loaded
 
-again : (g : _) (c : After-confirm-after g) → Tells (orec_confirm (c.args.a % c.args.stm.now.config.records)) (FindsAgain (good_of g.K.MemRule.good c.args.stm.now.config c.args.stm.now.rule) c.args.stm.now.config c.desc.inside.number (c.args.a % c.args.stm.now.config.records))
+again : (g : _) (c : After-confirm-after g)
+    → Tells (orec_confirm (c.args.a % c.args.stm.now.config.records))
+    (FindsAgain (good_of g.K.MemRule.good c.args.stm.now.config c.args.stm.now.rule) c.args.stm.now.config c.desc.inside.number
+    (c.args.a % c.args.stm.now.config.records))
     c.desc.inside.seat.me.0.view c.confirm-after.result c.confirm-after.new.seat.me.0.view
 again g c =
     let r = c.args.a % c.args.stm.now.config.records in
@@ -50,8 +56,11 @@ returns-then-after-word-clause-confirms g c =
     let at = goal.at.returns-then-after-word-clause-confirms g c in
     let o = opened g at.After-desc in
     let cause = causes.Moved (c.args.a % c.args.stm.now.config.records) c.args.word c.confirm-after.result in
-    answers-ended _ _ o.call (λ (n : ℕ) (v w : CallerState). Confirms (g.K.MemRule.good c.args.stm.now.rule) c.args.stm.now.config n c.args.a c.args.word c.args.x (reads.Conflict cause) v w) c.abort.new.seat.me.0.view _ c.abort.ensures.idle
-    (laws.finds-moved _ _ _ _ _ o.runs _ _ _ c.requires.inside (loaded g at.After-desc) c.confirm-after.result _ (again g at.After-confirm-after) (search rules) o.call.opening.low _ c.abort.ensures.aborts)
+    rw c.requires.record (answers-ended _ _ o.call
+    (λ (n : ℕ) (v w : CallerState).
+    Confirms (g.K.MemRule.good c.args.stm.now.rule) c.args.stm.now.config n c.args.a c.args.word c.args.x (reads.Conflict cause) v w)
+    c.abort.new.seat.me.0.view _ c.abort.ensures.idle
+    (laws.finds-moved _ _ _ _ _ o.runs _ _ _ c.requires.inside (loaded g at.After-desc) c.confirm-after.result _ (again g at.After-confirm-after) (search rules) o.call.opening.low _ c.abort.ensures.aborts))
 
 pub push_at-requires-clause-place : goal.push_at-requires-clause-place
 push_at-requires-clause-place g c =
@@ -69,7 +78,8 @@ invariant_of-desc-2 g c =
     let at = goal.at.invariant_of-desc-2 g c in
     let o = opened g at.After-desc in
     stays-read _ _ o c.args.a _ c.confirm-after.new.seat.me _ c.requires.inside (fresh g at.After-desc) c.push_at.ensures
-    (laws.loads-same _ _ _ _ _ o.runs _ _ _ c.requires.inside (loaded g at.After-desc) c.confirm-after.result _ (again g at.After-confirm-after) (search rules)) c.confirm-after.ensures.step.3 c.confirm-after.ensures.same.2
+    (laws.loads-same _ _ _ _ _ o.runs _ _ _ c.requires.inside (loaded g at.After-desc) c.confirm-after.result _
+    (again g at.After-confirm-after) (search rules)) c.confirm-after.ensures.step.3 c.confirm-after.ensures.same.2
 
 pub returns-clause-confirms : goal.returns-clause-confirms
 returns-clause-confirms g c =

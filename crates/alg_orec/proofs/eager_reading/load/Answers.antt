@@ -17,7 +17,10 @@ use Rattle.alg_orec.proofs.eager_reading.load.Goals.{After-desc, After-load}
 use Rattle.alg_orec.proofs.eager_reading.load.Goals as goal
 
 opened : (g : _) (c : After-desc g) → EagerOpening g.K.MemRule.good c.args.stm.now c.args.desc.now c.desc.inside.seat.me c.desc.inside.number c.desc.inside.local
-opened g c = opens-eager g.K.MemRule.good c.args.stm.now c.desc.inside.number c.desc.inside.local c.desc.inside.seat.me (handle_of c.desc.inside.seat (own_of c.desc.inside.local)) c.desc.view_is c.desc.invariant.0 c.desc.invariant.1 c.requires.stm c.requires.running c.requires.algorithm c.requires.revocable
+opened g c =
+    opens-eager g.K.MemRule.good c.args.stm.now c.desc.inside.number c.desc.inside.local c.desc.inside.seat.me
+    (handle_of c.desc.inside.seat (own_of c.desc.inside.local)) c.desc.view_is c.desc.invariant.0 c.desc.invariant.1 c.requires.stm
+    c.requires.running c.requires.algorithm c.requires.revocable
 
 loaded : (g : _) (c : After-load g) → Tells (orec_load c.args.a) Nothing c.desc.inside.seat.me.0.view c.load.result c.load.new.seat.me.0.view
 loaded g c = tells-of (orec_load c.args.a) Nothing _ _ _ c.load.ensures.step
@@ -39,11 +42,15 @@ pub returns-clause-goes : goal.returns-clause-goes
 returns-clause-goes g c =
     let at = goal.at.returns-clause-goes g c in
     let o = opened g at.After-desc in
-    shows _ _ o.call.opening (λ (n : ℕ) (v w : CallerState). GoesOnReading (g.K.MemRule.good c.args.stm.now.rule) c.args.stm.now.config n c.args.a (load_of (Heap c.args.a) c.load.result ∷ []) v w) c.load.new.seat.me.0.view c.desc.inside.local refl
+    shows _ _ o.call.opening
+    (λ (n : ℕ) (v w : CallerState).
+    GoesOnReading (g.K.MemRule.good c.args.stm.now.rule) c.args.stm.now.config n c.args.a (load_of (Heap c.args.a) c.load.result ∷ []) v w)
+    c.load.new.seat.me.0.view c.desc.inside.local refl
     (laws.reads-loaded _ _ _ _ _ o.runs c.args.a c.load.result _ (loaded g at.After-load) (of-view _ _ o.call.opening (λ n v. IsNew c.args.a v) c.requires.fresh))
 
 pub returns-clause-loads : goal.returns-clause-loads
 returns-clause-loads g c =
     let at = goal.at.returns-clause-loads g c in
     let o = opened g at.After-desc in
-    subst (λ (v : View). LoadsSampled c.args.stm.now.config c.args.a c.load.result v c.load.new.seat.me.0.view) (sym o.call.opening.view) (laws.is-loaded _ _ _ _ _ o.runs c.args.a c.load.result _ (loaded g at.After-load))
+    subst (λ (v : View). LoadsSampled c.args.stm.now.config c.args.a c.load.result v c.load.new.seat.me.0.view) (sym o.call.opening.view)
+    (laws.is-loaded _ _ _ _ _ o.runs c.args.a c.load.result _ (loaded g at.After-load))

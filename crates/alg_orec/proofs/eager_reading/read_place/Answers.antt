@@ -6,7 +6,10 @@ use Rattle.alg_orec.proofs.eager_reading.read_place.Goals.{After-desc}
 use Rattle.alg_orec.proofs.eager_reading.read_place.Goals as goal
 
 opened : (g : _) (c : After-desc g) → EagerOpening g.K.MemRule.good c.args.stm.now c.args.desc.now c.desc.inside.seat.me c.desc.inside.number c.desc.inside.local
-opened g c = opens-eager g.K.MemRule.good c.args.stm.now c.desc.inside.number c.desc.inside.local c.desc.inside.seat.me (handle_of c.desc.inside.seat (own_of c.desc.inside.local)) c.desc.view_is c.desc.invariant.0 c.desc.invariant.1 c.requires.stm c.requires.running c.requires.algorithm c.requires.revocable
+opened g c =
+    opens-eager g.K.MemRule.good c.args.stm.now c.desc.inside.number c.desc.inside.local c.desc.inside.seat.me
+    (handle_of c.desc.inside.seat (own_of c.desc.inside.local)) c.desc.view_is c.desc.invariant.0 c.desc.invariant.1 c.requires.stm
+    c.requires.running c.requires.algorithm c.requires.revocable
 
 pub returns : goal.returns
 returns g c =

@@ -18,5 +18,6 @@ returns-clause-stores g c =
     let old = c.save-old.result in
     let s = c.save-old.new.seat.me.0 in
     let w = c.place.new.seat.me.0 in
-    laws.stores-first c.args.stm.now.config c.args.a c.args.x c.args.local.now c.args.seat.now.me.0.view c.requires.view old s.view (tells-of (orec_save c.args.a) Nothing c.args.seat.now.me.0 old s c.save-old.ensures.step)
+    laws.stores-first c.args.stm.now.config c.args.a c.args.x c.args.local.now c.args.seat.now.me.0.view c.requires.view old s.view
+    (tells-of (orec_save c.args.a) Nothing c.args.seat.now.me.0 old s c.save-old.ensures.step)
     w.view c.push.new.self c.push-2.new.self c.push.result c.push-2.result (tells-of (orec_place c.args.a c.args.x) Nothing s c.args.x w c.place.ensures.step) c.push.ensures c.push-2.ensures

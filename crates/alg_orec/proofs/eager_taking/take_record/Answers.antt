@@ -15,29 +15,41 @@ use Rattle.alg_orec.proofs.Eager.EagerTakingLaws as laws
 use Rattle.alg_orec.proofs.eager_taking.take_record.Goals.{After-limit-clock, In-Ok, After-lock-found}
 use Rattle.alg_orec.proofs.eager_taking.take_record.Goals as goal
 
-clocked : (g : _) (c : After-limit-clock g) → laws.HasClock (good_of g.K.MemRule.good c.args.stm.now.config c.args.stm.now.rule) c.args.stm.now.config c.args.caller c.args.a c.args.local.now c.args.seat.now.me.0.view c.limit-clock.result c.limit-clock.new.seat.me.0.view
+clocked : (g : _) (c : After-limit-clock g)
+    → laws.HasClock (good_of g.K.MemRule.good c.args.stm.now.config c.args.stm.now.rule) c.args.stm.now.config c.args.caller c.args.a
+    c.args.local.now c.args.seat.now.me.0.view c.limit-clock.result c.limit-clock.new.seat.me.0.view
 clocked g c =
-    let none : item_at (c.args.a % c.args.stm.now.config.records) c.args.local.now.locks.items ≡ None = search rules in
-    record { low = c.requires.caller; can = c.requires.view; unheld = unheld-of _ _ _ c.requires.view.can.locks none; tells = tells-of orec_limit (FindsClock c.args.stm.now.config) _ _ _ c.limit-clock.ensures.step }
+    let none : item_at c.record_of-index.result c.args.local.now.locks.items ≡ None = search rules in
+    let its = subst (λ (r : ℕ). item_at r c.args.local.now.locks.items ≡ None) c.record_of-index.ensures none in
+    record { low = c.requires.caller; can = c.requires.view; unheld = unheld-of _ _ _ c.requires.view.can.locks its; tells = tells-of orec_limit (FindsClock c.args.stm.now.config) _ _ _ c.limit-clock.ensures.step }
 
-free : (g : _) (c : In-Ok g) → laws.HasFree (good_of g.K.MemRule.good c.args.stm.now.config c.args.stm.now.rule) c.args.stm.now.config c.args.caller c.args.a c.args.local.now c.limit-clock.result c.limit-clock.new.seat.me.0.view c.in-Ok.word c.sample_valid.new.local c.sample_valid.new.seat.me.0.view
+free : (g : _) (c : In-Ok g)
+    → laws.HasFree (good_of g.K.MemRule.good c.args.stm.now.config c.args.stm.now.rule) c.args.stm.now.config c.args.caller c.args.a
+    c.args.local.now c.limit-clock.result c.limit-clock.new.seat.me.0.view c.in-Ok.word c.sample_valid.new.local
+    c.sample_valid.new.seat.me.0.view
 free g c = record { below = search rules; sampled = c.in-Ok.ensures.samples }
 
 -- the version that the record was locked at is that of its word
 version : (g : _) (c : After-lock-found g) → c.version_of-version.result ≡ version_of c.in-Ok.word
 version g c = search rules
 
-locked : (g : _) (c : After-lock-found g) → Tells (orec_lock c.args.caller (c.args.a % c.args.stm.now.config.records) (version_of c.in-Ok.word)) (FindsRecord c.args.stm.now.config c.args.caller (c.args.a % c.args.stm.now.config.records)) c.sample_valid.new.seat.me.0.view c.lock-found.result c.lock-found.new.seat.me.0.view
+locked : (g : _) (c : After-lock-found g)
+    → Tells (orec_lock c.args.caller (c.args.a % c.args.stm.now.config.records) (version_of c.in-Ok.word))
+    (FindsRecord c.args.stm.now.config c.args.caller (c.args.a % c.args.stm.now.config.records)) c.sample_valid.new.seat.me.0.view
+    c.lock-found.result c.lock-found.new.seat.me.0.view
 locked g c =
     let r = c.args.a % c.args.stm.now.config.records in
     subst (λ (x : ℕ). Tells (orec_lock c.args.caller r x) (FindsRecord c.args.stm.now.config c.args.caller r) c.sample_valid.new.seat.me.0.view c.lock-found.result c.lock-found.new.seat.me.0.view) (version g c)
-    (subst (λ (i : ℕ). Tells (orec_lock c.args.caller i c.version_of-version.result) (FindsRecord c.args.stm.now.config c.args.caller i) c.sample_valid.new.seat.me.0.view c.lock-found.result c.lock-found.new.seat.me.0.view) c.record_of-index.ensures
+    (subst (λ (i : ℕ).
+    Tells (orec_lock c.args.caller i c.version_of-version.result) (FindsRecord c.args.stm.now.config c.args.caller i)
+    c.sample_valid.new.seat.me.0.view c.lock-found.result c.lock-found.new.seat.me.0.view) c.record_of-index.ensures
     (tells-of (orec_lock c.args.caller c.record_of-index.result c.version_of-version.result) (FindsRecord c.args.stm.now.config c.args.caller c.record_of-index.result) _ _ _ c.lock-found.ensures.step))
 
 pub returns-then-is_some-clause-takes : goal.returns-then-is_some-clause-takes
 returns-then-is_some-clause-takes g c =
-    let some : is_some (item_at (c.args.a % c.args.stm.now.config.records) c.args.local.now.locks.items) ≡ true = search rules in
-    laws.taken-before c.requires.view (laws.held-where _ _ _ c.requires.view.can.locks some)
+    let some : is_some (item_at c.record_of-index.result c.args.local.now.locks.items) ≡ true = search rules in
+    let its = subst (λ (r : ℕ). is_some (item_at r c.args.local.now.locks.items) ≡ true) c.record_of-index.ensures some in
+    laws.taken-before c.requires.view (laws.held-where _ _ _ c.requires.view.can.locks its)
 
 pub limit-clock-requires-clause-view : goal.limit-clock-requires-clause-view
 limit-clock-requires-clause-view g c = c.requires.view.can.opens.has

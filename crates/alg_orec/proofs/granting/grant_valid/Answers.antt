@@ -62,7 +62,8 @@ returns-in-Err-judge-clause-promotes g c =
     let second = tells-of (orec_clock (to_validate (home_of f) c.settle-time.new.seat.me.0.view)) (FindsClock f) _ _ _ c.clock.ensures.step in
     let t = tells-of (orec_grant r c.item-b.result.0) (FindsGrant (good_of g.K.MemRule.good f c.args.stm.now.rule) f c.args.caller r) _ _ _ c.grant-word.ensures.step in
     subst (λ (y : causes.the_data). IsNotPromoted f c.args.caller (irrevs.Conflict y) c.args.local.now c.args.seat.now.me.0.view c.args.local.now c.grant-word.new.seat.me.0.view) (sym c.in-Err-judge.ensures.0)
-    (laws.refused-last (g.K.MemRule.good c.args.stm.now.rule) _ _ c.requires.caller _ _ c.requires.attempt _ _ first _ _ c.requires.last _ second _ c.in_default.ensures.passes c.item-b.result.0 _ _ t c.in-Err-judge.ensures.1 (ap (λ (w : ℕ × ℕ). w.0) c.item-b.ensures))
+    (laws.refused-last (g.K.MemRule.good c.args.stm.now.rule) _ _ c.requires.caller _ _ c.requires.attempt _ _ first _ _ c.requires.last _
+    second _ c.in_default.ensures.passes c.item-b.result.0 _ _ t c.in-Err-judge.ensures.1 (ap (λ (w : ℕ × ℕ). w.0) c.item-b.ensures))
 
 pub returns-clause-promotes : goal.returns-clause-promotes
 returns-clause-promotes g c =

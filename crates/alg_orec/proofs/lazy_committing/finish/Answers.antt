@@ -39,7 +39,12 @@ leave-requires-clause-view g c =
     }
 
 pub leave-requires-clause-fence : goal.leave-requires-clause-fence
-leave-requires-clause-fence g c = record { is = ap (λ (y : View). y.gate.fence) c.release_all.ensures.releases.is ∙ (ap (λ (y : View). y.gate.fence) c.write_back_all.ensures.pays.is ∙ c.requires.fence.is); fits = c.requires.fence.fits }
+leave-requires-clause-fence g c =
+    record {
+      is = ap (λ (y : View). y.gate.fence) c.release_all.ensures.releases.is
+          ∙ (ap (λ (y : View). y.gate.fence) c.write_back_all.ensures.pays.is ∙ c.requires.fence.is);
+      fits = c.requires.fence.fits;
+    }
 
 pub returns-clause-finishes : goal.returns-clause-finishes
 returns-clause-finishes g c =

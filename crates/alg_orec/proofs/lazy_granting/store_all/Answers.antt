@@ -25,7 +25,8 @@ direct_store-requires-clause-view g c =
 pub direct_store-requires-clause-spared : goal.direct_store-requires-clause-spared
 direct_store-requires-clause-spared g c =
     let low : c.loop-i.i < length c.args.local.now.writes.items = omega (arith, c.loop-i-test.true, c.count-i-end.ensures.count) in
-    ap (λ (y : SeatView g.row.K.Denot). fenced y.view.gate.fence c.item-a.result.0) c.loop-i.invariant.seat ∙ c.requires.view.spared c.item-a.result.0 (rw c.item-a.ensures (cells-there c.args.local.now.writes.items c.loop-i.i low))
+    ap (λ (y : SeatView g.row.K.Denot). fenced y.view.gate.fence c.item-a.result.0) c.loop-i.invariant.seat
+    ∙ c.requires.view.spared c.item-a.result.0 (rw c.item-a.ensures (cells-there c.args.local.now.writes.items c.loop-i.i low))
 
 pub loop-i-preserved : goal.loop-i-preserved
 loop-i-preserved g c =
@@ -45,7 +46,12 @@ loop-i-preserved g c =
       bare = same.2 ∙ i.bare;
       more = store_item a c.item-a.result.1 ∷ i.more;
       seat = stored-step c.args.seat.now.me.0 s t i.more a c.item-a.result.1 step.0 i.seat step.3;
-      stores = stores ∙ (ap (λ (cs : List Cell). record { at = a; value = c.item-a.result.1 } ∷ cs) i.stores ∙ (ap (λ (p : ℕ × ℕ). cell p ∷ cells_of (take c.loop-i.i ws)) c.item-a.ensures ∙ sym (ap (λ (k : ℕ). cells_of (take k ws)) (let e : c.loop-i.i + 1 ≡ suc c.loop-i.i = omega arith in e) ∙ cells-next ws c.loop-i.i low)));
+      stores =
+          stores
+          ∙ (ap (λ (cs : List Cell). record { at = a; value = c.item-a.result.1 } ∷ cs) i.stores
+          ∙ (ap (λ (p : ℕ × ℕ). cell p ∷ cells_of (take c.loop-i.i ws)) c.item-a.ensures
+          ∙ sym (ap (λ (k : ℕ). cells_of (take k ws)) (let e : c.loop-i.i + 1 ≡ suc c.loop-i.i = omega arith in e)
+          ∙ cells-next ws c.loop-i.i low)));
     }
 
 pub returns-clause-stores : goal.returns-clause-stores

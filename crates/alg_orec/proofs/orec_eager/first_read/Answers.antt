@@ -128,7 +128,8 @@ returns-in-Ok-Some-clause-read g c =
     let d = c.args.desc.now in
     let s = c.sample.new.desc in
     let sampled = subst (λ (m : Option ℕ). Samples good f (number d) c.args.a (Ok m) d s) c.in-Ok-Some.field-0-is c.in-Ok-Some.ensures.samples in
-    laws.reads-together good f c.args.a c.in-Ok-Some.word c.load-x.result c.confirm.result d s c.load-x.new.desc c.confirm.new.desc c.sample.ensures.same c.load-x.ensures.same c.requires.algorithm sampled.0 c.load-x.ensures.goes c.confirm.ensures.confirms
+    laws.reads-together good f c.args.a c.in-Ok-Some.word c.load-x.result c.confirm.result d s c.load-x.new.desc c.confirm.new.desc
+    c.sample.ensures.same c.load-x.ensures.same c.requires.algorithm sampled.0 c.load-x.ensures.goes c.confirm.ensures.confirms
 
 pub read_held-requires-clause-running : goal.read_held-requires-clause-running
 read_held-requires-clause-running g c =

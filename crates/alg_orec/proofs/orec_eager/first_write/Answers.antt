@@ -20,7 +20,10 @@ use Rattle.alg_orec.proofs.orec_eager.first_write.Goals.{After-desc, After-store
 use Rattle.alg_orec.proofs.orec_eager.first_write.Goals as goal
 
 opened : (g : _) (c : After-desc g) → EagerOpening g.K.MemRule.good c.args.stm.now c.args.desc.now c.desc.inside.seat.me c.desc.inside.number c.desc.inside.local
-opened g c = opens-eager g.K.MemRule.good c.args.stm.now c.desc.inside.number c.desc.inside.local c.desc.inside.seat.me (handle_of c.desc.inside.seat (own_of c.desc.inside.local)) c.desc.view_is c.desc.invariant.0 c.desc.invariant.1 c.requires.stm c.requires.running c.requires.algorithm c.requires.revocable
+opened g c =
+    opens-eager g.K.MemRule.good c.args.stm.now c.desc.inside.number c.desc.inside.local c.desc.inside.seat.me
+    (handle_of c.desc.inside.seat (own_of c.desc.inside.local)) c.desc.view_is c.desc.invariant.0 c.desc.invariant.1 c.requires.stm
+    c.requires.running c.requires.algorithm c.requires.revocable
 
 unlogged : (g : _) (c : After-desc g) → item_at c.args.a c.desc.inside.local.writes.items ≡ None
 unlogged g c = unwritten _ _ (opened g c).call c.args.a c.requires.unwritten
@@ -35,8 +38,12 @@ refused : (g : _) (c : In-Err g) → RunsEager (g.K.MemRule.good c.args.stm.now.
     → (c.take_record.new.local ≡ record c.desc.inside.local { start = c.take_record.new.local.start }) × (c.take_record.new.seat.me.0.view.gate ≡ c.desc.inside.seat.me.0.view.gate)
 refused g c runs = laws.refused-local _ _ _ _ _ runs c.args.a c.in-Err.refusal _ _ c.in-Err.ensures.takes
 
-stores : (g : _) (c : After-store_first g) → RunsEager (g.K.MemRule.good c.args.stm.now.rule) c.args.stm.now.config c.desc.inside.number c.desc.inside.local c.desc.inside.seat.me.0.view → item_at c.args.a c.desc.inside.local.writes.items ≡ None → item_at c.args.a c.desc.inside.local.undo.items ≡ None
-    → laws.Stores (g.K.MemRule.good c.args.stm.now.rule) c.args.stm.now.config c.desc.inside.number c.desc.inside.local c.desc.inside.seat.me.0.view c.args.a c.args.x c.store_first.new.local c.store_first.new.seat.me.0.view
+stores : (g : _) (c : After-store_first g)
+    → RunsEager (g.K.MemRule.good c.args.stm.now.rule) c.args.stm.now.config c.desc.inside.number c.desc.inside.local
+    c.desc.inside.seat.me.0.view → item_at c.args.a c.desc.inside.local.writes.items ≡ None
+    → item_at c.args.a c.desc.inside.local.undo.items ≡ None
+    → laws.Stores (g.K.MemRule.good c.args.stm.now.rule) c.args.stm.now.config c.desc.inside.number c.desc.inside.local
+    c.desc.inside.seat.me.0.view c.args.a c.args.x c.store_first.new.local c.store_first.new.seat.me.0.view
 stores g c runs none new =
     let room : length c.desc.inside.local.undo.items ≢ c.desc.inside.local.undo.len = search rules in
     let most : length c.desc.inside.local.undo.items ≤ c.desc.inside.local.undo.len = search rules in
@@ -46,7 +53,10 @@ pub returns-then-count-limit-clause-write : goal.returns-then-count-limit-clause
 returns-then-count-limit-clause-write g c =
     let at = (goal.at.returns-then-count-limit-clause-write g c).After-desc in
     let o = opened g at in
-    answers-ended _ _ o.call (λ (n : ℕ) (v w : CallerState). HasWritten (g.K.MemRule.good c.args.stm.now.rule) c.args.stm.now.config n c.args.a c.args.x (writes.Full c.len-limit.result) v w) c.abort.new.seat.me.0.view _ c.abort.ensures.idle
+    answers-ended _ _ o.call
+    (λ (n : ℕ) (v w : CallerState).
+    HasWritten (g.K.MemRule.good c.args.stm.now.rule) c.args.stm.now.config n c.args.a c.args.x (writes.Full c.len-limit.result) v w)
+    c.abort.new.seat.me.0.view _ c.abort.ensures.idle
     (rw c.len-limit.ensures (laws.writes-full _ _ _ _ _ o.runs c.args.a c.args.x _ (search rules) (search rules) c.abort.ensures.aborts))
 
 pub abort-requires-clause-view : goal.abort-requires-clause-view
@@ -78,21 +88,27 @@ pub returns-in-Err-clause-write : goal.returns-in-Err-clause-write
 returns-in-Err-clause-write g c =
     let at = goal.at.returns-in-Err-clause-write g c in
     let o = opened g at.After-desc in
-    answers-moved _ _ o.call (λ (n : ℕ) (v w : CallerState). HasWritten (g.K.MemRule.good c.args.stm.now.rule) c.args.stm.now.config n c.args.a c.args.x c.in-Err.refusal v w) c.take_record.new.local c.abort-in-Err.new.seat.me.0.view _ (refused g at.In-Err o.runs).0 c.abort-in-Err.ensures.idle
+    answers-moved _ _ o.call
+    (λ (n : ℕ) (v w : CallerState).
+    HasWritten (g.K.MemRule.good c.args.stm.now.rule) c.args.stm.now.config n c.args.a c.args.x c.in-Err.refusal v w)
+    c.take_record.new.local c.abort-in-Err.new.seat.me.0.view _ (refused g at.In-Err o.runs).0 c.abort-in-Err.ensures.idle
     (laws.writes-refusal _ _ _ _ _ o.runs c.args.a c.args.x c.in-Err.refusal _ c.take_record.new.seat.me.0.view _ (search rules) (search rules) c.in-Err.ensures.takes c.abort-in-Err.ensures.aborts)
 
 pub store_first-requires-clause-view : goal.store_first-requires-clause-view
 store_first-requires-clause-view g c =
     let at = (goal.at.store_first-requires-clause-view g c).After-desc in
     let o = opened g at in
-    laws.may-store _ _ _ _ _ o.runs c.args.a _ _ (of-view _ _ o.call.opening (λ (n : ℕ) (v : CallerState). fenced v.fence c.args.a ≡ false) c.requires.spared) o.lengths (unlogged g at) (search rules) (search rules) c.in_default.ensures.takes
+    laws.may-store _ _ _ _ _ o.runs c.args.a _ _
+    (of-view _ _ o.call.opening (λ (n : ℕ) (v : CallerState). fenced v.fence c.args.a ≡ false) c.requires.spared) o.lengths (unlogged g at)
+    (search rules) (search rules) c.in_default.ensures.takes
 
 pub invariant_of-desc-2 : goal.invariant_of-desc-2
 invariant_of-desc-2 g c =
     let at = goal.at.invariant_of-desc-2 g c in
     let o = opened g at.After-desc in
     stays-stored _ _ o c.args.a c.args.x _ c.store_first.new.seat.me (stores g at.After-store_first o.runs (unlogged g at.After-desc) (search rules)) c.requires.inside (search rules)
-    (laws.seat-then c.desc.inside.seat.me.0 c.take_record.new.seat.me.0 c.store_first.new.seat.me.0 c.take_record.ensures.same.1 c.store_first.ensures.same.1) (c.store_first.ensures.same.0.2 ∙ c.take_record.ensures.same.0.2)
+    (laws.seat-then c.desc.inside.seat.me.0 c.take_record.new.seat.me.0 c.store_first.new.seat.me.0 c.take_record.ensures.same.1
+    c.store_first.ensures.same.1) (c.store_first.ensures.same.0.2 ∙ c.take_record.ensures.same.0.2)
 
 pub returns-clause-write : goal.returns-clause-write
 returns-clause-write g c =

@@ -18,7 +18,10 @@ use Rattle.alg_orec.proofs.orec_eager.read_held.Goals.{After-desc, After-own_loa
 use Rattle.alg_orec.proofs.orec_eager.read_held.Goals as goal
 
 opened : (g : _) (c : After-desc g) → EagerOpening g.K.MemRule.good c.args.stm.now c.args.desc.now c.desc.inside.seat.me c.desc.inside.number c.desc.inside.local
-opened g c = opens-eager g.K.MemRule.good c.args.stm.now c.desc.inside.number c.desc.inside.local c.desc.inside.seat.me (handle_of c.desc.inside.seat (own_of c.desc.inside.local)) c.desc.view_is c.desc.invariant.0 c.desc.invariant.1 c.requires.stm c.requires.running c.requires.algorithm c.requires.revocable
+opened g c =
+    opens-eager g.K.MemRule.good c.args.stm.now c.desc.inside.number c.desc.inside.local c.desc.inside.seat.me
+    (handle_of c.desc.inside.seat (own_of c.desc.inside.local)) c.desc.view_is c.desc.invariant.0 c.desc.invariant.1 c.requires.stm
+    c.requires.running c.requires.algorithm c.requires.revocable
 
 fresh : (g : _) (c : After-desc g) → laws.IsUnread c.desc.inside.local c.args.a
 fresh g c = laws.unread-new _ _ _ _ _ (opened g c).runs c.args.a (of-view _ _ (opened g c).call.opening (λ n v. IsNew c.args.a v) c.requires.fresh)
@@ -27,7 +30,8 @@ may-load : (g : _) (c : After-desc g) → CanLoadWord c.args.stm.now.config c.ar
 may-load g c = eager.may-load _ _ _ _ _ (opened g c).runs c.args.a c.requires.inside (fresh g c).unwritten
 
 loaded : (g : _) (c : After-own_load-x g) → CanLoadWord c.args.stm.now.config c.args.a c.desc.inside.local c.desc.inside.seat.me.0.view
-    → HasLoaded (good_of g.K.MemRule.good c.args.stm.now.config c.args.stm.now.rule) c.args.stm.now.config c.desc.inside.number c.args.a c.own_load-x.result c.desc.inside.local c.desc.inside.seat.me.0.view c.desc.inside.local c.own_load-x.new.seat.me.0.view
+    → HasLoaded (good_of g.K.MemRule.good c.args.stm.now.config c.args.stm.now.rule) c.args.stm.now.config c.desc.inside.number c.args.a
+    c.own_load-x.result c.desc.inside.local c.desc.inside.seat.me.0.view c.desc.inside.local c.own_load-x.new.seat.me.0.view
 loaded g c can =
     let rule = good_of g.K.MemRule.good c.args.stm.now.config c.args.stm.now.rule in
     taking.loads-own rule _ c.desc.inside.number c.args.a _ _ can _ _ (tells-of (orec_own_load c.args.a) (OrecOwnLoads rule c.args.stm.now.config c.args.a) _ _ _ c.own_load-x.ensures.step)
@@ -35,7 +39,8 @@ loaded g c can =
 pub own_load-x-requires-clause-view : goal.own_load-x-requires-clause-view
 own_load-x-requires-clause-view g c =
     let at = (goal.at.own_load-x-requires-clause-view g c).After-desc in
-    taking.may-own_load (good_of g.K.MemRule.good c.args.stm.now.config c.args.stm.now.rule) _ c.desc.inside.number _ _ _ (may-load g at) (of-seen _ _ (opened g at).call.opening (λ (n : ℕ) (v : View). HoldsRecord c.args.stm.now.config c.args.a v) c.requires.held)
+    taking.may-own_load (good_of g.K.MemRule.good c.args.stm.now.config c.args.stm.now.rule) _ c.desc.inside.number _ _ _ (may-load g at)
+    (of-seen _ _ (opened g at).call.opening (λ (n : ℕ) (v : View). HoldsRecord c.args.stm.now.config c.args.a v) c.requires.held)
 
 pub push_at-requires-clause-place : goal.push_at-requires-clause-place
 push_at-requires-clause-place g c =
@@ -52,7 +57,8 @@ pub invariant_of-desc : goal.invariant_of-desc
 invariant_of-desc g c =
     let at = goal.at.invariant_of-desc g c in
     let first = at.After-desc in
-    stays-read _ _ (opened g first) c.args.a _ c.own_load-x.new.seat.me _ c.requires.inside (fresh g first) c.push_at.ensures (loaded g at.After-own_load-x (may-load g first)) c.own_load-x.ensures.step.3 c.own_load-x.ensures.same.2
+    stays-read _ _ (opened g first) c.args.a _ c.own_load-x.new.seat.me _ c.requires.inside (fresh g first) c.push_at.ensures
+    (loaded g at.After-own_load-x (may-load g first)) c.own_load-x.ensures.step.3 c.own_load-x.ensures.same.2
 
 pub returns-clause-read : goal.returns-clause-read
 returns-clause-read g c =

@@ -38,7 +38,9 @@ returns-then-count-limit-clause-read g c =
     let plain : d.local.granted ≡ false = calls.plain-of good f d.number d.local s.view i lazy o (subst (λ (p : Handle g.row.K.Denot). (known p).granted ≡ false) (sym c.desc.view_is) c.requires.revocable) in
     let k = laws.lazy-of good f d.number d.local s.view i lazy plain in
     let a = c.args.a in
-    let unwritten : item_at a d.local.writes.items ≡ None = ap (item_at a) (sym (laws.written-here good f d.number d.local s.view i lazy plain quiet k)) ∙ subst (λ (p : Handle g.row.K.Denot). item_at a (known p).log.writes ≡ None) (sym c.desc.view_is) c.requires.unwritten in
+    let unwritten : item_at a d.local.writes.items ≡ None = ap (item_at a)
+    (sym (laws.written-here good f d.number d.local s.view i lazy plain quiet k)) ∙ subst
+    (λ (p : Handle g.row.K.Denot). item_at a (known p).log.writes ≡ None) (sym c.desc.view_is) c.requires.unwritten in
     let unread : item_at a d.local.reads.items ≡ None = ap (item_at a) k.reads ∙ subst (λ (p : Handle g.row.K.Denot). item_at a (known p).log.reads ≡ None) (sym c.desc.view_is) c.requires.unread in
     let count : length d.local.reads.items ≡ d.local.reads.len = search rules in
     let w = c.abort.new.seat.me.0 in
@@ -103,7 +105,9 @@ invariant_of-desc-in-Ok g c =
     let plain : d.local.granted ≡ false = calls.plain-of good f d.number d.local s.view i lazy o (subst (λ (p : Handle g.row.K.Denot). (known p).granted ≡ false) (sym c.desc.view_is) c.requires.revocable) in
     let k = laws.lazy-of good f d.number d.local s.view i lazy plain in
     let a = c.args.a in
-    let unwritten : item_at a d.local.writes.items ≡ None = ap (item_at a) (sym (laws.written-here good f d.number d.local s.view i lazy plain quiet k)) ∙ subst (λ (p : Handle g.row.K.Denot). item_at a (known p).log.writes ≡ None) (sym c.desc.view_is) c.requires.unwritten in
+    let unwritten : item_at a d.local.writes.items ≡ None = ap (item_at a)
+    (sym (laws.written-here good f d.number d.local s.view i lazy plain quiet k)) ∙ subst
+    (λ (p : Handle g.row.K.Denot). item_at a (known p).log.writes ≡ None) (sym c.desc.view_is) c.requires.unwritten in
     let unread : item_at a d.local.reads.items ≡ None = ap (item_at a) k.reads ∙ subst (λ (p : Handle g.row.K.Denot). item_at a (known p).log.reads ≡ None) (sym c.desc.view_is) c.requires.unread in
     let room : length d.local.reads.items ≢ d.local.reads.len = search rules in
     let m = c.load_valid.new.local in
@@ -147,7 +151,9 @@ returns-in-Ok-clause-read g c =
     let plain : d.local.granted ≡ false = calls.plain-of good f d.number d.local s.view i lazy o (subst (λ (p : Handle g.row.K.Denot). (known p).granted ≡ false) (sym c.desc.view_is) c.requires.revocable) in
     let k = laws.lazy-of good f d.number d.local s.view i lazy plain in
     let a = c.args.a in
-    let unwritten : item_at a d.local.writes.items ≡ None = ap (item_at a) (sym (laws.written-here good f d.number d.local s.view i lazy plain quiet k)) ∙ subst (λ (p : Handle g.row.K.Denot). item_at a (known p).log.writes ≡ None) (sym c.desc.view_is) c.requires.unwritten in
+    let unwritten : item_at a d.local.writes.items ≡ None = ap (item_at a)
+    (sym (laws.written-here good f d.number d.local s.view i lazy plain quiet k)) ∙ subst
+    (λ (p : Handle g.row.K.Denot). item_at a (known p).log.writes ≡ None) (sym c.desc.view_is) c.requires.unwritten in
     let unread : item_at a d.local.reads.items ≡ None = ap (item_at a) k.reads ∙ subst (λ (p : Handle g.row.K.Denot). item_at a (known p).log.reads ≡ None) (sym c.desc.view_is) c.requires.unread in
     let room : length d.local.reads.items ≢ d.local.reads.len = search rules in
     let m = c.load_valid.new.local in
@@ -176,7 +182,9 @@ returns-in-Err-clause-read g c =
     let plain : d.local.granted ≡ false = calls.plain-of good f d.number d.local s.view i lazy o (subst (λ (p : Handle g.row.K.Denot). (known p).granted ≡ false) (sym c.desc.view_is) c.requires.revocable) in
     let k = laws.lazy-of good f d.number d.local s.view i lazy plain in
     let a = c.args.a in
-    let unwritten : item_at a d.local.writes.items ≡ None = ap (item_at a) (sym (laws.written-here good f d.number d.local s.view i lazy plain quiet k)) ∙ subst (λ (p : Handle g.row.K.Denot). item_at a (known p).log.writes ≡ None) (sym c.desc.view_is) c.requires.unwritten in
+    let unwritten : item_at a d.local.writes.items ≡ None = ap (item_at a)
+    (sym (laws.written-here good f d.number d.local s.view i lazy plain quiet k)) ∙ subst
+    (λ (p : Handle g.row.K.Denot). item_at a (known p).log.writes ≡ None) (sym c.desc.view_is) c.requires.unwritten in
     let unread : item_at a d.local.reads.items ≡ None = ap (item_at a) k.reads ∙ subst (λ (p : Handle g.row.K.Denot). item_at a (known p).log.reads ≡ None) (sym c.desc.view_is) c.requires.unread in
     let room : length d.local.reads.items ≢ d.local.reads.len = search rules in
     let m = c.load_valid.new.local in

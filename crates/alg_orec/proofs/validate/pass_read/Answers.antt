@@ -35,5 +35,7 @@ returns-clause-passes g c =
     let x = c.pass-word.result in
     let w = c.pass-word.new.seat.me.0 in
     let yes : c.in_ok-must_load.field-0 ≡ true = search rules in
-    passing.judged f c.args.caller c.requires.caller l s.view c.requires.view c.args.i c.requires.place b (ap (λ (q : ℕ × ℕ). q.0) c.item-b.ensures) x w.view c.judge.result (must-true l r c.in_ok-must_load.field-0 c.in_ok-must_load.ensures yes) c.judge.ensures
+    passing.judged f c.args.caller c.requires.caller l s.view c.requires.view c.args.i c.requires.place b
+    (ap (λ (q : ℕ × ℕ). q.0) c.item-b.ensures) x w.view c.judge.result
+    (must-true l r c.in_ok-must_load.field-0 c.in_ok-must_load.ensures yes) c.judge.ensures
     (tells-of (orec_pass r b) (FindsRead f c.args.caller r) s x w c.pass-word.ensures.step)

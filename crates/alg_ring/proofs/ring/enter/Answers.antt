@@ -39,7 +39,8 @@ pub slot-requires-clause-view : goal.slot-requires-clause-view
 slot-requires-clause-view g c =
     let low : c.loop-i.i < SLOT_WORDS = (let a = c.loop-i-test.true in omega arith) in
     subst (CanRingSlot c.args.time c.loop-i.i (cells_of c.args.local.now.writes.items)) (sym (ap (λ (y : SeatView g.row.K.Denot). y.view) c.loop-i.invariant.seat))
-    (may-slot (g.K.MemRule.good c.args.stm.now.rule) c.args.stm.now.config c.args.time c.args.local.now c.args.seat.now.me.0.view c.requires.enter c.loop-i.i c.loop-i.invariant.writes c.loop-i.invariant.more low c.loop-i.invariant.same)
+    (may-slot (g.K.MemRule.good c.args.stm.now.rule) c.args.stm.now.config c.args.time c.args.local.now c.args.seat.now.me.0.view
+    c.requires.enter c.loop-i.i c.loop-i.invariant.writes c.loop-i.invariant.more low c.loop-i.invariant.same)
 
 pub loop-i-preserved : goal.loop-i-preserved
 loop-i-preserved g c =
@@ -50,9 +51,21 @@ loop-i-preserved g c =
       steps = (let l = ap (λ (y : SeatView g.row.K.Denot). length y.view.steps.step_trace) c.slot.ensures.step.3 in let q = c.loop-i.invariant.steps in omega arith);
       bare = same.2 ∙ c.loop-i.invariant.bare;
       writes = (cells_of c.args.local.now.writes.items);
-      more = record { place = Slot (slot_place c.args.stm.now.config.ring c.args.time c.loop-i.i); act = Store (slot_filter.word (cells_of c.args.local.now.writes.items) c.loop-i.i); found = None } ∷ c.loop-i.invariant.more;
+      more =
+          record {
+            place = Slot (slot_place c.args.stm.now.config.ring c.args.time c.loop-i.i);
+            act = Store (slot_filter.word (cells_of c.args.local.now.writes.items) c.loop-i.i);
+            found = None;
+          } ∷ c.loop-i.invariant.more;
       same = λ z. refl;
-      seat = c.slot.ensures.step.3 ∙ ap (λ (y : SeatView g.row.K.Denot). record y { view = view_after (ring_slot slot_filter c.args.stm.now.config.ring c.args.time c.loop-i.i (cells_of c.args.local.now.writes.items)) c.slot.ensures.step.0 y.view c.word.result }) c.loop-i.invariant.seat;
+      seat =
+          c.slot.ensures.step.3
+          ∙ ap (λ (y : SeatView g.row.K.Denot).
+          record y {
+            view = view_after
+                (ring_slot slot_filter c.args.stm.now.config.ring c.args.time c.loop-i.i (cells_of c.args.local.now.writes.items))
+                c.slot.ensures.step.0 y.view c.word.result;
+          }) c.loop-i.invariant.seat;
     }
 
 pub enter-requires-clause-seat : goal.enter-requires-clause-seat
@@ -61,23 +74,45 @@ enter-requires-clause-seat g c = let i = c.loop-i.invariant in (i.table ∙ c.re
 pub enter-requires-clause-view : goal.enter-requires-clause-view
 enter-requires-clause-view g c =
     let all : c.loop-i.i ≡ SLOT_WORDS = (let a = c.loop-i-test.false in let b = c.loop-i.auto.i-end in omega arith) in
-    subst (CanRingEnter (good_of g.K.MemRule.good c.args.stm.now.config c.args.stm.now.rule) c.args.stm.now.config.words c.args.time) (sym (ap (λ (y : SeatView g.row.K.Denot). y.view) c.loop-i.invariant.seat ∙ ap (λ (k : ℕ). slotted_at c.args.seat.now.me.0.view k c.loop-i.invariant.writes c.loop-i.invariant.more) all))
-    (may-enter (g.K.MemRule.good c.args.stm.now.rule) c.args.stm.now.config c.args.time c.args.local.now c.args.seat.now.me.0.view c.requires.enter c.loop-i.invariant.writes c.loop-i.invariant.more (c.loop-i.invariant.same (omega arith)))
+    subst (CanRingEnter (good_of g.K.MemRule.good c.args.stm.now.config c.args.stm.now.rule) c.args.stm.now.config.words c.args.time)
+    (sym (ap (λ (y : SeatView g.row.K.Denot). y.view) c.loop-i.invariant.seat
+    ∙ ap (λ (k : ℕ). slotted_at c.args.seat.now.me.0.view k c.loop-i.invariant.writes c.loop-i.invariant.more) all))
+    (may-enter (g.K.MemRule.good c.args.stm.now.rule) c.args.stm.now.config c.args.time c.args.local.now c.args.seat.now.me.0.view
+    c.requires.enter c.loop-i.invariant.writes c.loop-i.invariant.more (c.loop-i.invariant.same (omega arith)))
 
 pub enter-requires-clause-spared : goal.enter-requires-clause-spared
 enter-requires-clause-spared g c =
     let all : c.loop-i.i ≡ SLOT_WORDS = (let a = c.loop-i-test.false in let b = c.loop-i.auto.i-end in omega arith) in
-    subst (λ (y : View). AreSpared y.ring_commit.writes y) (sym (ap (λ (y : SeatView g.row.K.Denot). y.view) c.loop-i.invariant.seat ∙ ap (λ (k : ℕ). slotted_at c.args.seat.now.me.0.view k c.loop-i.invariant.writes c.loop-i.invariant.more) all))
+    subst (λ (y : View). AreSpared y.ring_commit.writes y)
+    (sym (ap (λ (y : SeatView g.row.K.Denot). y.view) c.loop-i.invariant.seat
+    ∙ ap (λ (k : ℕ). slotted_at c.args.seat.now.me.0.view k c.loop-i.invariant.writes c.loop-i.invariant.more) all))
     (subst (λ (cs : List Cell). Apart c.args.seat.now.me.0.view.gate.fence cs) (c.loop-i.invariant.same (omega arith)) c.requires.enter.spared)
 
 pub returns-clause-same : goal.returns-clause-same
-returns-clause-same g c =
-    ((c.enter.ensures.same.0 ∙ c.loop-i.invariant.table, c.enter.ensures.same.1 ∙ c.loop-i.invariant.id, c.enter.ensures.same.2 ∙ c.loop-i.invariant.bare), c.enter.ensures.step.3 ∙ (ap (λ (y : SeatView g.row.K.Denot). record y { view = view_after (ring_enter c.args.caller c.args.time) c.enter.ensures.step.0 c.loop-i.seat.me.0.view c.args.time }) c.loop-i.invariant.seat ∙ ap (λ (w : View). record c.args.seat.now.me.0 { view = w }) (sym (ap (λ (y : SeatView g.row.K.Denot). y.view) c.enter.ensures.step.3))))
+returns-clause-same g c = (
+  (
+    c.enter.ensures.same.0 ∙ c.loop-i.invariant.table,
+    c.enter.ensures.same.1 ∙ c.loop-i.invariant.id,
+    c.enter.ensures.same.2 ∙ c.loop-i.invariant.bare,
+  ),
+  c.enter.ensures.step.3
+      ∙ (ap (λ (y : SeatView g.row.K.Denot).
+      record y { view = view_after (ring_enter c.args.caller c.args.time) c.enter.ensures.step.0 c.loop-i.seat.me.0.view c.args.time })
+      c.loop-i.invariant.seat
+      ∙ ap (λ (w : View). record c.args.seat.now.me.0 { view = w })
+      (sym (ap (λ (y : SeatView g.row.K.Denot). y.view) c.enter.ensures.step.3))),
+)
 
 pub returns-clause-enters : goal.returns-clause-enters
 returns-clause-enters g c =
     let rule = good_of g.K.MemRule.good c.args.stm.now.config c.args.stm.now.rule in
     let all : c.loop-i.i ≡ SLOT_WORDS = (let a = c.loop-i-test.false in let b = c.loop-i.auto.i-end in omega arith) in
-    tells-entered (g.K.MemRule.good c.args.stm.now.rule) c.args.stm.now.config c.args.time c.args.local.now c.args.seat.now.me.0.view c.requires.enter c.args.caller c.loop-i.invariant.writes c.loop-i.invariant.more c.enter.new.seat.me.0.view (c.loop-i.invariant.same (omega arith))
-    (subst (λ (y : View). Tells (ring_enter c.args.caller c.args.time) (RingEnters rule c.args.stm.now.config c.args.caller c.args.time) y c.args.time c.enter.new.seat.me.0.view) (ap (λ (y : SeatView g.row.K.Denot). y.view) c.loop-i.invariant.seat ∙ ap (λ (k : ℕ). slotted_at c.args.seat.now.me.0.view k c.loop-i.invariant.writes c.loop-i.invariant.more) all)
+    tells-entered (g.K.MemRule.good c.args.stm.now.rule) c.args.stm.now.config c.args.time c.args.local.now c.args.seat.now.me.0.view
+    c.requires.enter c.args.caller c.loop-i.invariant.writes c.loop-i.invariant.more c.enter.new.seat.me.0.view
+    (c.loop-i.invariant.same (omega arith))
+    (subst (λ (y : View).
+    Tells (ring_enter c.args.caller c.args.time) (RingEnters rule c.args.stm.now.config c.args.caller c.args.time) y c.args.time
+    c.enter.new.seat.me.0.view)
+    (ap (λ (y : SeatView g.row.K.Denot). y.view) c.loop-i.invariant.seat
+    ∙ ap (λ (k : ℕ). slotted_at c.args.seat.now.me.0.view k c.loop-i.invariant.writes c.loop-i.invariant.more) all)
     (tells-of (ring_enter c.args.caller c.args.time) (RingEnters rule c.args.stm.now.config c.args.caller c.args.time) _ _ _ c.enter.ensures.step))

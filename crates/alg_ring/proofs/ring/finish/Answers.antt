@@ -14,11 +14,16 @@ leave-requires-clause-view g c =
 
 pub leave-requires-clause-holds : goal.leave-requires-clause-holds
 leave-requires-clause-holds g c =
-    c.requires.turn.1.has.attempt.stands.holds ∙ sym (ap (λ (y : View). y.gate.holds) (laws.freed-is c.commit_locked-answer.new.seat.me.0 c.free.new.seat.me.0 c.free.ensures.step) ∙ ap (λ h. h.holds) (c.commit_locked-answer.ensures.decides c.requires.turn.0 c.requires.turn.1).gate)
+    c.requires.turn.1.has.attempt.stands.holds
+    ∙ sym (ap (λ (y : View). y.gate.holds) (laws.freed-is c.commit_locked-answer.new.seat.me.0 c.free.new.seat.me.0 c.free.ensures.step)
+    ∙ ap (λ h. h.holds) (c.commit_locked-answer.ensures.decides c.requires.turn.0 c.requires.turn.1).gate)
 
 pub leave-requires-clause-named : goal.leave-requires-clause-named
 leave-requires-clause-named g c =
-    sym (inside (g.K.MemRule.good c.args.stm.now.rule) c.args.stm.now.config c.args.caller c.args.local.now c.requires.turn.0 c.requires.turn.1.has.attempt).named ∙ sym (ap (λ (y : View). y.gate.algorithm) (laws.freed-is c.commit_locked-answer.new.seat.me.0 c.free.new.seat.me.0 c.free.ensures.step) ∙ ap (λ h. h.algorithm) (c.commit_locked-answer.ensures.decides c.requires.turn.0 c.requires.turn.1).gate)
+    sym (inside (g.K.MemRule.good c.args.stm.now.rule) c.args.stm.now.config c.args.caller c.args.local.now c.requires.turn.0
+    c.requires.turn.1.has.attempt).named
+    ∙ sym (ap (λ (y : View). y.gate.algorithm) (laws.freed-is c.commit_locked-answer.new.seat.me.0 c.free.new.seat.me.0 c.free.ensures.step)
+    ∙ ap (λ h. h.algorithm) (c.commit_locked-answer.ensures.decides c.requires.turn.0 c.requires.turn.1).gate)
 
 pub returns-clause-finishes : goal.returns-clause-finishes
 returns-clause-finishes g c = λ before turn.
@@ -28,4 +33,6 @@ returns-clause-finishes g c = λ before turn.
     let u = c.commit_locked-answer.new.seat.me.0 in
     let is = laws.freed-is u c.free.new.seat.me.0 c.free.ensures.step in
     let r = c.leave.ensures in
-    laws.finishes good f n c.commit_locked-answer.result c.args.local.now c.leave.new.local before u.view c.leave.new.seat.me.0.view (c.commit_locked-answer.ensures.decides before turn) turn.has.attempt.stands.lengths (ap (λ y. y.view) r.left ∙ ap (left n) is) r.idle r.outside
+    laws.finishes good f n c.commit_locked-answer.result c.args.local.now c.leave.new.local before u.view c.leave.new.seat.me.0.view
+    (c.commit_locked-answer.ensures.decides before turn) turn.has.attempt.stands.lengths (ap (λ y. y.view) r.left ∙ ap (left n) is) r.idle
+    r.outside

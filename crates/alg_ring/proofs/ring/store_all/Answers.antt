@@ -30,7 +30,8 @@ direct_store-requires-clause-view g c =
 pub direct_store-requires-clause-spared : goal.direct_store-requires-clause-spared
 direct_store-requires-clause-spared g c =
     let low : c.loop-i.i < length c.args.writes.now.items = omega (arith, c.loop-i-test.true, c.count-i-end.ensures.count) in
-    ap (λ (y : SeatView g.row.K.Denot). fenced y.view.gate.fence c.item-a.result.0) c.loop-i.invariant.seat ∙ c.requires.spared c.item-a.result.0 (item-inside c.args.writes.now.items c.loop-i.i c.item-a.result low c.item-a.ensures)
+    ap (λ (y : SeatView g.row.K.Denot). fenced y.view.gate.fence c.item-a.result.0) c.loop-i.invariant.seat
+    ∙ c.requires.spared c.item-a.result.0 (item-inside c.args.writes.now.items c.loop-i.i c.item-a.result low c.item-a.ensures)
 
 pub loop-i-preserved : goal.loop-i-preserved
 loop-i-preserved g c =
@@ -41,8 +42,17 @@ loop-i-preserved g c =
       steps = (let l = ap (λ (y : SeatView g.row.K.Denot). length y.view.steps.step_trace) c.direct_store.ensures.step.3 in let q = c.loop-i.invariant.steps in omega arith);
       bare = c.direct_store.ensures.same.2 ∙ c.loop-i.invariant.bare;
       more = record { place = Heap c.item-a.result.0; act = Store c.item-a.result.1; found = None } ∷ c.loop-i.invariant.more;
-      seat = c.direct_store.ensures.step.3 ∙ (ap (λ (y : SeatView g.row.K.Denot). record y { view = view_after (direct_store c.item-a.result.0 c.item-a.result.1) c.direct_store.ensures.step.0 y.view c.item-a.result.1 }) c.loop-i.invariant.seat
-          ∙ ap (λ (cs : List Cell). record c.args.seat.now.me.0 { view = stored_at c.args.seat.now.me.0.view cs (record { place = Heap c.item-a.result.0; act = Store c.item-a.result.1; found = None } ∷ c.loop-i.invariant.more) }) (next-stored c.args.writes.now.items c.loop-i.i c.item-a.result low c.item-a.ensures));
+      seat = c.direct_store.ensures.step.3 ∙ (ap (λ (y : SeatView g.row.K.Denot).
+          record y
+          { view = view_after (direct_store c.item-a.result.0 c.item-a.result.1) c.direct_store.ensures.step.0 y.view c.item-a.result.1 })
+          c.loop-i.invariant.seat
+          ∙ ap
+          (λ (cs : List Cell).
+          record c.args.seat.now.me.0 {
+            view = stored_at c.args.seat.now.me.0.view cs
+                (record { place = Heap c.item-a.result.0; act = Store c.item-a.result.1; found = None } ∷ c.loop-i.invariant.more);
+          })
+          (next-stored c.args.writes.now.items c.loop-i.i c.item-a.result low c.item-a.ensures));
     }
 
 pub returns-clause-same : goal.returns-clause-same
@@ -52,5 +62,8 @@ pub returns-clause-stores : goal.returns-clause-stores
 returns-clause-stores g c =
     record {
       more = c.loop-i.invariant.more;
-      is = ap (λ (y : SeatView g.row.K.Denot). y.view) c.loop-i.invariant.seat ∙ ap (λ (l : List (ℕ × ℕ)). stored_at c.args.seat.now.me.0.view (cells_of l) c.loop-i.invariant.more) (take-all c.args.writes.now.items c.loop-i.i (omega (arith, c.loop-i-test.false, c.count-i-end.ensures.count)));
+      is =
+          ap (λ (y : SeatView g.row.K.Denot). y.view) c.loop-i.invariant.seat
+          ∙ ap (λ (l : List (ℕ × ℕ)). stored_at c.args.seat.now.me.0.view (cells_of l) c.loop-i.invariant.more)
+          (take-all c.args.writes.now.items c.loop-i.i (omega (arith, c.loop-i-test.false, c.count-i-end.ensures.count)));
     }

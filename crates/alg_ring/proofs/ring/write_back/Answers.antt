@@ -34,7 +34,16 @@ write_back-requires-clause-view g c =
     let low : c.loop-i.i < length c.args.writes.now.items = omega (arith, c.loop-i-test.true, c.count-i-end.ensures.count) in
     let p = next-back c.args.writes.now.items c.loop-i.i c.item-a.result low c.requires.back.once c.item-a.ensures in
     subst (CanRingWrite c.item-a.result.0 c.item-a.result.1) (sym (ap (λ (y : SeatView g.row.K.Denot). y.view) c.loop-i.invariant.seat)) (record {
-      entered = record { runs = record { phase = c.requires.back.entered.runs.phase; algorithm = c.requires.back.entered.runs.algorithm; plain = c.requires.back.entered.runs.plain }; committed = c.requires.back.entered.committed; unfinished = c.requires.back.entered.unfinished };
+      entered =
+          record {
+            runs = record {
+              phase = c.requires.back.entered.runs.phase;
+              algorithm = c.requires.back.entered.runs.algorithm;
+              plain = c.requires.back.entered.runs.plain;
+            };
+            committed = c.requires.back.entered.committed;
+            unfinished = c.requires.back.entered.unfinished;
+          };
       owed = p.0;
       value = p.1;
     })
@@ -48,8 +57,17 @@ loop-i-preserved g c =
       steps = (let l = ap (λ (y : SeatView g.row.K.Denot). length y.view.steps.step_trace) c.write_back.ensures.step.3 in let q = c.loop-i.invariant.steps in omega arith);
       bare = c.write_back.ensures.same.2 ∙ c.loop-i.invariant.bare;
       more = record { place = Heap c.item-a.result.0; act = Store c.item-a.result.1; found = None } ∷ c.loop-i.invariant.more;
-      seat = c.write_back.ensures.step.3 ∙ (ap (λ (y : SeatView g.row.K.Denot). record y { view = view_after (ring_write c.item-a.result.0 c.item-a.result.1) c.write_back.ensures.step.0 y.view c.item-a.result.1 }) c.loop-i.invariant.seat
-          ∙ ap (λ (cs : List Cell). record c.args.seat.now.me.0 { view = back_at c.args.seat.now.me.0.view cs (record { place = Heap c.item-a.result.0; act = Store c.item-a.result.1; found = None } ∷ c.loop-i.invariant.more) }) (next-back c.args.writes.now.items c.loop-i.i c.item-a.result low c.requires.back.once c.item-a.ensures).2);
+      seat = c.write_back.ensures.step.3 ∙ (ap (λ (y : SeatView g.row.K.Denot).
+          record y
+          { view = view_after (ring_write c.item-a.result.0 c.item-a.result.1) c.write_back.ensures.step.0 y.view c.item-a.result.1 })
+          c.loop-i.invariant.seat
+          ∙ ap
+          (λ (cs : List Cell).
+          record c.args.seat.now.me.0 {
+            view = back_at c.args.seat.now.me.0.view cs
+                (record { place = Heap c.item-a.result.0; act = Store c.item-a.result.1; found = None } ∷ c.loop-i.invariant.more);
+          })
+          (next-back c.args.writes.now.items c.loop-i.i c.item-a.result low c.requires.back.once c.item-a.ensures).2);
     }
 
 pub returns-clause-same : goal.returns-clause-same
@@ -59,5 +77,8 @@ pub returns-clause-back : goal.returns-clause-back
 returns-clause-back g c =
     record {
       more = c.loop-i.invariant.more;
-      is = ap (λ (y : SeatView g.row.K.Denot). y.view) c.loop-i.invariant.seat ∙ ap (λ (l : List (ℕ × ℕ)). back_at c.args.seat.now.me.0.view (cells_of l) c.loop-i.invariant.more) (drop-all c.args.writes.now.items c.loop-i.i (omega (arith, c.loop-i-test.false, c.count-i-end.ensures.count)));
+      is =
+          ap (λ (y : SeatView g.row.K.Denot). y.view) c.loop-i.invariant.seat
+          ∙ ap (λ (l : List (ℕ × ℕ)). back_at c.args.seat.now.me.0.view (cells_of l) c.loop-i.invariant.more)
+          (drop-all c.args.writes.now.items c.loop-i.i (omega (arith, c.loop-i-test.false, c.count-i-end.ensures.count)));
     }

@@ -22,7 +22,8 @@ store_heap-requires-clause-seat g c = let i = c.loop-i.invariant in (i.table ∙
 pub store_heap-requires-clause-view : goal.store_heap-requires-clause-view
 store_heap-requires-clause-view g c =
     let is = ap (λ (y : SeatView g.row.K.Denot). y.view) c.loop-i.invariant.seat in
-    let here : has_item c.item-a.result.0 c.args.writes.now.items ≡ true = there-item c.args.writes.now.items c.loop-i.i c.item-a.result (omega (arith, c.loop-i-test.true, c.count-i-end.ensures.count)) c.item-a.ensures in
+    let here : has_item c.item-a.result.0 c.args.writes.now.items ≡ true = there-item c.args.writes.now.items c.loop-i.i c.item-a.result
+    (omega (arith, c.loop-i-test.true, c.count-i-end.ensures.count)) c.item-a.ensures in
     record {
       has = subst (λ (y : View). HasLock y) (sym is) (record { phase = c.requires.again.has.phase; algorithm = c.requires.again.has.algorithm; taken = c.requires.again.has.taken });
       started = ap (λ (y : View). y.lock.started) is ∙ c.requires.again.started;
@@ -33,7 +34,10 @@ store_heap-requires-clause-view g c =
 
 pub store_heap-requires-clause-spared : goal.store_heap-requires-clause-spared
 store_heap-requires-clause-spared g c =
-    ap (λ (y : View). fenced y.gate.fence c.item-a.result.0) (ap (λ (y : SeatView g.row.K.Denot). y.view) c.loop-i.invariant.seat) ∙ c.requires.again.spared c.item-a.result.0 (there-item c.args.writes.now.items c.loop-i.i c.item-a.result (omega (arith, c.loop-i-test.true, c.count-i-end.ensures.count)) c.item-a.ensures)
+    ap (λ (y : View). fenced y.gate.fence c.item-a.result.0) (ap (λ (y : SeatView g.row.K.Denot). y.view) c.loop-i.invariant.seat)
+    ∙ c.requires.again.spared c.item-a.result.0
+    (there-item c.args.writes.now.items c.loop-i.i c.item-a.result (omega (arith, c.loop-i-test.true, c.count-i-end.ensures.count))
+    c.item-a.ensures)
 
 pub loop-i-preserved : goal.loop-i-preserved
 loop-i-preserved g c =
@@ -43,9 +47,13 @@ loop-i-preserved g c =
       bare = c.store_heap.ensures.same.2 ∙ c.loop-i.invariant.bare;
       steps = (let l = ap (λ (y : SeatView g.row.K.Denot). length y.view.steps.step_trace) c.store_heap.ensures.step.3 in let q = c.loop-i.invariant.steps in omega arith);
       more = record { place = Heap c.item-a.result.0; act = Store c.item-a.result.1; found = None } ∷ c.loop-i.invariant.more;
-      seat = stored-step c.args.seat.now.me.0 c.loop-i.seat.me.0 c.store_heap.new.seat.me.0 c.loop-i.invariant.more c.item-a.result.0 c.item-a.result.1 c.store_heap.ensures.step.0 c.loop-i.invariant.seat c.store_heap.ensures.step.3;
+      seat =
+          stored-step c.args.seat.now.me.0 c.loop-i.seat.me.0 c.store_heap.new.seat.me.0 c.loop-i.invariant.more c.item-a.result.0
+          c.item-a.result.1 c.store_heap.ensures.step.0 c.loop-i.invariant.seat c.store_heap.ensures.step.3;
       stores = ap (λ (y : SeatView g.row.K.Denot). items y.view.attempt.stores) c.store_heap.ensures.step.3
-          ∙ stored-next c.args.writes.now.items (items c.args.seat.now.me.0.view.attempt.stores) c.loop-i.i c.loop-i.seat.me.0.view.attempt.stores c.item-a.result (omega (arith, c.loop-i-test.true, c.count-i-end.ensures.count)) c.count-i-end.ensures.once c.requires.again.stored c.loop-i.invariant.stores c.item-a.ensures;
+          ∙ stored-next c.args.writes.now.items (items c.args.seat.now.me.0.view.attempt.stores) c.loop-i.i
+          c.loop-i.seat.me.0.view.attempt.stores c.item-a.result (omega (arith, c.loop-i-test.true, c.count-i-end.ensures.count))
+          c.count-i-end.ensures.once c.requires.again.stored c.loop-i.invariant.stores c.item-a.ensures;
     }
 
 pub returns-clause-same : goal.returns-clause-same
@@ -56,5 +64,8 @@ returns-clause-again g c =
     record {
       more = c.loop-i.invariant.more;
       is = ap (λ (y : SeatView g.row.K.Denot). y.view) c.loop-i.invariant.seat;
-      stores = c.loop-i.invariant.stores ∙ stored-all c.args.writes.now.items (items c.args.seat.now.me.0.view.attempt.stores) c.loop-i.i (omega (arith, c.loop-i-test.false, c.count-i-end.ensures.count)) c.requires.again.stored;
+      stores =
+          c.loop-i.invariant.stores
+          ∙ stored-all c.args.writes.now.items (items c.args.seat.now.me.0.view.attempt.stores) c.loop-i.i
+          (omega (arith, c.loop-i-test.false, c.count-i-end.ensures.count)) c.requires.again.stored;
     }

@@ -44,7 +44,9 @@ store_back-requires-clause-seat g c = let i = c.loop-count.invariant in (i.table
 
 pub store_back-requires-clause-place : goal.store_back-requires-clause-place
 store_back-requires-clause-place g c =
-    c.requires.olds.within c.item-a.result.0 (item-some c.args.seat.now.me.0.view.lock.undo c.item-a.result.0 c.in-Some.x (ap (item_at c.item-a.result.0) (sym c.requires.olds.undone) ∙ (sym c.find.ensures ∙ c.in-Some.is))).0
+    c.requires.olds.within c.item-a.result.0
+    (item-some c.args.seat.now.me.0.view.lock.undo c.item-a.result.0 c.in-Some.x
+    (ap (item_at c.item-a.result.0) (sym c.requires.olds.undone) ∙ (sym c.find.ensures ∙ c.in-Some.is))).0
 
 pub store_back-requires-clause-view : goal.store_back-requires-clause-view
 store_back-requires-clause-view g c =
@@ -62,22 +64,31 @@ loop-count-preserved-in-Some g c =
     let last = c.loop-count.count - 1 in
     let next : c.loop-count.count ≡ last + 1 = omega arith in
     let zs = items c.args.seat.now.me.0.view.attempt.stores in
-    let stores : c.store_back.new.seat.me.0.view.attempt.stores ≡ without c.loop-count.seat.me.0.view.attempt.stores c.item-a.result.0 = ap (λ (y : SeatView g.row.K.Denot). y.view.attempt.stores) c.store_back.ensures.step.3 in
+    let stores : c.store_back.new.seat.me.0.view.attempt.stores ≡ without c.loop-count.seat.me.0.view.attempt.stores c.item-a.result.0 = ap
+    (λ (y : SeatView g.row.K.Denot). y.view.attempt.stores) c.store_back.ensures.step.3 in
     let short : last < length zs = (let e = ap length c.requires.olds.stored in let h = c.loop-count.invariant.high in omega arith) in
     record {
       table = c.store_back.ensures.same.0 ∙ c.loop-count.invariant.table;
       id = c.store_back.ensures.same.1 ∙ c.loop-count.invariant.id;
       bare = c.store_back.ensures.same.2 ∙ c.loop-count.invariant.bare;
       more = record { place = Heap c.item-a.result.0; act = Store c.in-Some.x; found = None } ∷ c.loop-count.invariant.more;
-      seat = taken-step c.args.seat.now.me.0 c.loop-count.seat.me.0 c.store_back.new.seat.me.0 c.loop-count.invariant.more c.item-a.result.0 c.in-Some.x c.store_back.ensures.step.0 c.loop-count.invariant.seat c.store_back.ensures.step.3;
-      stores = ap items stores ∙ (peeled-last zs last c.loop-count.seat.me.0.view.attempt.stores c.item-a.result.0 short (items-once c.args.seat.now.me.0.view.attempt.stores) (c.loop-count.invariant.stores ∙ ap (λ (k : ℕ). take k zs) next) (ap (λ (q : ℕ × ℕ). q.0) c.item-a.ensures ∙ ap (λ (ws : List (ℕ × ℕ)). (get_or ws last (0, 0)).0) c.requires.olds.stored)).2;
+      seat =
+          taken-step c.args.seat.now.me.0 c.loop-count.seat.me.0 c.store_back.new.seat.me.0 c.loop-count.invariant.more c.item-a.result.0
+          c.in-Some.x c.store_back.ensures.step.0 c.loop-count.invariant.seat c.store_back.ensures.step.3;
+      stores =
+          ap items stores
+          ∙ (peeled-last zs last c.loop-count.seat.me.0.view.attempt.stores c.item-a.result.0 short
+          (items-once c.args.seat.now.me.0.view.attempt.stores) (c.loop-count.invariant.stores ∙ ap (λ (k : ℕ). take k zs) next)
+          (ap (λ (q : ℕ × ℕ). q.0) c.item-a.ensures ∙ ap (λ (ws : List (ℕ × ℕ)). (get_or ws last (0, 0)).0) c.requires.olds.stored)).2;
       low = (let h = c.loop-count-test.true in omega arith);
       high = (let h = c.loop-count.invariant.high in omega arith);
       steps = (let l = ap (λ (y : SeatView g.row.K.Denot). length y.view.steps.step_trace) c.store_back.ensures.step.3 in let h = c.loop-count.invariant.steps in omega arith);
     }
 
 -- each word that is stored has its old value
-found : (a last : ℕ) (us ws : List (ℕ × ℕ)) (w : ℕ × ℕ) (stores undo : List Cell) → us ≡ items undo → ws ≡ items stores → ((b : ℕ) → touches stores b ≡ true → touches undo b ≡ true) → last < length ws → w ≡ get_or ws last (0, 0) → a ≡ w.0 → item_at a us ≡ None → ⊥
+found : (a last : ℕ) (us ws : List (ℕ × ℕ)) (w : ℕ × ℕ) (stores undo : List Cell) → us ≡ items undo → ws ≡ items stores
+    → ((b : ℕ) → touches stores b ≡ true → touches undo b ≡ true) → last < length ws → w ≡ get_or ws last (0, 0) → a ≡ w.0
+    → item_at a us ≡ None → ⊥
 found a last us ws w stores undo u s covers low is at none =
     let here : has_item a ws ≡ true = ap (λ (k : ℕ). has_item k ws) at ∙ there-item ws last w low is in
     let there = covers a (has-touched a stores ∙ (ap (has_item a) (sym s) ∙ here)) in
@@ -86,7 +97,10 @@ found a last us ws w stores undo u s covers low is at none =
 
 pub loop-count-preserved : goal.loop-count-preserved
 loop-count-preserved g c =
-    absurd (found c.item-a.result.0 (c.loop-count.count - 1) c.args.undo.now.items c.args.writes.now.items c.item-a.result c.args.seat.now.me.0.view.attempt.stores c.args.seat.now.me.0.view.lock.undo c.requires.olds.undone c.requires.olds.stored c.requires.olds.undoable (let h = c.loop-count.invariant.high in let t = c.loop-count-test.true in omega arith) c.item-a.ensures refl (sym c.find.ensures ∙ c.in_default.is))
+    absurd (found c.item-a.result.0 (c.loop-count.count - 1) c.args.undo.now.items c.args.writes.now.items c.item-a.result
+    c.args.seat.now.me.0.view.attempt.stores c.args.seat.now.me.0.view.lock.undo c.requires.olds.undone c.requires.olds.stored
+    c.requires.olds.undoable (let h = c.loop-count.invariant.high in let t = c.loop-count-test.true in omega arith) c.item-a.ensures refl
+    (sym c.find.ensures ∙ c.in_default.is))
 
 pub returns-clause-same : goal.returns-clause-same
 returns-clause-same g c = let i = c.loop-count.invariant in ((i.table, i.id, i.bare), i.seat ∙ ap (λ (w : View). record c.args.seat.now.me.0 { view = w }) (sym (ap (λ (y : SeatView g.row.K.Denot). y.view) i.seat)))

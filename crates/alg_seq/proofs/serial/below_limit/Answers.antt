@@ -17,7 +17,9 @@ returns-then-clock-ge-CLOCK_LIMIT-clause-below g c =
       subst (λ (y : View). IsClocked c.args.seat.now.me.0.view y) (sym t.2) (record { more = record { place = Clock; act = Load; found = Some c.load_limit-clock.result } ∷ []; is = refl }),
       clean,
       (search rules),
-      λ o. subst (λ (y : View). Found Clock c.load_limit-clock.result (known_of c.args.seat.now.me.0.view o) (known_of y o)) (sym t.2) (record { place = Clock; act = Load; found = Some c.load_limit-clock.result } ∷ [], refl, Load, (0, omega arith, refl)),
+      λ o.
+          subst (λ (y : View). Found Clock c.load_limit-clock.result (known_of c.args.seat.now.me.0.view o) (known_of y o)) (sym t.2)
+          (record { place = Clock; act = Load; found = Some c.load_limit-clock.result } ∷ [], refl, Load, (0, omega arith, refl)),
     )
 
 pub returns-clause-below : goal.returns-clause-below

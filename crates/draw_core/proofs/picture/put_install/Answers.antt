@@ -11,4 +11,5 @@ after-two (Err e) t0 t1 t2 a b p q = tt
 pub returns : goal.returns
 returns c =
     let named : string_bytes c.push_str.new.self ≡ string_bytes c.args.text.now ++ alg_name c.args.alg = c.in_ok-push_str.ensures.bytes ∙ ap (λ t. string_bytes c.args.text.now ++ t) c.name.ensures in
-    after-two c.push_str-2.result (string_bytes c.args.text.now) (string_bytes c.push_str.new.self) (string_bytes c.push_str-2.new.self) (alg_name c.args.alg) (codes " from here</text>\n") named c.push_str-2.ensures.bytes
+    after-two c.push_str-2.result (string_bytes c.args.text.now) (string_bytes c.push_str.new.self) (string_bytes c.push_str-2.new.self)
+    (alg_name c.args.alg) (codes " from here</text>\n") named c.push_str-2.ensures.bytes

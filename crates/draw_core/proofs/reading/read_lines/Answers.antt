@@ -26,7 +26,8 @@ returns-then-is_full_clock-clause-told c =
     let s = c.loop-i.rest.now in
     let i = c.in-Some.i in
     let at = c.in-Some.ensures.2 ∙ ap (λ t. 10 ∷ t) (sym c.past-after.ensures) in
-    let same = c.loop-i.invariant.rest ∙ read-clock c.loop-i.told.items c.loop-i.number s i c.past-after.result.now c.in-Some.ensures.1 at (sym c.is.ensures ∙ c.if-is.false) (sym c.is_full_clock.ensures ∙ c.if-is_full_clock.true) in
+    let same = c.loop-i.invariant.rest ∙ read-clock c.loop-i.told.items c.loop-i.number s i c.past-after.result.now c.in-Some.ensures.1 at
+    (sym c.is.ensures ∙ c.if-is.false) (sym c.is_full_clock.ensures ∙ c.if-is_full_clock.true) in
     subst (λ (x : Result (List Line) ℕ). IfOk c.closed.result (λ t. x ≡ Ok t.items)) (sym same) c.closed.ensures.told
 
 pub returns-then-is_full_clock-clause-fault : goal.returns-then-is_full_clock-clause-fault
@@ -34,14 +35,17 @@ returns-then-is_full_clock-clause-fault c =
     let s = c.loop-i.rest.now in
     let i = c.in-Some.i in
     let at = c.in-Some.ensures.2 ∙ ap (λ t. 10 ∷ t) (sym c.past-after.ensures) in
-    let same = c.loop-i.invariant.rest ∙ read-clock c.loop-i.told.items c.loop-i.number s i c.past-after.result.now c.in-Some.ensures.1 at (sym c.is.ensures ∙ c.if-is.false) (sym c.is_full_clock.ensures ∙ c.if-is_full_clock.true) in
+    let same = c.loop-i.invariant.rest ∙ read-clock c.loop-i.told.items c.loop-i.number s i c.past-after.result.now c.in-Some.ensures.1 at
+    (sym c.is.ensures ∙ c.if-is.false) (sym c.is_full_clock.ensures ∙ c.if-is_full_clock.true) in
     subst (λ (x : Result (List Line) ℕ). IfErr c.closed.result (λ e. IsFault e x)) (sym same) c.closed.ensures.fault
 
 pub returns-in-None-clause-fault : goal.returns-in-None-clause-fault
 returns-in-None-clause-fault c =
     let s = c.loop-i.rest.now in
     let i = c.in-Some.i in
-    c.loop-i.invariant.rest ∙ read-wrong c.loop-i.told.items c.loop-i.number s i (drop (i + 1) s) c.in-Some.ensures.1 c.in-Some.ensures.2 (sym c.is.ensures ∙ c.if-is.false) (sym c.is_full_clock.ensures ∙ c.if-is_full_clock.false) (sym c.in-None.ensures)
+    c.loop-i.invariant.rest
+    ∙ read-wrong c.loop-i.told.items c.loop-i.number s i (drop (i + 1) s) c.in-Some.ensures.1 c.in-Some.ensures.2
+    (sym c.is.ensures ∙ c.if-is.false) (sym c.is_full_clock.ensures ∙ c.if-is_full_clock.false) (sym c.in-None.ensures)
 
 pub loop-i-preserved : goal.loop-i-preserved
 loop-i-preserved c =

@@ -46,8 +46,10 @@ returns-in_ok-cursor-in-Of-clause-is c =
     let to = c.in_ok-cursor-in-Of.cursor in
     let op = c.in_ok-cursor-in-Of.op in
     ap (goes c.args.version stands) line
-    ∙ (goes-some c.args.version stands n c.in-Of.said _ in-range (stand-of c.args.items.now n cs _ lt) c.turn_of.result (stand_of c.args.items.now n to) op c.turn_of.ensures c.in_ok-cursor-in-Of.ensures.is c.in_ok-cursor-in-Of.ensures.told
-    ∙ step-same (Of n c.in-Of.said) (deed_of c.args.version op) c.deed_of.result (slice_set stands n (stand_of c.args.items.now n to)) (stands_of c.args.items.now 0 (slice_set cs n to)) (sym c.deed_of.ensures) (set-stand c.args.items.now n cs to))
+    ∙ (goes-some c.args.version stands n c.in-Of.said _ in-range (stand-of c.args.items.now n cs _ lt) c.turn_of.result
+    (stand_of c.args.items.now n to) op c.turn_of.ensures c.in_ok-cursor-in-Of.ensures.is c.in_ok-cursor-in-Of.ensures.told
+    ∙ step-same (Of n c.in-Of.said) (deed_of c.args.version op) c.deed_of.result (slice_set stands n (stand_of c.args.items.now n to))
+    (stands_of c.args.items.now 0 (slice_set cs n to)) (sym c.deed_of.ensures) (set-stand c.args.items.now n cs to))
 
 pub returns-in_ok-cursor-in-Of-clause-within : goal.returns-in_ok-cursor-in-Of-clause-within
 returns-in_ok-cursor-in-Of-clause-within c =

@@ -48,5 +48,6 @@ returns-clause-whole g c =
 pub returns-clause-day : goal.returns-clause-day
 returns-clause-day g c =
     let came = c.with_memory.ensures in
-    opened-day c.args.alg c.args.plan c.sizes-config.result c.sizes-config.ensures.words c.sizes-config.ensures.callers c.requires.plan c.contents_change.ensures.puts c.contents_change.ensures.gets c.queues_are_apart.ensures.empty c.with_memory.result
+    opened-day c.args.alg c.args.plan c.sizes-config.result c.sizes-config.ensures.words c.sizes-config.ensures.callers c.requires.plan
+    c.contents_change.ensures.puts c.contents_change.ensures.gets c.queues_are_apart.ensures.empty c.with_memory.result
     came.count came.answers came.legal came.within came.end came.stories came.nobody_else

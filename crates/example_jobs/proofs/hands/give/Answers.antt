@@ -20,7 +20,10 @@ loop-preserved g c =
     let n = number c.loop.caller.desc in
     let u = known c.loop.caller.desc in
     let w = known c.run.new.self.desc in
-    let came = subst (λ (r : Put). TookEffect (IsQueue q) s.config n (λ log. DoesOver (IsQueue q) s.config.words (put_in q c.args.job) no_log r log) u.front u w) c.in-Some-NoRoom.field-0-is c.in-Some-NoRoom.ensures.took in
+    let came = subst
+    (λ (r : Put).
+    TookEffect (IsQueue q) s.config n (λ log. DoesOver (IsQueue q) s.config.words (put_in q c.args.job) no_log r log) u.front u w)
+    c.in-Some-NoRoom.field-0-is c.in-Some-NoRoom.ensures.took in
     record {
       worked = worked-trans c.args.caller.now.desc c.loop.caller.desc c.run.new.self.desc c.loop.invariant.worked c.run.ensures.worked.through c.run.ensures.worked.grew;
       same = c.run.ensures.same ∙ c.loop.invariant.same;

@@ -36,9 +36,13 @@ returns-in-Ok g c =
     let first_told = subst (AllTold e 0) (append_assoc rest (first_through ∷ []) (second_through ∷ [])) told in
     let first_seen = closed-seen e 0 rest (second_through ∷ []) first_through first_told in
     let second_seen = closed-seen e 0 (rest ++ first_through ∷ []) [] second_through told in
-    let one = wished (λ at. 0 ≤ at) stm.config stm.rule (number first) 7 c.atomically-one.result f g1 g1 e.history of under (λ at _ _. omega arith) c.atomically-one.ensures.took c.atomically-one.ensures.none (carries-refl g1).grows first_seen in
-    let two = wished (λ at. at ≤ between.front) stm.config stm.rule (number second) 7 c.atomically-two.result s between t e.history of under (λ at _ le. le) c.atomically-two.ensures.took c.atomically-two.ensures.none c.atomically-three.ensures.grew second_seen in
-    let three = wished (λ at. between.front ≤ at) stm.config stm.rule (number c.atomically-two.new.desc) 3 c.atomically-three.result between t t e.history of under (λ at ge _. ge) c.atomically-three.ensures.took c.atomically-three.ensures.none (carries-refl t).grows second_seen in
+    let one = wished (λ at. 0 ≤ at) stm.config stm.rule (number first) 7 c.atomically-one.result f g1 g1 e.history of under
+    (λ at _ _. omega arith) c.atomically-one.ensures.took c.atomically-one.ensures.none (carries-refl g1).grows first_seen in
+    let two = wished (λ at. at ≤ between.front) stm.config stm.rule (number second) 7 c.atomically-two.result s between t e.history of under
+    (λ at _ le. le) c.atomically-two.ensures.took c.atomically-two.ensures.none c.atomically-three.ensures.grew second_seen in
+    let three = wished (λ at. between.front ≤ at) stm.config stm.rule (number c.atomically-two.new.desc) 3 c.atomically-three.result between
+    t t e.history of under (λ at ge _. ge) c.atomically-three.ensures.took c.atomically-three.ensures.none (carries-refl t).grows
+    second_seen in
     let callers : stm.config.callers ≡ 2 = ap (λ (k : Config). k.callers) of in
     let both = of-two e.history (λ n le. h.nobody_else n (subst (λ k. k ≤ n) (sym callers) le)) in
     let opened = c.in_ok-stm.ensures.descs in
@@ -55,12 +59,18 @@ returns-in-Ok g c =
     record {
       history = e.history;
       end = e.clock;
-      legal = subst (λ (k : Config). IsLegal (IsTree HALL) (replicate k.words 0) k.clock e.history) of (subst (λ (r : Seats). IsLegal (IsTree r.taken) (replicate stm.config.words 0) stm.config.clock e.history) under h.legal);
+      legal =
+          subst (λ (k : Config). IsLegal (IsTree HALL) (replicate k.words 0) k.clock e.history) of
+          (subst (λ (r : Seats). IsLegal (IsTree r.taken) (replicate stm.config.words 0) stm.config.clock e.history) under h.legal);
       within = h.times;
       words = subst (λ (k : Config). c.in-Ok.words.items ≡ memory_at e.clock e.history (replicate k.words 0)) of h.words;
       turn = between.front;
       one = one.0;
       two = two.0;
       three = three.0;
-      only = (let a = ap length (sym ones) in let b = ap length (sym others) in let x = ap length first_new in let y = ap length second_new in let p = one.1 in let q = two.1 in let r = three.1 in omega (arith, both, a, b, x, y, p, q, r));
+      only =
+          (let a = ap length (sym ones) in
+          let b = ap length (sym others) in
+          let x = ap length first_new in
+          let y = ap length second_new in let p = one.1 in let q = two.1 in let r = three.1 in omega (arith, both, a, b, x, y, p, q, r));
     }

@@ -26,7 +26,11 @@ loop-checked_caller-preserved c =
       count = kept ∙ at.count;
       low = omega (arith, was, many, kept);
       new = each-first (λ i b. IsNew config alg i b.value) rest box all;
-      dealt = λ k d le lt. dealt-more (HoldsNew config alg) place callers c.hold.new.self low (box.value, c.hold.ensures, subst (λ j. IsNew config alg j box.value) (sym here) last) (λ j e l m. at.dealt j e (omega (arith, l, here, many)) m) k d (omega (arith, le, here)) lt;
+      dealt =
+          λ k d le lt.
+          dealt-more (HoldsNew config alg) place callers c.hold.new.self low
+          (box.value, c.hold.ensures, subst (λ j. IsNew config alg j box.value) (sym here) last)
+          (λ j e l m. at.dealt j e (omega (arith, l, here, many)) m) k d (omega (arith, le, here)) lt;
     }
 
 pub returns : goal.returns

@@ -10,7 +10,8 @@ use Rattle.nekchhaul_c.proofs.writing.write_each.Goals as goal
 pub returns-then-number-ne-OK : goal.returns-then-number-ne-OK
 returns-then-number-ne-OK c =
     let at = c.loop-i.invariant in
-    stopped-write c.loop-i.i c.args.addresses.now c.args.values.now c.of_write-number.result c.write.result c.args.checked_caller.now c.loop-i.checked_caller c.write.new.self c.loop-i-test.true c.requires.enough at.same at.wrote c.write.ensures
+    stopped-write c.loop-i.i c.args.addresses.now c.args.values.now c.of_write-number.result c.write.result c.args.checked_caller.now
+    c.loop-i.checked_caller c.write.new.self c.loop-i-test.true c.requires.enough at.same at.wrote c.write.ensures
     c.of_write-number.ensures c.if-number-ne-OK.true
 
 pub loop-i-preserved : goal.loop-i-preserved

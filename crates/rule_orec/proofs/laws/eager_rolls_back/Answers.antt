@@ -1,9 +1,8 @@
-use Rattle.std.proofs.Common.{ℕ, ◌≡◌, ◌<◌, ◌+◌, List, [], ◌∷◌, Bool, true, false, refl, sym, ap, ◌∙◌, arith}
+use Rattle.std.proofs.Common.{ℕ, ◌≡◌, ◌<◌, List, [], ◌∷◌, Bool, true, false, refl, sym, ap, ◌∙◌, arith}
 use Rattle.std.specs.Prelude.{◌==◌, ◌%◌, if◌then◌else◌}
 use Rattle.stm_model.specs.Algorithms.{has_records}
 use Rattle.stm_model.specs.declared.config.Config.{Config}
 use Rattle.rule_base.specs.declared.entries.Cell.{Cell}
-use Rattle.rule_base.specs.declared.views.GateView.{GateView}
 use Rattle.rule_base.specs.Bridge.{of_words}
 use Rattle.rule_base.specs.History.{touches, over}
 use Rattle.rule_orec.specs.OrecSteps.{is_eager}
@@ -40,9 +39,32 @@ eager_rolls_back_lem good c gates phase alg plain quiescent callers words home =
                   (
                     (callers, record { opens = record { has = record { runs = record { phase = phase; algorithm = recs; plain = plain }; inside = refl }; open_yet = refl }; eager = eager; held = held; unwritten = refl; inside = words }),
                     (
-                      (callers, record { has = record { runs = record { phase = phase; algorithm = recs; plain = plain }; inside = refl }; restored = refl; not_quiescent = λ e. absurd (let f : true ≡ false = sym e ∙ quiescent in cc); limit = omega arith; above = λ r e. low r; greatest = (0, refl, refl) }),
                       (
-                        (callers, record { gives = record { has = record { runs = record { phase = phase; algorithm = recs; plain = plain }; inside = refl }; held = refl; clear = record { back = λ a e. refl; undo = λ a e. refl } }; undone = refl; raised = refl; next = refl }),
+                        callers,
+                        record {
+                          has = record { runs = record { phase = phase; algorithm = recs; plain = plain }; inside = refl };
+                          restored = refl;
+                          not_quiescent = λ e. absurd (let f : true ≡ false = sym e ∙ quiescent in cc);
+                          limit = omega arith;
+                          above = λ r e. low r;
+                          greatest = (0, refl, refl);
+                        },
+                      ),
+                      (
+                        (
+                          callers,
+                          record {
+                            gives = record {
+                              has =
+                                  record { runs = record { phase = phase; algorithm = recs; plain = plain }; inside = refl };
+                              held = refl;
+                              clear = record { back = λ a e. refl; undo = λ a e. refl };
+                            };
+                            undone = refl;
+                            raised = refl;
+                            next = refl;
+                          },
+                        ),
                         tt,
                       ),
                     ),

@@ -1,11 +1,8 @@
-use Rattle.std.proofs.Common.{ℕ, ◌≡◌, ◌<◌, ◌+◌, true, false, refl, sym, ap, ◌∙◌, arith}
+use Rattle.std.proofs.Common.{ℕ, ◌≡◌, true, false, refl, ap, arith}
 use Rattle.stm_model.specs.Algorithms.{takes_lock, irrevocable_under}
 use Rattle.stm_model.specs.declared.alg.Alg.{Alg}
 use Rattle.stm_model.specs.declared.config.Config.{Config}
-use Rattle.rule_base.specs.declared.views.GateView.{GateView}
-use Rattle.rule_base.specs.declared.views.View.{View}
 use Rattle.rule_base.specs.Bridge.{of_words}
-use Rattle.rule_seq.specs.CglSteps.{HasLock}
 use Rattle.rule_seq.specs.SerialRuns.{SerialRollsBack}
 use Rattle.rule_seq.proofs.laws.serial_rolls_back.Goals as goal
 

@@ -15,4 +15,6 @@ exchange_as-requires-clause-law g c =
     let m = good_of g.K.MemRule.good f c.args.stm.now.rule in
     let n = c.args.caller in
     let v = c.args.seat.now.me.0.view in
-    law_of (Invariant m f) (orec_commit n c.args.start v.owned.in_place []) (FindsCommit m f n c.args.start v.owned.in_place) n (λ u. CanOrecCommit (home_of f) m f.words c.args.start v.owned.in_place [] u × (u.owned.in_place ≡ v.owned.in_place)) v (commits_placed m f n c.args.start v.owned.in_place c.requires.caller) (c.requires.view, refl)
+    law_of (Invariant m f) (orec_commit n c.args.start v.owned.in_place []) (FindsCommit m f n c.args.start v.owned.in_place) n
+    (λ u. CanOrecCommit (home_of f) m f.words c.args.start v.owned.in_place [] u × (u.owned.in_place ≡ v.owned.in_place)) v
+    (commits_placed m f n c.args.start v.owned.in_place c.requires.caller) (c.requires.view, refl)

@@ -6,4 +6,10 @@ use Rattle.std.specs.Prelude.{[]}
 use Rattle.steps_orec.proofs.eager.commit_placed.Given as goal
 
 abbrev pub ghosts-exchange_as : goal.ghosts-exchange_as
-ghosts-exchange_as g a = record { step = of_orec (orec_commits a.old a.seat.now.me.0.view.owned.in_place []); shows = FindsCommit (good_of g.K.MemRule.good a.self.now.config a.self.now.rule) a.self.now.config a.said.now a.old a.seat.now.me.0.view.owned.in_place; caller = a.said.now }
+ghosts-exchange_as g a =
+    record {
+      step = of_orec (orec_commits a.old a.seat.now.me.0.view.owned.in_place []);
+      shows = FindsCommit (good_of g.K.MemRule.good a.self.now.config a.self.now.rule) a.self.now.config a.said.now a.old
+          a.seat.now.me.0.view.owned.in_place;
+      caller = a.said.now;
+    }

@@ -13,4 +13,6 @@ load_as-requires-clause-law g c =
     let f = c.args.stm.now.config in
     let m = good_of g.K.MemRule.good f c.args.stm.now.rule in
     let n = c.args.caller in
-    law_of (Invariant m f) (orec_own_load c.args.a) (OrecOwnLoads m f c.args.a) n (λ v. CanOrecOwnLoad (home_of f) f.words c.args.a v × IsSpared c.args.a v) c.args.seat.now.me.0.view (orec_own_loads m f n c.args.a) (c.requires.view, c.requires.spared)
+    law_of (Invariant m f) (orec_own_load c.args.a) (OrecOwnLoads m f c.args.a) n
+    (λ v. CanOrecOwnLoad (home_of f) f.words c.args.a v × IsSpared c.args.a v) c.args.seat.now.me.0.view (orec_own_loads m f n c.args.a)
+    (c.requires.view, c.requires.spared)

@@ -6,4 +6,10 @@ use Rattle.stm_rule.specs.RecordsKept.{cells_of}
 use Rattle.steps_orec.proofs.lazy.commit.Given as goal
 
 abbrev pub ghosts-exchange_as : goal.ghosts-exchange_as
-ghosts-exchange_as g a = record { step = of_orec (orec_commits a.old (cells_of a.said.now.1.now.items) (cells_of a.said.now.1.now.items)); shows = FindsCommit (good_of g.K.MemRule.good a.self.now.config a.self.now.rule) a.self.now.config a.said.now.0 a.old (cells_of a.said.now.1.now.items); caller = a.said.now.0 }
+ghosts-exchange_as g a =
+    record {
+      step = of_orec (orec_commits a.old (cells_of a.said.now.1.now.items) (cells_of a.said.now.1.now.items));
+      shows = FindsCommit (good_of g.K.MemRule.good a.self.now.config a.self.now.rule) a.self.now.config a.said.now.0 a.old
+          (cells_of a.said.now.1.now.items);
+      caller = a.said.now.0;
+    }

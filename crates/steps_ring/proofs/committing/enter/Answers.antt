@@ -11,4 +11,6 @@ store_as-requires-clause-law g c =
     let f = c.args.stm.now.config in
     let m = good_of g.K.MemRule.good f c.args.stm.now.rule in
     let n = c.args.caller in
-    law_of (Invariant m f) (ring_enter n c.args.time) (RingEnters m f n c.args.time) n (λ v. CanRingEnter m f.words c.args.time v × AreSpared v.ring_commit.writes v) c.args.seat.now.me.0.view (ring_enters m f n c.args.time c.requires.caller) (c.requires.view, c.requires.spared)
+    law_of (Invariant m f) (ring_enter n c.args.time) (RingEnters m f n c.args.time) n
+    (λ v. CanRingEnter m f.words c.args.time v × AreSpared v.ring_commit.writes v) c.args.seat.now.me.0.view
+    (ring_enters m f n c.args.time c.requires.caller) (c.requires.view, c.requires.spared)

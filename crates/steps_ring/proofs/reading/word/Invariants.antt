@@ -3,5 +3,5 @@ use Rattle.stm_rule.specs.Runs.CoreRuns.CoreStep.{of_ring}
 use Rattle.rule_base.specs.StepKinds.{Nothing}
 use Rattle.steps_ring.proofs.reading.word.Given as goal
 
-abbrev pub ghosts-load_as : goal.ghosts-load_as
-ghosts-load_as g a = record { step = of_ring (ring_words a.self.now.config.ring a.said.now.1 a.said.now.2); shows = Nothing; caller = a.said.now.0 }
+abbrev pub ghosts-load_at : goal.ghosts-load_at
+ghosts-load_at g a = record { step = of_ring (ring_words a.self.now.config.ring a.said.now.1 a.said.now.2); shows = Nothing; caller = a.said.now.0 }

@@ -18,10 +18,12 @@ use Rattle.stm_check.proofs.replay.judge_end.Goals as goal
 refuted : (w : Workload) (r : Report) (line : ℕ) → IsFirstFault w r line → (Replays w r → ⊥) × IsFirstFault w r line
 refuted w r line f = (fault-refutes w r line f, f)
 
-missing : (w : Workload) (r : Report) (last : List ℕ) (n line : ℕ) → AreRight w [] (zeros w.header.words) r.rows last → (AllHaveRows w r.rows → ⊥) → n ≡ length r.rows → line ≡ n + 2 → (Replays w r → ⊥) × IsFirstFault w r line
+missing : (w : Workload) (r : Report) (last : List ℕ) (n line : ℕ) → AreRight w [] (zeros w.header.words) r.rows last
+    → (AllHaveRows w r.rows → ⊥) → n ≡ length r.rows → line ≡ n + 2 → (Replays w r → ⊥) × IsFirstFault w r line
 missing w r last n line right none is at = refuted w r line (inr (last, right, inl (none, omega arith)))
 
-differs : (w : Workload) (r : Report) (last : List ℕ) (told left : List (ℕ × ℕ)) (n same line : ℕ) → AreRight w [] (zeros w.header.words) r.rows last → AllHaveRows w r.rows → n ≡ length r.rows → told ≡ r.memory → left ≡ nonzero 0 last
+differs : (w : Workload) (r : Report) (last : List ℕ) (told left : List (ℕ × ℕ)) (n same line : ℕ)
+    → AreRight w [] (zeros w.header.words) r.rows last → AllHaveRows w r.rows → n ≡ length r.rows → told ≡ r.memory → left ≡ nonzero 0 last
     → same ≡ alike told left → (told ≡ left → ⊥) → line ≡ n + 2 + same → (Replays w r → ⊥) × IsFirstFault w r line
 differs w r last told left n same line right all is t l s other at =
     let e : same ≡ alike r.memory (nonzero 0 last) = s ∙ (ap (λ x. alike x left) t ∙ ap (alike r.memory) l) in
@@ -44,7 +46,8 @@ WantsIn w r left x = ⊥
 
 -- the word after those that are alike, or the end
 behind-word : (w : Workload) (r : Report) (last : List ℕ) (left : List (ℕ × ℕ)) (same : ℕ) (x : Wanted) → AreRight w [] (zeros w.header.words) r.rows last → AllHaveRows w r.rows → left ≡ nonzero 0 last
-    → same ≡ alike r.memory left → same ≤ length left → (same < length left → x ≡ word_of (get_or left same (0, 0))) → (length left ≤ same → x ≡ wants.End) → (same < length r.memory) ⊎ (same < length left) → IsWanted w r x
+    → same ≡ alike r.memory left → same ≤ length left → (same < length left → x ≡ word_of (get_or left same (0, 0)))
+    → (length left ≤ same → x ≡ wants.End) → (same < length r.memory) ⊎ (same < length left) → IsWanted w r x
 behind-word w r last left same x right all l s le word end more = inr (last, right, behind x (subst (λ k. WantsIn w r k x) l (by (ltb same (length left)) refl)))
   where
     behind : (y : Wanted) → WantsIn w r (nonzero 0 last) y → WantsAfter w r last y
@@ -85,8 +88,10 @@ returns-then-same-told-clause-verdict c =
     let left = c.in_ok-left.ensures ∙ ap (nonzero 0) (c.deref.ensures.value ∙ c.in_ok-values.ensures) in
     let all = subst (AllHaveRows w) rows c.in_default.ensures in
     subst (Judges w c.args.report.now) (sym c.no-then-same-told.ensures.verdict)
-    (differs w c.args.report.now (openings c.args.standing.now.ledger) c.as_slice-told.result.now c.as_slice.result.now (length c.as_slice-rows.result.now) c.alike-same.result (length c.as_slice-rows.result.now + 2 + c.alike-same.result)
-    c.requires.right all (ap length rows) c.as_slice-told.ensures (c.as_slice.ensures ∙ left) c.alike-same.ensures.alike (told-not c.as_slice-told.result.now c.as_slice.result.now c.alike-same.result c.alike-same.ensures.alike c.if-same-told.true) refl)
+    (differs w c.args.report.now (openings c.args.standing.now.ledger) c.as_slice-told.result.now c.as_slice.result.now
+    (length c.as_slice-rows.result.now) c.alike-same.result (length c.as_slice-rows.result.now + 2 + c.alike-same.result)
+    c.requires.right all (ap length rows) c.as_slice-told.ensures (c.as_slice.ensures ∙ left) c.alike-same.ensures.alike
+    (told-not c.as_slice-told.result.now c.as_slice.result.now c.alike-same.result c.alike-same.ensures.alike c.if-same-told.true) refl)
 
 pub returns-then-same-as_slice-clause-verdict : goal.returns-then-same-as_slice-clause-verdict
 returns-then-same-as_slice-clause-verdict c =
@@ -97,8 +102,10 @@ returns-then-same-as_slice-clause-verdict c =
     let two = c.as_slice-2.ensures ∙ sym c.as_slice.ensures in
     let shorter : c.alike-same.result < length c.as_slice.result.now = subst (λ (l : List (ℕ × ℕ)). c.alike-same.result < length l) two c.if-same-as_slice.true in
     subst (Judges w c.args.report.now) (sym c.no-then-same-as_slice.ensures.verdict)
-    (differs w c.args.report.now (openings c.args.standing.now.ledger) c.as_slice-told.result.now c.as_slice.result.now (length c.as_slice-rows.result.now) c.alike-same.result (length c.as_slice-rows.result.now + 2 + c.alike-same.result)
-    c.requires.right all (ap length rows) c.as_slice-told.ensures (c.as_slice.ensures ∙ left) c.alike-same.ensures.alike (left-not c.as_slice-told.result.now c.as_slice.result.now c.alike-same.result c.alike-same.ensures.alike shorter) refl)
+    (differs w c.args.report.now (openings c.args.standing.now.ledger) c.as_slice-told.result.now c.as_slice.result.now
+    (length c.as_slice-rows.result.now) c.alike-same.result (length c.as_slice-rows.result.now + 2 + c.alike-same.result)
+    c.requires.right all (ap length rows) c.as_slice-told.ensures (c.as_slice.ensures ∙ left) c.alike-same.ensures.alike
+    (left-not c.as_slice-told.result.now c.as_slice.result.now c.alike-same.result c.alike-same.ensures.alike shorter) refl)
 
 pub returns-then-same-told-clause-wanted : goal.returns-then-same-told-clause-wanted
 returns-then-same-told-clause-wanted c =
@@ -109,7 +116,9 @@ returns-then-same-told-clause-wanted c =
     let told = c.as_slice-told.ensures in
     let two = c.as_slice-then-same-told.ensures ∙ sym c.as_slice.ensures in
     let x = c.wanted_word in
-    wants-no w c.args.report.now c.no-then-same-told.result.verdict c.no-then-same-told.result.wanted (length c.as_slice-rows.result.now + 2 + c.alike-same.result) x.result c.no-then-same-told.ensures.verdict c.no-then-same-told.ensures.wanted
+    wants-no w c.args.report.now c.no-then-same-told.result.verdict c.no-then-same-told.result.wanted
+    (length c.as_slice-rows.result.now + 2 + c.alike-same.result) x.result c.no-then-same-told.ensures.verdict
+    c.no-then-same-told.ensures.wanted
     (behind-word w c.args.report.now (openings c.args.standing.now.ledger) c.as_slice.result.now c.alike-same.result x.result c.requires.right all (c.as_slice.ensures ∙ left)
     (c.alike-same.ensures.alike ∙ ap (λ t. alike t c.as_slice.result.now) told) c.alike-same.ensures.left
     (subst (λ (l : List (ℕ × ℕ)). c.alike-same.result < length l → x.result ≡ word_of (get_or l c.alike-same.result (0, 0))) two x.ensures.word)
@@ -126,7 +135,9 @@ returns-then-same-as_slice-clause-wanted c =
     let two = c.as_slice-then-same-as_slice.ensures ∙ sym c.as_slice.ensures in
     let other = c.as_slice-2.ensures ∙ sym c.as_slice.ensures in
     let x = c.wanted_word-then-same-as_slice in
-    wants-no w c.args.report.now c.no-then-same-as_slice.result.verdict c.no-then-same-as_slice.result.wanted (length c.as_slice-rows.result.now + 2 + c.alike-same.result) x.result c.no-then-same-as_slice.ensures.verdict c.no-then-same-as_slice.ensures.wanted
+    wants-no w c.args.report.now c.no-then-same-as_slice.result.verdict c.no-then-same-as_slice.result.wanted
+    (length c.as_slice-rows.result.now + 2 + c.alike-same.result) x.result c.no-then-same-as_slice.ensures.verdict
+    c.no-then-same-as_slice.ensures.wanted
     (behind-word w c.args.report.now (openings c.args.standing.now.ledger) c.as_slice.result.now c.alike-same.result x.result c.requires.right all (c.as_slice.ensures ∙ left)
     (c.alike-same.ensures.alike ∙ ap (λ t. alike t c.as_slice.result.now) told) c.alike-same.ensures.left
     (subst (λ (l : List (ℕ × ℕ)). c.alike-same.result < length l → x.result ≡ word_of (get_or l c.alike-same.result (0, 0))) two x.ensures.word)

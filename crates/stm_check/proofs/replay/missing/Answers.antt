@@ -18,7 +18,8 @@ one-more w above k before here n lt = by (n == k) refl
     by true e = let q : k ≡ n = grind (arith, nat_tests) in subst (λ j. length (rows_of j above) ≡ length (scripts_of j w.items)) q here
     by false e = before n (let q : n ≢ k = grind (arith, nat_tests) in omega arith)
 
-all-of : (w : Workload) (above : List Row) (s : Standing) (k : ℕ) → ItemsFit (regions_of w.header) w.header w.items → StandsAfter w above s → w.header.callers ≤ k → ((n : ℕ) → n < k → length (rows_of n above) ≡ length (scripts_of n w.items))
+all-of : (w : Workload) (above : List Row) (s : Standing) (k : ℕ) → ItemsFit (regions_of w.header) w.header w.items → StandsAfter w above s
+    → w.header.callers ≤ k → ((n : ℕ) → n < k → length (rows_of n above) ≡ length (scripts_of n w.items))
     → (n : ℕ) → length (rows_of n above) ≡ length (scripts_of n w.items)
 all-of w above s k fit stands le before n = by (ltb n k) refl
   where
@@ -34,7 +35,8 @@ loop-caller-preserved c =
     let k = c.loop-caller.caller in
     let lt = c.loop-caller-test.true in let n = c.len-caller-end.ensures in let s = c.requires.stands.callers in
     let at : IsAt w.items c.args.above.now k c.index-cursor.result.now = subst (IsAt w.items c.args.above.now k) (sym c.index-cursor.ensures) (c.requires.stands.each k c.index-cursor.result.now (omega arith)) in
-    one-more w c.args.above.now k c.loop-caller.invariant (none-left w c.args.above.now k c.index-cursor.result.now at (ap (λ l. scripts_of k (drop c.index-cursor.result.now.item l)) (sym c.as_slice-items.ensures) ∙ c.in_default.ensures.script))
+    one-more w c.args.above.now k c.loop-caller.invariant (none-left w c.args.above.now k c.index-cursor.result.now at
+    (ap (λ l. scripts_of k (drop c.index-cursor.result.now.item l)) (sym c.as_slice-items.ensures) ∙ c.in_default.ensures.script))
 
 pub returns : goal.returns
 returns c =

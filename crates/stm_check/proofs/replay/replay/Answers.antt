@@ -1,4 +1,4 @@
-use Rattle.std.proofs.Common.{ℕ, List, [], ◌∷◌, ◌++◌, ◌≡◌, ◌<◌, ◌≤◌, ◌+◌, zero, suc, take, drop, length, get_or, Bool, true, false, refl, sym, ap, ◌∙◌, arith, subst, inl}
+use Rattle.std.proofs.Common.{ℕ, List, [], ◌∷◌, ◌++◌, ◌≡◌, ◌<◌, ◌≤◌, ◌+◌, zero, suc, take, drop, length, get_or, true, false, refl, sym, ap, ◌∙◌, arith, subst, inl}
 use Rattle.std.proofs.Math.Seq.{take_all}
 use Rattle.stm_model.specs.Plains.{openings}
 use Rattle.stm_script.specs.declared.report.Row.{Row}
@@ -47,7 +47,10 @@ loop-i-preserved c =
     record {
       stands = subst (λ (l : List Row). StandsAfter w l c.wanted_for.new.standing) (ap (λ (l : List Row). take i l ++ r ∷ []) e ∙ take-row rows i r lt at) (k.stands none);
       right = λ last h. c.loop-i.invariant.right last (right-more w rows i r m now lt at right memory last h);
-      wants = λ n wanted h. subst (λ j. WantsAt w [] (zeros w.header.words) rows j wanted) (let s : i + suc n ≡ i + 1 + n = omega arith in s) (c.loop-i.invariant.wants (suc n) wanted (wants-more w rows i r m now lt at right memory n wanted h));
+      wants =
+          λ n wanted h.
+          subst (λ j. WantsAt w [] (zeros w.header.words) rows j wanted) (let s : i + suc n ≡ i + 1 + n = omega arith in s)
+          (c.loop-i.invariant.wants (suc n) wanted (wants-more w rows i r m now lt at right memory n wanted h));
     }
 
 -- what is wanted of the row is wanted of the report, and the row is its first fault
@@ -59,8 +62,10 @@ found w r i x v o h p q =
       subst (λ u. Wants w r u o) (sym p) (subst (λ m. MatchOption m ⊥ (IsWanted w r)) (sym q) some),
     )
 
-row-found : (w : Workload) (r : Report) (slice : List Row) (i : ℕ) (row : Row) (m : List ℕ) (x : Wanted) (told : Option Wanted) (v : Verdict) (o : Option Wanted) → slice ≡ r.rows → i < length slice → row ≡ get_or slice i row
-    → told ≡ Some x → MatchOption told (IsRight w (take i slice) m row) (WantsOf w (take i slice) m row) → ((n : ℕ) (y : Wanted) → WantsAt w (take i r.rows) m (drop i r.rows) n y → WantsAt w [] (zeros w.header.words) r.rows (i + n) y)
+row-found : (w : Workload) (r : Report) (slice : List Row) (i : ℕ) (row : Row) (m : List ℕ) (x : Wanted) (told : Option Wanted)
+    (v : Verdict) (o : Option Wanted) → slice ≡ r.rows → i < length slice → row ≡ get_or slice i row
+    → told ≡ Some x → MatchOption told (IsRight w (take i slice) m row) (WantsOf w (take i slice) m row)
+    → ((n : ℕ) (y : Wanted) → WantsAt w (take i r.rows) m (drop i r.rows) n y → WantsAt w [] (zeros w.header.words) r.rows (i + n) y)
     → v ≡ No (i + 2) → o ≡ Some x → Judges w r v × Wants w r v o
 row-found w r slice i row m x told v o e lt at is h wants p q =
     let of : WantsOf w (take i slice) m row x = subst (λ t. MatchOption t (IsRight w (take i slice) m row) (WantsOf w (take i slice) m row)) is h in
@@ -82,7 +87,9 @@ judge_end-requires-clause-right c =
     let w = c.args.workload.now in
     let rows = c.args.report.now.rows in
     let past = subst (λ (l : List Row). length l ≤ c.loop-i.i) c.as_slice-rows.ensures c.loop-i-test.false in
-    c.loop-i.invariant.right (openings c.loop-i.standing.ledger) (subst (λ (l : List Row). AreRight w (take c.loop-i.i rows) (openings c.loop-i.standing.ledger) l (openings c.loop-i.standing.ledger)) (sym (none rows c.loop-i.i past)) refl)
+    c.loop-i.invariant.right (openings c.loop-i.standing.ledger)
+    (subst (λ (l : List Row). AreRight w (take c.loop-i.i rows) (openings c.loop-i.standing.ledger) l (openings c.loop-i.standing.ledger))
+    (sym (none rows c.loop-i.i past)) refl)
   where
     none : (l : List Row) (k : ℕ) → length l ≤ k → drop k l ≡ []
     none [] zero h = refl

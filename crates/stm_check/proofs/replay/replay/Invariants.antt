@@ -11,5 +11,7 @@ abbrev pub invariant-loop-i : goal.invariant-loop-i
 invariant-loop-i l = record {
   stands : StandsAfter l.workload (take l.i l.report.rows) l.standing;
   right : (last : List ℕ) → AreRight l.workload (take l.i l.report.rows) (openings l.standing.ledger) (drop l.i l.report.rows) last → AreRight l.workload [] (zeros l.workload.header.words) l.report.rows last;
-  wants : (n : ℕ) (wanted : Wanted) → WantsAt l.workload (take l.i l.report.rows) (openings l.standing.ledger) (drop l.i l.report.rows) n wanted → WantsAt l.workload [] (zeros l.workload.header.words) l.report.rows (l.i + n) wanted;
+  wants : (n : ℕ) (wanted : Wanted)
+      → WantsAt l.workload (take l.i l.report.rows) (openings l.standing.ledger) (drop l.i l.report.rows) n wanted
+      → WantsAt l.workload [] (zeros l.workload.header.words) l.report.rows (l.i + n) wanted;
 }

@@ -11,5 +11,9 @@ pub returns : goal.returns
 returns g c = record {
   sound = c.turns_until.ensures.sound;
   same = same-trans (workers_in c.args.runners.now) (workers_in c.make_ready.new.runners) (workers_in c.turns_until.new.runners) c.make_ready.ensures.same c.turns_until.ensures.same;
-  goes = goes-on c.args.stm.now.config (may_until c.args.until) (ready_until c.args.until) (stands_until c.args.until) (workers_in c.args.runners.now) (workers_in c.make_ready.new.runners) (workers_in c.turns_until.new.runners) c.args.trace.now.items c.make_ready.new.trace.items c.turns_until.new.trace.items c.args.caller c.turns_until.result c.in-Ok.ensures.goes c.turns_until.ensures.goes;
+  goes =
+      goes-on c.args.stm.now.config (may_until c.args.until) (ready_until c.args.until) (stands_until c.args.until)
+      (workers_in c.args.runners.now) (workers_in c.make_ready.new.runners) (workers_in c.turns_until.new.runners) c.args.trace.now.items
+      c.make_ready.new.trace.items c.turns_until.new.trace.items c.args.caller c.turns_until.result c.in-Ok.ensures.goes
+      c.turns_until.ensures.goes;
 }

@@ -23,6 +23,8 @@ loop-n-preserved c =
     let len = c.move_later.ensures.len in
     let kept = c.move_later.ensures.capacity in
     record {
-      rows = moves-some at.lists c.in-Some.n c.index-lists-n.result c.move_later.new.self at.to.items c.move_later.new.to.items (c.args.to.now.items ++ joined c.args.lists.now) c.in-Some.ensures.0 c.move_later.ensures.moves at.invariant.rows;
+      rows =
+          moves-some at.lists c.in-Some.n c.index-lists-n.result c.move_later.new.self at.to.items c.move_later.new.to.items
+          (c.args.to.now.items ++ joined c.args.lists.now) c.in-Some.ensures.0 c.move_later.ensures.moves at.invariant.rows;
       room = omega (arith, left, room, len, kept);
     }

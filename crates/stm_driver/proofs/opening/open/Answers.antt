@@ -15,6 +15,9 @@ returns-clause-opens g c =
     record {
       sized = sized;
       count = length-set ds 0 c.install_first.new.desc ∙ count;
-      new = all-new stm c.args.header.now.alg ds c.index_mut.result.now c.index_mut.result.now c.install_first.new.desc c.in-Ok.ensures.descs.0 some c.index_mut.ensures.value c.install_first.ensures.same c.install_first.ensures.new c.install_first.ensures.lengths;
+      new =
+          all-new stm c.args.header.now.alg ds c.index_mut.result.now c.index_mut.result.now c.install_first.new.desc
+          c.in-Ok.ensures.descs.0 some c.index_mut.ensures.value c.install_first.ensures.same c.install_first.ensures.new
+          c.install_first.ensures.lengths;
       knows = all-know stm c.args.header.now.alg ds c.install_first.new.desc some (c.in-Ok.ensures.descs.1 ∙ ap (λ (x : Config). x.callers) (sym c.in-Ok.ensures.stm.0)) c.install_first.ensures.knows;
     }

@@ -17,5 +17,8 @@ returns-clause-prepared g c =
       count = o.count;
       new = o.new;
       knows = o.knows;
-      made = subst (λ (rs : List Region). AreMade (λ n. slice_index_or c.args.parts.now n []) rs c.args.header.now.alg c.args.policy 0 c.in_ok-stm.descs.items (workers_in c.in_ok-runners.runners.items)) c.requires.regions c.in_ok-runners.ensures;
+      made =
+          subst (λ (rs : List Region).
+          AreMade (λ n. slice_index_or c.args.parts.now n []) rs c.args.header.now.alg c.args.policy 0 c.in_ok-stm.descs.items
+          (workers_in c.in_ok-runners.runners.items)) c.requires.regions c.in_ok-runners.ensures;
     }

@@ -18,7 +18,8 @@ run_all-requires-clause-some g c κs within =
     let w = c.requires.ready.1 in
     let r = c.requires.ready.2 in
     let s = c.args.prepared.stm in
-    let begun = begun (g.K.MemRule.good s.rule) false policy w s (is_parsed-items Run w c.parsed_workloads_fit.ensures r.is_parsed) r.prepared.sized r.keeps (parted w.header.callers w.items) (workers_in c.args.prepared.runners.items) refl r.prepared in
+    let begun = begun (g.K.MemRule.good s.rule) false policy w s (is_parsed-items Run w c.parsed_workloads_fit.ensures r.is_parsed)
+    r.prepared.sized r.keeps (parted w.header.callers w.items) (workers_in c.args.prepared.runners.items) refl r.prepared in
     let some = r.is_parsed.header.config.callers.0 in
     let many = begun.count in
     let same = ap length c.as_mut_slice.ensures.value in
@@ -31,8 +32,11 @@ run_all-requires-clause-ready g c κs within =
     let w = c.requires.ready.1 in
     let r = c.requires.ready.2 in
     let s = c.args.prepared.stm in
-    let begun = begun (g.K.MemRule.good s.rule) false policy w s (is_parsed-items Run w c.parsed_workloads_fit.ensures r.is_parsed) r.prepared.sized r.keeps (parted w.header.callers w.items) (workers_in c.args.prepared.runners.items) refl r.prepared in
-    subst (All (IsReady (g.K.MemRule.good s.rule) s)) (sym c.as_mut_slice.ensures.value) (all-ready (g.K.MemRule.good s.rule) false policy w s (is_parsed-items Run w c.parsed_workloads_fit.ensures r.is_parsed) r.prepared.sized c.args.prepared.runners.items begun.sound)
+    let begun = begun (g.K.MemRule.good s.rule) false policy w s (is_parsed-items Run w c.parsed_workloads_fit.ensures r.is_parsed)
+    r.prepared.sized r.keeps (parted w.header.callers w.items) (workers_in c.args.prepared.runners.items) refl r.prepared in
+    subst (All (IsReady (g.K.MemRule.good s.rule) s)) (sym c.as_mut_slice.ensures.value)
+    (all-ready (g.K.MemRule.good s.rule) false policy w s (is_parsed-items Run w c.parsed_workloads_fit.ensures r.is_parsed)
+    r.prepared.sized c.args.prepared.runners.items begun.sound)
 
 pub close_memory-requires-clause-sound : goal.close_memory-requires-clause-sound
 close_memory-requires-clause-sound g c =
@@ -40,8 +44,12 @@ close_memory-requires-clause-sound g c =
     let w = c.requires.ready.1 in
     let r = c.requires.ready.2 in
     let s = c.args.prepared.stm in
-    let ran = ran-all (g.K.MemRule.good s.rule) false policy w s (is_parsed-items Run w c.parsed_workloads_fit.ensures r.is_parsed) r.prepared.sized c.as_mut_slice.result.now c.run_all.new.runners c.run_all.ensures.count c.run_all.ensures.done in
-    let done = done (g.K.MemRule.good s.rule) false policy w s (is_parsed-items Run w c.parsed_workloads_fit.ensures r.is_parsed) r.prepared.sized r.keeps (parted w.header.callers w.items) refl c.args.prepared.runners.items c.as_mut_slice.result.now c.run_all.new.runners c.args.prepared.runners.len r.prepared c.as_mut_slice.ensures.value c.as_mut_slice.ensures.len ran.same ran.sound in
+    let ran = ran-all (g.K.MemRule.good s.rule) false policy w s (is_parsed-items Run w c.parsed_workloads_fit.ensures r.is_parsed)
+    r.prepared.sized c.as_mut_slice.result.now c.run_all.new.runners c.run_all.ensures.count c.run_all.ensures.done in
+    let done = done (g.K.MemRule.good s.rule) false policy w s (is_parsed-items Run w c.parsed_workloads_fit.ensures r.is_parsed)
+    r.prepared.sized r.keeps (parted w.header.callers w.items) refl c.args.prepared.runners.items c.as_mut_slice.result.now
+    c.run_all.new.runners c.args.prepared.runners.len r.prepared c.as_mut_slice.ensures.value c.as_mut_slice.ensures.len ran.same ran.sound
+    in
     done.turned.sound
 
 pub close_memory-requires-clause-callers : goal.close_memory-requires-clause-callers
@@ -50,8 +58,12 @@ close_memory-requires-clause-callers g c =
     let w = c.requires.ready.1 in
     let r = c.requires.ready.2 in
     let s = c.args.prepared.stm in
-    let ran = ran-all (g.K.MemRule.good s.rule) false policy w s (is_parsed-items Run w c.parsed_workloads_fit.ensures r.is_parsed) r.prepared.sized c.as_mut_slice.result.now c.run_all.new.runners c.run_all.ensures.count c.run_all.ensures.done in
-    let done = done (g.K.MemRule.good s.rule) false policy w s (is_parsed-items Run w c.parsed_workloads_fit.ensures r.is_parsed) r.prepared.sized r.keeps (parted w.header.callers w.items) refl c.args.prepared.runners.items c.as_mut_slice.result.now c.run_all.new.runners c.args.prepared.runners.len r.prepared c.as_mut_slice.ensures.value c.as_mut_slice.ensures.len ran.same ran.sound in
+    let ran = ran-all (g.K.MemRule.good s.rule) false policy w s (is_parsed-items Run w c.parsed_workloads_fit.ensures r.is_parsed)
+    r.prepared.sized c.as_mut_slice.result.now c.run_all.new.runners c.run_all.ensures.count c.run_all.ensures.done in
+    let done = done (g.K.MemRule.good s.rule) false policy w s (is_parsed-items Run w c.parsed_workloads_fit.ensures r.is_parsed)
+    r.prepared.sized r.keeps (parted w.header.callers w.items) refl c.args.prepared.runners.items c.as_mut_slice.result.now
+    c.run_all.new.runners c.args.prepared.runners.len r.prepared c.as_mut_slice.ensures.value c.as_mut_slice.ensures.len ran.same ran.sound
+    in
     done.turned.callers
 
 pub close_memory-requires-clause-all : goal.close_memory-requires-clause-all
@@ -60,8 +72,12 @@ close_memory-requires-clause-all g c =
     let w = c.requires.ready.1 in
     let r = c.requires.ready.2 in
     let s = c.args.prepared.stm in
-    let ran = ran-all (g.K.MemRule.good s.rule) false policy w s (is_parsed-items Run w c.parsed_workloads_fit.ensures r.is_parsed) r.prepared.sized c.as_mut_slice.result.now c.run_all.new.runners c.run_all.ensures.count c.run_all.ensures.done in
-    let done = done (g.K.MemRule.good s.rule) false policy w s (is_parsed-items Run w c.parsed_workloads_fit.ensures r.is_parsed) r.prepared.sized r.keeps (parted w.header.callers w.items) refl c.args.prepared.runners.items c.as_mut_slice.result.now c.run_all.new.runners c.args.prepared.runners.len r.prepared c.as_mut_slice.ensures.value c.as_mut_slice.ensures.len ran.same ran.sound in
+    let ran = ran-all (g.K.MemRule.good s.rule) false policy w s (is_parsed-items Run w c.parsed_workloads_fit.ensures r.is_parsed)
+    r.prepared.sized c.as_mut_slice.result.now c.run_all.new.runners c.run_all.ensures.count c.run_all.ensures.done in
+    let done = done (g.K.MemRule.good s.rule) false policy w s (is_parsed-items Run w c.parsed_workloads_fit.ensures r.is_parsed)
+    r.prepared.sized r.keeps (parted w.header.callers w.items) refl c.args.prepared.runners.items c.as_mut_slice.result.now
+    c.run_all.new.runners c.args.prepared.runners.len r.prepared c.as_mut_slice.ensures.value c.as_mut_slice.ensures.len ran.same ran.sound
+    in
     done.turned.count
 
 pub close_memory-requires-clause-room : goal.close_memory-requires-clause-room
@@ -70,8 +86,12 @@ close_memory-requires-clause-room g c =
     let w = c.requires.ready.1 in
     let r = c.requires.ready.2 in
     let s = c.args.prepared.stm in
-    let ran = ran-all (g.K.MemRule.good s.rule) false policy w s (is_parsed-items Run w c.parsed_workloads_fit.ensures r.is_parsed) r.prepared.sized c.as_mut_slice.result.now c.run_all.new.runners c.run_all.ensures.count c.run_all.ensures.done in
-    let done = done (g.K.MemRule.good s.rule) false policy w s (is_parsed-items Run w c.parsed_workloads_fit.ensures r.is_parsed) r.prepared.sized r.keeps (parted w.header.callers w.items) refl c.args.prepared.runners.items c.as_mut_slice.result.now c.run_all.new.runners c.args.prepared.runners.len r.prepared c.as_mut_slice.ensures.value c.as_mut_slice.ensures.len ran.same ran.sound in
+    let ran = ran-all (g.K.MemRule.good s.rule) false policy w s (is_parsed-items Run w c.parsed_workloads_fit.ensures r.is_parsed)
+    r.prepared.sized c.as_mut_slice.result.now c.run_all.new.runners c.run_all.ensures.count c.run_all.ensures.done in
+    let done = done (g.K.MemRule.good s.rule) false policy w s (is_parsed-items Run w c.parsed_workloads_fit.ensures r.is_parsed)
+    r.prepared.sized r.keeps (parted w.header.callers w.items) refl c.args.prepared.runners.items c.as_mut_slice.result.now
+    c.run_all.new.runners c.args.prepared.runners.len r.prepared c.as_mut_slice.ensures.value c.as_mut_slice.ensures.len ran.same ran.sound
+    in
     let count = done.turned.count in
     let few = done.turned.rows in
     let callers = ap (λ (x : Config). x.callers) r.prepared.sized in
@@ -95,16 +115,31 @@ close_memory-requires-clause-through g c =
     let w = c.requires.ready.1 in
     let r = c.requires.ready.2 in
     let s = c.args.prepared.stm in
-    let ran = ran-all (g.K.MemRule.good s.rule) false policy w s (is_parsed-items Run w c.parsed_workloads_fit.ensures r.is_parsed) r.prepared.sized c.as_mut_slice.result.now c.run_all.new.runners c.run_all.ensures.count c.run_all.ensures.done in
-    let done = done (g.K.MemRule.good s.rule) false policy w s (is_parsed-items Run w c.parsed_workloads_fit.ensures r.is_parsed) r.prepared.sized r.keeps (parted w.header.callers w.items) refl c.args.prepared.runners.items c.as_mut_slice.result.now c.run_all.new.runners c.args.prepared.runners.len r.prepared c.as_mut_slice.ensures.value c.as_mut_slice.ensures.len ran.same ran.sound in
+    let ran = ran-all (g.K.MemRule.good s.rule) false policy w s (is_parsed-items Run w c.parsed_workloads_fit.ensures r.is_parsed)
+    r.prepared.sized c.as_mut_slice.result.now c.run_all.new.runners c.run_all.ensures.count c.run_all.ensures.done in
+    let done = done (g.K.MemRule.good s.rule) false policy w s (is_parsed-items Run w c.parsed_workloads_fit.ensures r.is_parsed)
+    r.prepared.sized r.keeps (parted w.header.callers w.items) refl c.args.prepared.runners.items c.as_mut_slice.result.now
+    c.run_all.new.runners c.args.prepared.runners.len r.prepared c.as_mut_slice.ensures.value c.as_mut_slice.ensures.len ran.same ran.sound
+    in
     how-between (workers_in (take c.args.prepared.runners.len (c.run_all.new.runners ++ drop (length c.run_all.new.runners) c.args.prepared.runners.items))) c.how_ended-how.result
     (subst (λ l. All (λ (w : Worker g.row.K.Denot). w.phase ≡ Between) (workers_in l)) (sym done.is) ran.between)
 
 pub returns : goal.returns
 returns g c policy w r =
     let s = c.args.prepared.stm in
-    let ran = ran-all (g.K.MemRule.good s.rule) false policy w s (is_parsed-items Run w c.parsed_workloads_fit.ensures r.is_parsed) r.prepared.sized c.as_mut_slice.result.now c.run_all.new.runners c.run_all.ensures.count c.run_all.ensures.done in
-    let done = done (g.K.MemRule.good s.rule) false policy w s (is_parsed-items Run w c.parsed_workloads_fit.ensures r.is_parsed) r.prepared.sized r.keeps (parted w.header.callers w.items) refl c.args.prepared.runners.items c.as_mut_slice.result.now c.run_all.new.runners c.args.prepared.runners.len r.prepared c.as_mut_slice.ensures.value c.as_mut_slice.ensures.len ran.same ran.sound in
+    let ran = ran-all (g.K.MemRule.good s.rule) false policy w s (is_parsed-items Run w c.parsed_workloads_fit.ensures r.is_parsed)
+    r.prepared.sized c.as_mut_slice.result.now c.run_all.new.runners c.run_all.ensures.count c.run_all.ensures.done in
+    let done = done (g.K.MemRule.good s.rule) false policy w s (is_parsed-items Run w c.parsed_workloads_fit.ensures r.is_parsed)
+    r.prepared.sized r.keeps (parted w.header.callers w.items) refl c.args.prepared.runners.items c.as_mut_slice.result.now
+    c.run_all.new.runners c.args.prepared.runners.len r.prepared c.as_mut_slice.ensures.value c.as_mut_slice.ensures.len ran.same ran.sound
+    in
     let ended = c.how_ended-how.ensures ∙ ap how_all (c.as_slice.ensures.value ∙ done.is) in
-    has-run (g.K.MemRule.good s.rule) false policy w s (is_parsed-items Run w c.parsed_workloads_fit.ensures r.is_parsed) r.prepared.sized c.report_replays.ensures r.regions refl c.as_mut_slice.result.now c.run_all.new.runners c.how_ended-how.result c.close_memory.result (subst (λ l. Begun (g.K.MemRule.good s.rule) false policy w s (is_parsed-items Run w c.parsed_workloads_fit.ensures r.is_parsed) r.prepared.sized (workers_in l)) (sym c.as_mut_slice.ensures.value) done.begun) ran (subst (λ l. Turned (g.K.MemRule.good s.rule) false policy w s (is_parsed-items Run w c.parsed_workloads_fit.ensures r.is_parsed) r.prepared.sized (workers_in l)) done.is done.turned) ended
+    has-run (g.K.MemRule.good s.rule) false policy w s (is_parsed-items Run w c.parsed_workloads_fit.ensures r.is_parsed) r.prepared.sized
+    c.report_replays.ensures r.regions refl c.as_mut_slice.result.now c.run_all.new.runners c.how_ended-how.result c.close_memory.result
+    (subst (λ l.
+    Begun (g.K.MemRule.good s.rule) false policy w s (is_parsed-items Run w c.parsed_workloads_fit.ensures r.is_parsed) r.prepared.sized
+    (workers_in l)) (sym c.as_mut_slice.ensures.value) done.begun) ran (subst
+    (λ l.
+    Turned (g.K.MemRule.good s.rule) false policy w s (is_parsed-items Run w c.parsed_workloads_fit.ensures r.is_parsed) r.prepared.sized
+    (workers_in l)) done.is done.turned) ended
     (subst (λ l. Came (g.K.MemRule.good s.rule) s (workers_in l) c.how_ended-how.result c.close_memory.result) done.is c.close_memory.ensures)

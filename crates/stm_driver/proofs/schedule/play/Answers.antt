@@ -21,8 +21,13 @@ returns-in-Err g c =
     record {
       sound = c.turns_of.ensures.sound;
       same = same-trans (workers_in c.args.runners.now) (workers_in c.loop-go.runners) (workers_in c.turns_of.new.runners) c.loop-go.invariant.same c.turns_of.ensures.same;
-      plays = plays-early c.args.stm.now.config MaySay (workers_in c.args.runners.now) (workers_in c.turns_of.new.runners) c.args.trace.now.items c.turns_of.new.trace.items (turns (take i s) ++ replicate go.turns go.caller) (turns (drop (suc i) s)) (turns s) c.in-Err.halt (turns-part i s d c.loop-go-test.true)
-          (plays-halt c.args.stm.now.config MaySay (workers_in c.args.runners.now) (workers_in c.loop-go.runners) (workers_in c.turns_of.new.runners) c.args.trace.now.items c.loop-go.trace.items c.turns_of.new.trace.items (turns (take i s)) (replicate go.turns go.caller) c.loop-go.invariant.plays c.in-Err.halt c.in-Err.ensures.plays);
+      plays =
+          plays-early c.args.stm.now.config MaySay (workers_in c.args.runners.now) (workers_in c.turns_of.new.runners)
+          c.args.trace.now.items c.turns_of.new.trace.items (turns (take i s) ++ replicate go.turns go.caller) (turns (drop (suc i) s))
+          (turns s) c.in-Err.halt (turns-part i s d c.loop-go-test.true)
+          (plays-halt c.args.stm.now.config MaySay (workers_in c.args.runners.now) (workers_in c.loop-go.runners)
+          (workers_in c.turns_of.new.runners) c.args.trace.now.items c.loop-go.trace.items c.turns_of.new.trace.items (turns (take i s))
+          (replicate go.turns go.caller) c.loop-go.invariant.plays c.in-Err.halt c.in-Err.ensures.plays);
     }
 
 pub loop-go-preserved : goal.loop-go-preserved
@@ -31,10 +36,17 @@ loop-go-preserved g c =
     record {
       sound = c.turns_of.ensures.sound;
       same = same-trans (workers_in c.args.runners.now) (workers_in c.loop-go.runners) (workers_in c.turns_of.new.runners) c.loop-go.invariant.same c.turns_of.ensures.same;
-      plays = plays-as c.args.stm.now.config MaySay (workers_in c.args.runners.now) (workers_in c.turns_of.new.runners) c.args.trace.now.items c.turns_of.new.trace.items (turns (take i s) ++ replicate go.turns go.caller) (turns (take (i + 1) s)) (turns-next i s d c.loop-go-test.true)
-          (plays-next c.args.stm.now.config MaySay (workers_in c.args.runners.now) (workers_in c.loop-go.runners) (workers_in c.turns_of.new.runners) c.args.trace.now.items c.loop-go.trace.items c.turns_of.new.trace.items (turns (take i s)) (replicate go.turns go.caller) c.loop-go.invariant.plays c.in-Ok.ensures.plays);
+      plays =
+          plays-as c.args.stm.now.config MaySay (workers_in c.args.runners.now) (workers_in c.turns_of.new.runners) c.args.trace.now.items
+          c.turns_of.new.trace.items (turns (take i s) ++ replicate go.turns go.caller) (turns (take (i + 1) s))
+          (turns-next i s d c.loop-go-test.true)
+          (plays-next c.args.stm.now.config MaySay (workers_in c.args.runners.now) (workers_in c.loop-go.runners)
+          (workers_in c.turns_of.new.runners) c.args.trace.now.items c.loop-go.trace.items c.turns_of.new.trace.items (turns (take i s))
+          (replicate go.turns go.caller) c.loop-go.invariant.plays c.in-Ok.ensures.plays);
     }
 
 pub returns-clause-plays : goal.returns-clause-plays
 returns-clause-plays g c =
-    plays-as c.args.stm.now.config MaySay (workers_in c.args.runners.now) (workers_in c.loop-go.runners) c.args.trace.now.items c.loop-go.trace.items (turns (take c.loop-go.go-index c.args.schedule.now)) (turns c.args.schedule.now) (turns-all c.loop-go.go-index c.args.schedule.now c.loop-go-test.false) c.loop-go.invariant.plays
+    plays-as c.args.stm.now.config MaySay (workers_in c.args.runners.now) (workers_in c.loop-go.runners) c.args.trace.now.items
+    c.loop-go.trace.items (turns (take c.loop-go.go-index c.args.schedule.now)) (turns c.args.schedule.now)
+    (turns-all c.loop-go.go-index c.args.schedule.now c.loop-go-test.false) c.loop-go.invariant.plays

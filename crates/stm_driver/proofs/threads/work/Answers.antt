@@ -12,7 +12,9 @@ pub returns-in-Err-clause-covered : goal.returns-in-Err-clause-covered
 returns-in-Err-clause-covered g c = covered-starved (g.K.MemRule.good c.args.stm.now.rule) c.args.stm.now c.args.w.now c.loop.w c.turn.new.self c.in-Err.ensures.turned c.loop.invariant.covered
 
 pub returns-in-Idle-clause-same : goal.returns-in-Idle-clause-same
-returns-in-Idle-clause-same g c = worker-trans c.args.w.now c.loop.w c.turn.new.self c.loop.invariant.same (same-said (place_of c.loop.w) c.in-Ok.said c.loop.w c.turn.new.self c.in-Ok.ensures.turned.here c.in-Ok.ensures.turned.same)
+returns-in-Idle-clause-same g c =
+    worker-trans c.args.w.now c.loop.w c.turn.new.self c.loop.invariant.same
+    (same-said (place_of c.loop.w) c.in-Ok.said c.loop.w c.turn.new.self c.in-Ok.ensures.turned.here c.in-Ok.ensures.turned.same)
 
 pub returns-in-Idle-clause-through : goal.returns-in-Idle-clause-through
 returns-in-Idle-clause-through g c =

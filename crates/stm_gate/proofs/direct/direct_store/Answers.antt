@@ -15,5 +15,13 @@ use Rattle.stm_gate.proofs.direct.direct_store.Goals as goal
 
 pub returns-clause-write : goal.returns-clause-write
 returns-clause-write g c =
-    shown-of (λ (n : ℕ) (v w : CallerState). HasWritten (g.K.MemRule.good c.args.stm.now.rule) c.args.stm.now.config n c.args.a c.args.x Done v w) _ _ _ c.direct_store.new.seat.me.0.view c.desc.inside.local (record c.desc.inside.local { wrote = true }) c.desc.view_is refl (ap caller_of c.desc.invariant.0.named)
-    (tells-store _ _ _ c.args.a c.args.x c.desc.inside.local c.desc.inside.seat.me.0.view c.direct_store.new.seat.me.0.view (own_of c.desc.inside.local) (ap (λ (p : Handle g.row.K.Denot). (known p).committing) c.desc.view_is ∙ c.requires.running.1) (subst (λ (p : Handle g.row.K.Denot). closes_gate (known p).alg ≡ true) (sym c.desc.view_is) c.requires.closes) (subst (λ (p : Handle g.row.K.Denot). (known p).granted ≡ true) (sym c.desc.view_is) c.requires.granted) (runs-of g.K.MemRule.good _ _ _ _ _ _ c.desc.view_is c.requires.stm.config c.requires.stm.rule c.requires.running.0 c.desc.invariant.1) (tells-of (direct_store c.args.a c.args.x) Nothing _ c.args.x _ c.direct_store.ensures.step))
+    shown-of
+    (λ (n : ℕ) (v w : CallerState). HasWritten (g.K.MemRule.good c.args.stm.now.rule) c.args.stm.now.config n c.args.a c.args.x Done v w) _
+    _ _ c.direct_store.new.seat.me.0.view c.desc.inside.local (record c.desc.inside.local { wrote = true }) c.desc.view_is refl
+    (ap caller_of c.desc.invariant.0.named)
+    (tells-store _ _ _ c.args.a c.args.x c.desc.inside.local c.desc.inside.seat.me.0.view c.direct_store.new.seat.me.0.view
+    (own_of c.desc.inside.local) (ap (λ (p : Handle g.row.K.Denot). (known p).committing) c.desc.view_is ∙ c.requires.running.1)
+    (subst (λ (p : Handle g.row.K.Denot). closes_gate (known p).alg ≡ true) (sym c.desc.view_is) c.requires.closes)
+    (subst (λ (p : Handle g.row.K.Denot). (known p).granted ≡ true) (sym c.desc.view_is) c.requires.granted)
+    (runs-of g.K.MemRule.good _ _ _ _ _ _ c.desc.view_is c.requires.stm.config c.requires.stm.rule c.requires.running.0 c.desc.invariant.1)
+    (tells-of (direct_store c.args.a c.args.x) Nothing _ c.args.x _ c.direct_store.ensures.step))

@@ -10,5 +10,8 @@ use Rattle.stm_gate.proofs.fence.direct_read.Goals as goal
 
 pub returns-clause-reads : goal.returns-clause-reads
 returns-clause-reads g c =
-    shown-of (λ (n : ℕ) (v w : CallerState). ReadsDirect (g.K.MemRule.good c.args.stm.now.rule) c.args.stm.now.config n c.args.a c.fence_load.result v w) _ _ _ c.fence_load.new.seat.me.0.view c.desc.inside.local c.desc.inside.local c.desc.view_is refl (ap caller_of c.desc.invariant.0.named)
-    (tells-direct_read _ _ _ c.args.a c.fence_load.result c.desc.inside.seat.me.0.view c.fence_load.new.seat.me.0.view (own_of c.desc.inside.local) c.requires.inside (tells-of (fence_load c.args.a) (FenceLoads c.args.a) _ _ _ c.fence_load.ensures.step))
+    shown-of (λ (n : ℕ) (v w : CallerState).
+    ReadsDirect (g.K.MemRule.good c.args.stm.now.rule) c.args.stm.now.config n c.args.a c.fence_load.result v w) _ _ _
+    c.fence_load.new.seat.me.0.view c.desc.inside.local c.desc.inside.local c.desc.view_is refl (ap caller_of c.desc.invariant.0.named)
+    (tells-direct_read _ _ _ c.args.a c.fence_load.result c.desc.inside.seat.me.0.view c.fence_load.new.seat.me.0.view
+    (own_of c.desc.inside.local) c.requires.inside (tells-of (fence_load c.args.a) (FenceLoads c.args.a) _ _ _ c.fence_load.ensures.step))

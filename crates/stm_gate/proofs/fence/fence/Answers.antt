@@ -18,6 +18,15 @@ use Rattle.stm_gate.proofs.fence.fence.Goals as goal
 pub returns-clause-fences : goal.returns-clause-fences
 returns-clause-fences g c =
     let holds = subst (λ (p : Handle g.row.K.Denot). HoldsClosed (known p)) (sym c.desc.view_is) c.requires.closing in
-    shown-of (λ (n : ℕ) (v w : CallerState). Fences (g.K.MemRule.good c.args.stm.now.rule) c.args.stm.now.config n c.args.from c.args.count Fenced v w) _ _ _ c.fence.new.seat.me.0.view c.desc.inside.local (record c.desc.inside.local { fence = c.fence_number-desc-inside.result }) c.desc.view_is refl (ap caller_of c.desc.invariant.0.named)
-    (tells-fenced _ _ _ c.args.from c.args.count c.desc.inside.local.algorithm c.desc.inside.seat.me.0.view c.fence.new.seat.me.0.view (own_of c.desc.inside.local) (omega arith) (omega arith) holds ((closing-of (good_by g.K.MemRule.good c.desc.inside.seat.me.0.who.rule) c.desc.inside.seat.me.0.who.config c.desc.inside.number c.desc.inside.local c.desc.inside.seat.me.0.view holds.phase c.desc.invariant.1).guarded.is ∙ (search rules))
-    (tells-of (fence c.desc.inside.number (fence_number c.desc.inside.number c.args.from c.args.count) c.desc.inside.local.algorithm) (FindsPast (good_of g.K.MemRule.good c.args.stm.now.config c.args.stm.now.rule) c.args.stm.now.config) c.desc.inside.seat.me.0 (gate_word (fence_number c.desc.inside.number c.args.from c.args.count) (1 + c.desc.inside.number) c.desc.inside.local.algorithm) c.fence.new.seat.me.0 c.fence.ensures.step))
+    shown-of (λ (n : ℕ) (v w : CallerState).
+    Fences (g.K.MemRule.good c.args.stm.now.rule) c.args.stm.now.config n c.args.from c.args.count Fenced v w) _ _ _
+    c.fence.new.seat.me.0.view c.desc.inside.local (record c.desc.inside.local { fence = c.fence_number-desc-inside.result }) c.desc.view_is
+    refl (ap caller_of c.desc.invariant.0.named)
+    (tells-fenced _ _ _ c.args.from c.args.count c.desc.inside.local.algorithm c.desc.inside.seat.me.0.view c.fence.new.seat.me.0.view
+    (own_of c.desc.inside.local) (omega arith) (omega arith) holds
+    ((closing-of (good_by g.K.MemRule.good c.desc.inside.seat.me.0.who.rule) c.desc.inside.seat.me.0.who.config c.desc.inside.number
+    c.desc.inside.local c.desc.inside.seat.me.0.view holds.phase c.desc.invariant.1).guarded.is ∙ (search rules))
+    (tells-of (fence c.desc.inside.number (fence_number c.desc.inside.number c.args.from c.args.count) c.desc.inside.local.algorithm)
+    (FindsPast (good_of g.K.MemRule.good c.args.stm.now.config c.args.stm.now.rule) c.args.stm.now.config) c.desc.inside.seat.me.0
+    (gate_word (fence_number c.desc.inside.number c.args.from c.args.count) (1 + c.desc.inside.number) c.desc.inside.local.algorithm)
+    c.fence.new.seat.me.0 c.fence.ensures.step))

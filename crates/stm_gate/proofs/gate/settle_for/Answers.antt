@@ -16,4 +16,7 @@ returns-then-not-begins_even-clause-settles g c =
 
 pub returns-clause-settles : goal.returns-clause-settles
 returns-clause-settles g c =
-    settles-even c.args.alg c.settle-clock.result c.args.seat.now.me.0.view c.settle-clock.new.seat.me.0.view c.even_clock.new.seat.me.0.view (omega arith) (search rules) (tells-of settle FindsWithin _ _ _ c.settle-clock.ensures.step) (tells-of (even_clock (c.settle-clock.result + 1)) Nothing c.settle-clock.new.seat.me.0 (c.settle-clock.result + 1) c.even_clock.new.seat.me.0 c.even_clock.ensures.step)
+    settles-even c.args.alg c.settle-clock.result c.args.seat.now.me.0.view c.settle-clock.new.seat.me.0.view
+    c.even_clock.new.seat.me.0.view (omega arith) (search rules) (tells-of settle FindsWithin _ _ _ c.settle-clock.ensures.step)
+    (tells-of (even_clock (c.settle-clock.result + 1)) Nothing c.settle-clock.new.seat.me.0 (c.settle-clock.result + 1)
+    c.even_clock.new.seat.me.0 c.even_clock.ensures.step)

@@ -16,11 +16,19 @@ returns-then-other-caller-clause-looks g c =
 
 pub returns-then-status-eq0-clause-looks : goal.returns-then-status-eq0-clause-looks
 returns-then-status-eq0-clause-looks g c =
-    subst (λ (p : Handle g.row.K.Denot). LooksOn p.view c.check-status.new.seat.me.0.view) c.desc.view_is (looks-one c.args.stm.now.config (caller_of c.desc.inside.seat.me.0.who.role) c.args.other c.check-status.result c.desc.inside.seat.me.0.view c.check-status.new.seat.me.0.view (subst (λ (p : Handle g.row.K.Denot). HasLooked c.args.stm.now.config.callers (number p) c.args.other p.view) (sym c.desc.view_is) c.requires.looked) (tells-of (check c.args.other) Nothing _ _ _ c.check-status.ensures.step))
+    subst (λ (p : Handle g.row.K.Denot). LooksOn p.view c.check-status.new.seat.me.0.view) c.desc.view_is
+    (looks-one c.args.stm.now.config (caller_of c.desc.inside.seat.me.0.who.role) c.args.other c.check-status.result
+    c.desc.inside.seat.me.0.view c.check-status.new.seat.me.0.view (subst
+    (λ (p : Handle g.row.K.Denot). HasLooked c.args.stm.now.config.callers (number p) c.args.other p.view) (sym c.desc.view_is)
+    c.requires.looked) (tells-of (check c.args.other) Nothing _ _ _ c.check-status.ensures.step))
 
 pub returns-else-status-eq0-clause-looks : goal.returns-else-status-eq0-clause-looks
 returns-else-status-eq0-clause-looks g c =
-    subst (λ (p : Handle g.row.K.Denot). LooksOn p.view c.check-status.new.seat.me.0.view) c.desc.view_is (looks-one c.args.stm.now.config (caller_of c.desc.inside.seat.me.0.who.role) c.args.other c.check-status.result c.desc.inside.seat.me.0.view c.check-status.new.seat.me.0.view (subst (λ (p : Handle g.row.K.Denot). HasLooked c.args.stm.now.config.callers (number p) c.args.other p.view) (sym c.desc.view_is) c.requires.looked) (tells-of (check c.args.other) Nothing _ _ _ c.check-status.ensures.step))
+    subst (λ (p : Handle g.row.K.Denot). LooksOn p.view c.check-status.new.seat.me.0.view) c.desc.view_is
+    (looks-one c.args.stm.now.config (caller_of c.desc.inside.seat.me.0.who.role) c.args.other c.check-status.result
+    c.desc.inside.seat.me.0.view c.check-status.new.seat.me.0.view (subst
+    (λ (p : Handle g.row.K.Denot). HasLooked c.args.stm.now.config.callers (number p) c.args.other p.view) (sym c.desc.view_is)
+    c.requires.looked) (tells-of (check c.args.other) Nothing _ _ _ c.check-status.ensures.step))
 
 pub returns-else-status-eq0-clause-found : goal.returns-else-status-eq0-clause-found
 returns-else-status-eq0-clause-found g c =

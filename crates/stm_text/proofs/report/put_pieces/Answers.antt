@@ -40,7 +40,8 @@ loop-piece-preserved c =
       put = λ size rows ps.
           let n = length at.yielded in
           let made = subst (λ r. IfOk r (λ t. t.items ≡ row_lines (slice_chunk rows size n))) (here ∙ c.in_ok-piece.was) (ps.each n x lt) in
-          let pushed : c.extend_from_slice.new.self.items ≡ at.text.items ++ row_lines (slice_chunk rows size n) = c.in_ok-extend_from_slice.ensures.items ∙ ap (λ l. at.text.items ++ l) (c.as_slice.ensures.value ∙ made) in
+          let pushed : c.extend_from_slice.new.self.items ≡ at.text.items ++ row_lines (slice_chunk rows size n) =
+          c.in_ok-extend_from_slice.ensures.items ∙ ap (λ l. at.text.items ++ l) (c.as_slice.ensures.value ∙ made) in
           let next : length (at.yielded ++ x ∷ []) * size ≡ n * size + size = ap (λ k. k * size) (length_push at.yielded x) ∙ (omega arith) in
           ap (λ l. l ++ row_lines (drop (length (at.yielded ++ x ∷ []) * size) rows)) pushed
           ∙ (append_assoc (at.text.items) (row_lines (slice_chunk rows size n)) (row_lines (drop (length (at.yielded ++ x ∷ []) * size) rows))

@@ -11,5 +11,6 @@ invariant-loop-piece l = record {
   all : l.yielded ++ into_iter_items l.piece-iterator ≡ into_iter_items l.initial.piece-iterator;
   len : into_iter_len l.piece-iterator ≡ length (into_iter_items l.piece-iterator);
   fits : (size : ℕ) (rows : List Row) → ArePieces (λ t. t.items) size rows (into_iter_items l.initial.piece-iterator) → All RowFits (drop (length l.yielded * size) rows) → All RowFits rows;
-  put : (size : ℕ) (rows : List Row) → ArePieces (λ t. t.items) size rows (into_iter_items l.initial.piece-iterator) → l.text.items ++ row_lines (drop (length l.yielded * size) rows) ≡ l.initial.text.items ++ row_lines rows;
+  put : (size : ℕ) (rows : List Row) → ArePieces (λ t. t.items) size rows (into_iter_items l.initial.piece-iterator)
+      → l.text.items ++ row_lines (drop (length l.yielded * size) rows) ≡ l.initial.text.items ++ row_lines rows;
 }

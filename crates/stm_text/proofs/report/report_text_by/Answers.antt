@@ -36,5 +36,8 @@ returns g c =
     record {
       fits = record { rows = rows-fit; memory = memory-fits };
       text =
-          c.in_ok-extend_from_slice-2.ensures.items ∙ (ap (λ l. l ++ codes "end\n") memory ∙ ap (λ l. codes "report 1\n" ++ l) (append_assoc (row_lines c.args.report.now.rows) (memory_lines c.args.report.now.memory) (codes "end\n")));
+          c.in_ok-extend_from_slice-2.ensures.items
+          ∙ (ap (λ l. l ++ codes "end\n") memory
+          ∙ ap (λ l. codes "report 1\n" ++ l)
+          (append_assoc (row_lines c.args.report.now.rows) (memory_lines c.args.report.now.memory) (codes "end\n")));
     }

@@ -41,7 +41,11 @@ returns-in-Line-clause-rest c =
     on-ok c.three_words.result (Leaves s t) (leaves-line s i t seen at)
 
 pub returns-in-Bad-clause-step : goal.returns-in-Bad-clause-step
-returns-in-Bad-clause-step c = sym (read-bad (λ ws. by_words c.args._mode c.args.draft.now (c.args.w.now ∷ c.args.a.now ∷ ws)) c.first_word-i.result.1 c.args.text.now c.first_word-i.result.0 c.first_word-i.ensures.visible c.in-Bad.is c.first_word-i.ensures.end)
+returns-in-Bad-clause-step c =
+    sym (read-bad (λ ws. by_words c.args._mode c.args.draft.now (c.args.w.now ∷ c.args.a.now ∷ ws)) c.first_word-i.result.1 c.args.text.now
+    c.first_word-i.result.0 c.first_word-i.ensures.visible c.in-Bad.is c.first_word-i.ensures.end)
 
 pub returns-in-Text-clause-step : goal.returns-in-Text-clause-step
-returns-in-Text-clause-step c = sym (read-end (λ ws. by_words c.args._mode c.args.draft.now (c.args.w.now ∷ c.args.a.now ∷ ws)) c.first_word-i.result.1 c.args.text.now c.first_word-i.result.0 c.first_word-i.ensures.visible c.in-Text.is c.first_word-i.ensures.end)
+returns-in-Text-clause-step c =
+    sym (read-end (λ ws. by_words c.args._mode c.args.draft.now (c.args.w.now ∷ c.args.a.now ∷ ws)) c.first_word-i.result.1 c.args.text.now
+    c.first_word-i.result.0 c.first_word-i.ensures.visible c.in-Text.is c.first_word-i.ensures.end)

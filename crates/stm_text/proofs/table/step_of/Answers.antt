@@ -44,4 +44,6 @@ pub returns-in-Bad-clause-step : goal.returns-in-Bad-clause-step
 returns-in-Bad-clause-step c = sym (read-bad (by_words c.args.mode c.args.draft.now) c.first_word-i.result.1 c.args.text.now c.first_word-i.result.0 c.first_word-i.ensures.visible c.in-Bad.is c.first_word-i.ensures.end)
 
 pub returns-in-Text-clause-step : goal.returns-in-Text-clause-step
-returns-in-Text-clause-step c = sym (read-end (by_words c.args.mode c.args.draft.now) c.first_word-i.result.1 c.args.text.now c.first_word-i.result.0 c.first_word-i.ensures.visible c.in-Text.is c.first_word-i.ensures.end)
+returns-in-Text-clause-step c =
+    sym (read-end (by_words c.args.mode c.args.draft.now) c.first_word-i.result.1 c.args.text.now c.first_word-i.result.0
+    c.first_word-i.ensures.visible c.in-Text.is c.first_word-i.ensures.end)

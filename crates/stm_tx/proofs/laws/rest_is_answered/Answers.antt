@@ -13,8 +13,14 @@ use Rattle.stm_tx.proofs.laws.rest_is_answered.Goals as goal
 
 pub returns : goal.returns
 returns g c = record {
-  quiet = λ rule config n own w r closed quiet. at-rest-of (good_of g.K.MemRule.good config rule) config n w r (quiet-rests (good_of g.K.MemRule.good config rule) config n (without_fence w) r.core (record { closing = closed.phase; checked = quiet }));
-  granted = λ rule config n own w r closes granted. rest-of (good_of g.K.MemRule.good config rule) config n w r (granted-rests (good_of g.K.MemRule.good config rule) config n (without_fence w) r.core (promoted (w.views n) (w.views n).gate.algorithm closes granted));
+  quiet =
+      λ rule config n own w r closed quiet.
+      at-rest-of (good_of g.K.MemRule.good config rule) config n w r (quiet-rests (good_of g.K.MemRule.good config rule) config n
+      (without_fence w) r.core (record { closing = closed.phase; checked = quiet }));
+  granted =
+      λ rule config n own w r closes granted.
+      rest-of (good_of g.K.MemRule.good config rule) config n w r (granted-rests (good_of g.K.MemRule.good config rule) config n
+      (without_fence w) r.core (promoted (w.views n) (w.views n).gate.algorithm closes granted));
   installed = λ rule config n own w r closed settled. let s = all-three (w.views n).gate.quiescent (w.views n).gate.rebased (w.views n).gate.completed settled in
       let t = r.core.install.time n s.0 in
       ((r.core.install.rebased n s.1).1 ∙ sym t, (r.core.install.completed n s.2).1 ∙ sym t);

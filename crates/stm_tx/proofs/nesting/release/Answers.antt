@@ -1,4 +1,4 @@
-use Rattle.std.proofs.Common.{◌≡◌, ◌<◌, ◌≤◌, ◌+◌, ◌-◌, ◌++◌, [], ◌∷◌, true, false, refl, sym, ap, subst, ◌∙◌, arith}
+use Rattle.std.proofs.Common.{◌≤◌, ◌-◌, true, false, refl, sym, ap, subst, ◌∙◌, arith}
 use Rattle.stm_rule.specs.Attempts.{HasRoom, IsInside, good_by, own_of}
 use Rattle.stm_rule.specs.Callers.{Handle}
 use Rattle.stm_rule.specs.StandLemmas.{inside-of}
@@ -12,25 +12,79 @@ use Rattle.stm_tx.proofs.MarkLaws as laws
 use Rattle.stm_tx.proofs.nesting.release.Goals as goal
 
 pub invariant_of-desc : goal.invariant_of-desc
-invariant_of-desc g c = (c.desc.invariant.0, stands-on (good_by g.K.MemRule.good c.desc.inside.seat.me.0.who.rule) c.desc.inside.seat.me.0.who.config c.desc.inside.number c.desc.inside.local (record c.desc.inside.local { depth = c.args.depth - 1 }) c.desc.inside.seat.me.0.view c.desc.inside.seat.me.0.view (in-of c.desc.inside.seat.me.0.view.gate.phase (ap (λ (p : Handle g.row.K.Denot). is_in p.view.gate.phase) c.desc.view_is ∙ c.requires.running.0)) c.desc.invariant.1 refl refl c.desc.invariant.1.lengths refl (laws.stays-number (good_by g.K.MemRule.good c.desc.inside.seat.me.0.who.rule) c.desc.inside.seat.me.0.who.config c.desc.inside.number c.desc.inside.local c.desc.inside.seat.me.0.view (inside-of (good_by g.K.MemRule.good c.desc.inside.seat.me.0.who.rule) c.desc.inside.seat.me.0.who.config c.desc.inside.number c.desc.inside.local c.desc.inside.seat.me.0.view (in-of c.desc.inside.seat.me.0.view.gate.phase (ap (λ (p : Handle g.row.K.Denot). is_in p.view.gate.phase) c.desc.view_is ∙ c.requires.running.0)) c.desc.invariant.1) (sym c.irrevocable_under-irrevocable.ensures ∙ c.if-irrevocable.true) (c.args.depth - 1)))
+invariant_of-desc g c = (
+  c.desc.invariant.0,
+  stands-on (good_by g.K.MemRule.good c.desc.inside.seat.me.0.who.rule) c.desc.inside.seat.me.0.who.config c.desc.inside.number
+      c.desc.inside.local (record c.desc.inside.local { depth = c.args.depth - 1 }) c.desc.inside.seat.me.0.view c.desc.inside.seat.me.0.view
+      (in-of c.desc.inside.seat.me.0.view.gate.phase
+      (ap (λ (p : Handle g.row.K.Denot). is_in p.view.gate.phase) c.desc.view_is ∙ c.requires.running.0)) c.desc.invariant.1 refl refl
+      c.desc.invariant.1.lengths refl (laws.stays-number (good_by g.K.MemRule.good c.desc.inside.seat.me.0.who.rule)
+      c.desc.inside.seat.me.0.who.config c.desc.inside.number c.desc.inside.local c.desc.inside.seat.me.0.view
+      (inside-of (good_by g.K.MemRule.good c.desc.inside.seat.me.0.who.rule) c.desc.inside.seat.me.0.who.config c.desc.inside.number
+      c.desc.inside.local c.desc.inside.seat.me.0.view (in-of c.desc.inside.seat.me.0.view.gate.phase
+      (ap (λ (p : Handle g.row.K.Denot). is_in p.view.gate.phase) c.desc.view_is ∙ c.requires.running.0)) c.desc.invariant.1)
+      (sym c.irrevocable_under-irrevocable.ensures ∙ c.if-irrevocable.true) (c.args.depth - 1)),
+)
 
 pub returns-then-irrevocable-clause-releases : goal.returns-then-irrevocable-clause-releases
 returns-then-irrevocable-clause-releases g c =
-    subst (λ (p : Handle g.row.K.Denot). Releases c.args.depth (known p) (known_of c.desc.inside.seat.me.0.view (own_of (record c.desc.inside.local { depth = c.args.depth - 1 })))) c.desc.view_is (laws.releases-number (good_by g.K.MemRule.good c.desc.inside.seat.me.0.who.rule) c.desc.inside.seat.me.0.who.config c.desc.inside.number c.desc.inside.local c.desc.inside.seat.me.0.view (inside-of (good_by g.K.MemRule.good c.desc.inside.seat.me.0.who.rule) c.desc.inside.seat.me.0.who.config c.desc.inside.number c.desc.inside.local c.desc.inside.seat.me.0.view (in-of c.desc.inside.seat.me.0.view.gate.phase (ap (λ (p : Handle g.row.K.Denot). is_in p.view.gate.phase) c.desc.view_is ∙ c.requires.running.0)) c.desc.invariant.1) (sym c.irrevocable_under-irrevocable.ensures ∙ c.if-irrevocable.true) c.args.depth)
+    subst (λ (p : Handle g.row.K.Denot).
+    Releases c.args.depth (known p)
+    (known_of c.desc.inside.seat.me.0.view (own_of (record c.desc.inside.local { depth = c.args.depth - 1 })))) c.desc.view_is
+    (laws.releases-number (good_by g.K.MemRule.good c.desc.inside.seat.me.0.who.rule) c.desc.inside.seat.me.0.who.config
+    c.desc.inside.number c.desc.inside.local c.desc.inside.seat.me.0.view
+    (inside-of (good_by g.K.MemRule.good c.desc.inside.seat.me.0.who.rule) c.desc.inside.seat.me.0.who.config c.desc.inside.number
+    c.desc.inside.local c.desc.inside.seat.me.0.view (in-of c.desc.inside.seat.me.0.view.gate.phase
+    (ap (λ (p : Handle g.row.K.Denot). is_in p.view.gate.phase) c.desc.view_is ∙ c.requires.running.0)) c.desc.invariant.1)
+    (sym c.irrevocable_under-irrevocable.ensures ∙ c.if-irrevocable.true) c.args.depth)
 
 pub release-requires-clause-high : goal.release-requires-clause-high
 release-requires-clause-high g c =
     let high : c.args.depth ≤ c.desc.inside.local.depth = (subst (λ (p : Handle g.row.K.Denot). c.args.depth ≤ p.own.depth) (sym c.desc.view_is) c.requires.high) in
-    let n = laws.count (good_by g.K.MemRule.good c.desc.inside.seat.me.0.who.rule) c.desc.inside.seat.me.0.who.config c.desc.inside.number c.desc.inside.local c.desc.inside.seat.me.0.view (inside-of (good_by g.K.MemRule.good c.desc.inside.seat.me.0.who.rule) c.desc.inside.seat.me.0.who.config c.desc.inside.number c.desc.inside.local c.desc.inside.seat.me.0.view (in-of c.desc.inside.seat.me.0.view.gate.phase (ap (λ (p : Handle g.row.K.Denot). is_in p.view.gate.phase) c.desc.view_is ∙ c.requires.running.0)) c.desc.invariant.1) (sym c.irrevocable_under-irrevocable.ensures ∙ c.if-irrevocable.false) in
+    let n = laws.count (good_by g.K.MemRule.good c.desc.inside.seat.me.0.who.rule) c.desc.inside.seat.me.0.who.config c.desc.inside.number
+    c.desc.inside.local c.desc.inside.seat.me.0.view (inside-of (good_by g.K.MemRule.good c.desc.inside.seat.me.0.who.rule)
+    c.desc.inside.seat.me.0.who.config c.desc.inside.number c.desc.inside.local c.desc.inside.seat.me.0.view
+    (in-of c.desc.inside.seat.me.0.view.gate.phase
+    (ap (λ (p : Handle g.row.K.Denot). is_in p.view.gate.phase) c.desc.view_is ∙ c.requires.running.0)) c.desc.invariant.1)
+    (sym c.irrevocable_under-irrevocable.ensures ∙ c.if-irrevocable.false) in
     omega arith
 
 pub invariant_of-desc-2 : goal.invariant_of-desc-2
 invariant_of-desc-2 g c =
-    let inside : IsInside (good_by g.K.MemRule.good c.desc.inside.seat.me.0.who.rule) c.desc.inside.seat.me.0.who.config c.desc.inside.number (record c.desc.inside.local { writes = c.release.new.self; depth = c.args.depth - 1 }) c.desc.inside.seat.me.0.view = subst (λ (log : LogState). IsInside (good_by g.K.MemRule.good c.desc.inside.seat.me.0.who.rule) c.desc.inside.seat.me.0.who.config c.desc.inside.number (record c.desc.inside.local { writes = log; depth = c.args.depth - 1 }) c.desc.inside.seat.me.0.view) (sym c.release.ensures) (laws.stays-released (good_by g.K.MemRule.good c.desc.inside.seat.me.0.who.rule) c.desc.inside.seat.me.0.who.config c.desc.inside.number c.desc.inside.local c.desc.inside.seat.me.0.view (inside-of (good_by g.K.MemRule.good c.desc.inside.seat.me.0.who.rule) c.desc.inside.seat.me.0.who.config c.desc.inside.number c.desc.inside.local c.desc.inside.seat.me.0.view (in-of c.desc.inside.seat.me.0.view.gate.phase (ap (λ (p : Handle g.row.K.Denot). is_in p.view.gate.phase) c.desc.view_is ∙ c.requires.running.0)) c.desc.invariant.1) (sym c.irrevocable_under-irrevocable.ensures ∙ c.if-irrevocable.false) c.args.depth c.requires.low (subst (λ (p : Handle g.row.K.Denot). c.args.depth ≤ p.own.depth) (sym c.desc.view_is) c.requires.high)) in
-    let lengths : HasRoom (record c.desc.inside.local { writes = c.release.new.self; depth = c.args.depth - 1 }) = (ap (λ (y : LogState). y.len) c.release.ensures ∙ c.desc.invariant.1.lengths.0, c.desc.invariant.1.lengths.1) in
-    (c.desc.invariant.0, stands-on (good_by g.K.MemRule.good c.desc.inside.seat.me.0.who.rule) c.desc.inside.seat.me.0.who.config c.desc.inside.number c.desc.inside.local (record c.desc.inside.local { writes = c.release.new.self; depth = c.args.depth - 1 }) c.desc.inside.seat.me.0.view c.desc.inside.seat.me.0.view (in-of c.desc.inside.seat.me.0.view.gate.phase (ap (λ (p : Handle g.row.K.Denot). is_in p.view.gate.phase) c.desc.view_is ∙ c.requires.running.0)) c.desc.invariant.1 refl refl lengths refl (inside))
+    let inside : IsInside (good_by g.K.MemRule.good c.desc.inside.seat.me.0.who.rule) c.desc.inside.seat.me.0.who.config
+    c.desc.inside.number (record c.desc.inside.local { writes = c.release.new.self; depth = c.args.depth - 1 }) c.desc.inside.seat.me.0.view
+    = subst (λ (log : LogState).
+    IsInside (good_by g.K.MemRule.good c.desc.inside.seat.me.0.who.rule) c.desc.inside.seat.me.0.who.config c.desc.inside.number
+    (record c.desc.inside.local { writes = log; depth = c.args.depth - 1 }) c.desc.inside.seat.me.0.view) (sym c.release.ensures)
+    (laws.stays-released (good_by g.K.MemRule.good c.desc.inside.seat.me.0.who.rule) c.desc.inside.seat.me.0.who.config c.desc.inside.number
+    c.desc.inside.local c.desc.inside.seat.me.0.view (inside-of (good_by g.K.MemRule.good c.desc.inside.seat.me.0.who.rule)
+    c.desc.inside.seat.me.0.who.config c.desc.inside.number c.desc.inside.local c.desc.inside.seat.me.0.view
+    (in-of c.desc.inside.seat.me.0.view.gate.phase
+    (ap (λ (p : Handle g.row.K.Denot). is_in p.view.gate.phase) c.desc.view_is ∙ c.requires.running.0)) c.desc.invariant.1)
+    (sym c.irrevocable_under-irrevocable.ensures ∙ c.if-irrevocable.false) c.args.depth c.requires.low
+    (subst (λ (p : Handle g.row.K.Denot). c.args.depth ≤ p.own.depth) (sym c.desc.view_is) c.requires.high)) in
+    let lengths : HasRoom (record c.desc.inside.local { writes = c.release.new.self; depth = c.args.depth - 1 }) =
+    (ap (λ (y : LogState). y.len) c.release.ensures ∙ c.desc.invariant.1.lengths.0, c.desc.invariant.1.lengths.1) in (
+      c.desc.invariant.0,
+      stands-on (good_by g.K.MemRule.good c.desc.inside.seat.me.0.who.rule) c.desc.inside.seat.me.0.who.config c.desc.inside.number
+          c.desc.inside.local (record c.desc.inside.local { writes = c.release.new.self; depth = c.args.depth - 1 }) c.desc.inside.seat.me.0.view
+          c.desc.inside.seat.me.0.view (in-of c.desc.inside.seat.me.0.view.gate.phase
+          (ap (λ (p : Handle g.row.K.Denot). is_in p.view.gate.phase) c.desc.view_is ∙ c.requires.running.0)) c.desc.invariant.1 refl refl lengths
+          refl (inside),
+    )
 
 pub returns-clause-releases : goal.returns-clause-releases
 returns-clause-releases g c =
-    subst (λ (p : Handle g.row.K.Denot). Releases c.args.depth (known p) (known_of c.desc.inside.seat.me.0.view (own_of (record c.desc.inside.local { writes = c.release.new.self; depth = c.args.depth - 1 })))) c.desc.view_is
-    (subst (λ (log : LogState). Releases c.args.depth (known_of c.desc.inside.seat.me.0.view (own_of c.desc.inside.local)) (known_of c.desc.inside.seat.me.0.view (own_of (record c.desc.inside.local { writes = log; depth = c.args.depth - 1 })))) (sym c.release.ensures) (laws.releases-log (good_by g.K.MemRule.good c.desc.inside.seat.me.0.who.rule) c.desc.inside.seat.me.0.who.config c.desc.inside.number c.desc.inside.local c.desc.inside.seat.me.0.view (inside-of (good_by g.K.MemRule.good c.desc.inside.seat.me.0.who.rule) c.desc.inside.seat.me.0.who.config c.desc.inside.number c.desc.inside.local c.desc.inside.seat.me.0.view (in-of c.desc.inside.seat.me.0.view.gate.phase (ap (λ (p : Handle g.row.K.Denot). is_in p.view.gate.phase) c.desc.view_is ∙ c.requires.running.0)) c.desc.invariant.1) (sym c.irrevocable_under-irrevocable.ensures ∙ c.if-irrevocable.false) c.args.depth))
+    subst (λ (p : Handle g.row.K.Denot).
+    Releases c.args.depth (known p)
+    (known_of c.desc.inside.seat.me.0.view (own_of (record c.desc.inside.local { writes = c.release.new.self; depth = c.args.depth - 1 }))))
+    c.desc.view_is
+    (subst (λ (log : LogState).
+    Releases c.args.depth (known_of c.desc.inside.seat.me.0.view (own_of c.desc.inside.local))
+    (known_of c.desc.inside.seat.me.0.view (own_of (record c.desc.inside.local { writes = log; depth = c.args.depth - 1 }))))
+    (sym c.release.ensures) (laws.releases-log (good_by g.K.MemRule.good c.desc.inside.seat.me.0.who.rule)
+    c.desc.inside.seat.me.0.who.config c.desc.inside.number c.desc.inside.local c.desc.inside.seat.me.0.view
+    (inside-of (good_by g.K.MemRule.good c.desc.inside.seat.me.0.who.rule) c.desc.inside.seat.me.0.who.config c.desc.inside.number
+    c.desc.inside.local c.desc.inside.seat.me.0.view (in-of c.desc.inside.seat.me.0.view.gate.phase
+    (ap (λ (p : Handle g.row.K.Denot). is_in p.view.gate.phase) c.desc.view_is ∙ c.requires.running.0)) c.desc.invariant.1)
+    (sym c.irrevocable_under-irrevocable.ensures ∙ c.if-irrevocable.false) c.args.depth))

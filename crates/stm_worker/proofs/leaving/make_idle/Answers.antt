@@ -27,7 +27,9 @@ returns-in-Inside g c =
     made-idle (g.K.MemRule.good c.args.stm.now.rule) c.args.stm.now c.args.w.now c.requires c.end_attempt.new.desc e.same e.idle e.owes e.keeps (λ b. absurd (let x = sym c.in-Inside.is ∙ b in cc))
 
 -- what was closed is given up
-opened : {K : Type 0} (good : List ℕ → Type 0) (stm : Stm K) (v : Worker K) → Sound good stm v → (d : Handle K) → IsSameCaller v.desc d → HoldsClosed (known v.desc) → Stays stm.config (known v.desc) (known d) → (v.phase ≡ Between → ⊥) → MadeIdle good stm v (record v { desc = d })
+opened : {K : Type 0} (good : List ℕ → Type 0) (stm : Stm K) (v : Worker K) → Sound good stm v → (d : Handle K) → IsSameCaller v.desc d
+    → HoldsClosed (known v.desc) → Stays stm.config (known v.desc) (known d) → (v.phase ≡ Between → ⊥)
+    → MadeIdle good stm v (record v { desc = d })
 opened good stm v s d same closed h other =
     let owes : owed (known v.desc) ≡ (known v.desc).rises = ap (λ b. if b then (known v.desc).base + 2 else (known v.desc).rises) closed.running in
     let rises = h.rises in
@@ -36,9 +38,13 @@ opened good stm v s d same closed h other =
 pub returns-in-Closing : goal.returns-in-Closing
 returns-in-Closing g c =
     let good = g.K.MemRule.good c.args.stm.now.rule in
-    opened good c.args.stm.now c.args.w.now c.requires c.reopen.new.desc c.reopen.ensures.same (closed-now good c.args.stm.now c.args.w.now c.requires (inl c.in-Closing.is)) c.reopen.ensures.reopens (λ e. let x = sym c.in-Closing.is ∙ e in cc)
+    opened good c.args.stm.now c.args.w.now c.requires c.reopen.new.desc c.reopen.ensures.same
+    (closed-now good c.args.stm.now c.args.w.now c.requires (inl c.in-Closing.is)) c.reopen.ensures.reopens (λ e.
+    let x = sym c.in-Closing.is ∙ e in cc)
 
 pub returns-in-Quiet : goal.returns-in-Quiet
 returns-in-Quiet g c =
     let good = g.K.MemRule.good c.args.stm.now.rule in
-    opened good c.args.stm.now c.args.w.now c.requires c.reopen-in-Quiet.new.desc c.reopen-in-Quiet.ensures.same (closed-now good c.args.stm.now c.args.w.now c.requires (inr c.in-Quiet.is)) c.reopen-in-Quiet.ensures.reopens (λ e. let x = sym c.in-Quiet.is ∙ e in cc)
+    opened good c.args.stm.now c.args.w.now c.requires c.reopen-in-Quiet.new.desc c.reopen-in-Quiet.ensures.same
+    (closed-now good c.args.stm.now c.args.w.now c.requires (inr c.in-Quiet.is)) c.reopen-in-Quiet.ensures.reopens (λ e.
+    let x = sym c.in-Quiet.is ∙ e in cc)

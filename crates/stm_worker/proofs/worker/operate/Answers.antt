@@ -15,7 +15,8 @@ invariant_of-live-clause-open g c = λ e. c.requires.runs.1
 
 pub returns-clause-stopped : goal.returns-clause-stopped
 returns-clause-stopped g c =
-    let stopped = stopped-by (g.K.MemRule.good c.args.stm.now.rule) c.args.stm.now.config (caller_of c.args.desc.now.who.role) c.args.op c.perform.result _ (known c.args.desc.now) _ c.perform.ensures.stops c.perform.ensures.keeps.0.1 c.perform.ensures.cause in
+    let stopped = stopped-by (g.K.MemRule.good c.args.stm.now.rule) c.args.stm.now.config (caller_of c.args.desc.now.who.role) c.args.op
+    c.perform.result _ (known c.args.desc.now) _ c.perform.ensures.stops c.perform.ensures.keeps.0.1 c.perform.ensures.cause in
     search (rules, stopped)
 
 pub invariant_of-live-clause-unfenced : goal.invariant_of-live-clause-unfenced

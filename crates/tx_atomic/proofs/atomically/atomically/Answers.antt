@@ -26,7 +26,8 @@ loop-preserved g c =
     let inv = c.loop.invariant in
     let ended = c.attempt.new.pace.last in
     let tried = subst (λ n. Tried good stm.config n (leb 16 c.loop.failed) (Some ended) v w c.loop.pace.tally c.attempt.new.pace.tally) (same-number c.args.desc.now c.loop.desc inv.same) c.in-Err.ensures.tried in
-    let failing = failing-more good stm.config (number c.args.desc.now) c.loop.failed (leb 16 c.loop.failed) ended (known c.args.desc.now) v w c.args.pace.now.tally c.loop.pace.tally c.attempt.new.pace.tally c.in_default.not-ClockFull refl inv.failing tried in
+    let failing = failing-more good stm.config (number c.args.desc.now) c.loop.failed (leb 16 c.loop.failed) ended (known c.args.desc.now) v
+    w c.args.pace.now.tally c.loop.pace.tally c.attempt.new.pace.tally c.in_default.not-ClockFull refl inv.failing tried in
     search (rules, grew, failing)
 
 pub returns-in-Ok-clause-ran : goal.returns-in-Ok-clause-ran
@@ -49,7 +50,8 @@ returns-in-ClockFull-clause-gave_up g c =
     let inv = c.loop.invariant in
     let here = subst (λ e. Tried good stm.config (number c.loop.desc) (leb 16 c.loop.failed) (Some e) v w c.loop.pace.tally c.attempt.new.pace.tally) c.in-ClockFull.is c.in-Err.ensures.tried in
     let tried = subst (λ n. Tried good stm.config n (leb 16 c.loop.failed) (Some ClockFull) v w c.loop.pace.tally c.attempt.new.pace.tally) (same-number c.args.desc.now c.loop.desc inv.same) here in
-    let ran = ran good stm.config (number c.args.desc.now) c.loop.failed (leb 16 c.loop.failed) (Some ClockFull) (known c.args.desc.now) v w c.args.pace.now.tally c.loop.pace.tally c.attempt.new.pace.tally refl inv.failing tried in
+    let ran = ran good stm.config (number c.args.desc.now) c.loop.failed (leb 16 c.loop.failed) (Some ClockFull) (known c.args.desc.now) v w
+    c.args.pace.now.tally c.loop.pace.tally c.attempt.new.pace.tally refl inv.failing tried in
     search (rules, ran)
 
 pub returns-in-ClockFull-clause-full : goal.returns-in-ClockFull-clause-full

@@ -11,7 +11,7 @@ pub invariant_of-memory-clause-runs : goal.invariant_of-memory-clause-runs
 invariant_of-memory-clause-runs g c = c.requires.fresh.0.0
 
 pub invariant_of-memory-clause-served : goal.invariant_of-memory-clause-served
-invariant_of-memory-clause-served g c = c.requires.served
+invariant_of-memory-clause-served g c = λ e. c.requires.served
 
 pub invariant_of-memory-clause-open : goal.invariant_of-memory-clause-open
 invariant_of-memory-clause-open g c = λ e. c.requires.fresh.0.1

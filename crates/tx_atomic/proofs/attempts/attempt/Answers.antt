@@ -40,5 +40,9 @@ returns-clause-tried g c =
     let w = known c.run.new.desc in
     let r = c.open.new.pace.tally in
     let t = c.run.new.pace.tally in
-    let runs = subst (λ n. MatchResult c.run.result (λ _. Runs good stm.config n None v w r t) (λ _. Runs good stm.config n (Some c.run.new.pace.last) v w r t)) (same-number c.args.desc.now c.open.new.desc c.open.ensures.same) c.run.ensures.runs in
-    tried-ran good stm.config (number c.args.desc.now) c.run.result c.args.irrevocable c.run.new.pace.last (known c.args.desc.now) v w c.args.pace.now.tally r t c.in_ok-open.ensures.irrevocable c.run.ensures.unrefused c.in_ok-open.ensures.opens runs
+    let runs = subst
+    (λ n.
+    MatchResult c.run.result (λ _. Runs good stm.config n None v w r t) (λ _. Runs good stm.config n (Some c.run.new.pace.last) v w r t))
+    (same-number c.args.desc.now c.open.new.desc c.open.ensures.same) c.run.ensures.runs in
+    tried-ran good stm.config (number c.args.desc.now) c.run.result c.args.irrevocable c.run.new.pace.last (known c.args.desc.now) v w
+    c.args.pace.now.tally r t c.in_ok-open.ensures.irrevocable c.run.ensures.unrefused c.in_ok-open.ensures.opens runs

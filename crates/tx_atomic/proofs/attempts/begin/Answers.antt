@@ -14,7 +14,8 @@ use Rattle.tx_atomic.proofs.attempts.begin.Goals as goal
 pub returns-then-is_some-clause-grew : goal.returns-then-is_some-clause-grew
 returns-then-is_some-clause-grew g c =
     let stm = c.args.stm.now in
-    commits-grow (g.K.MemRule.good stm.rule) stm.config (number c.try_begin.new.desc) c.turn_back.ensures.commits.0 (known c.args.desc.now) (known c.try_begin.new.desc) (known c.turn_back.new.desc) c.in-Begun.ensures.begins.grows c.turn_back.ensures.commits.1
+    commits-grow (g.K.MemRule.good stm.rule) stm.config (number c.try_begin.new.desc) c.turn_back.ensures.commits.0 (known c.args.desc.now)
+    (known c.try_begin.new.desc) (known c.turn_back.new.desc) c.in-Begun.ensures.begins.grows c.turn_back.ensures.commits.1
 
 -- who sees a range knows of a fence
 seen : (v : CallerState) → is_some {T = ℕ × ℕ} (fence_seen v) ≡ true → v.fence ≢ 0
@@ -30,7 +31,10 @@ returns-then-is_some-clause-refused g c =
     let v = known c.try_begin.new.desc in
     let w = known c.turn_back.new.desc in
     let some : is_some {T = ℕ × ℕ} (fence_seen v) ≡ true = let found = c.fence_seen.ensures in let tested = c.is_some.ensures in let yes = c.if-is_some.true in cc in
-    let refused = begin-fenced good stm.config (number c.args.desc.now) c.try_begin.result _ (known c.args.desc.now) v w c.in-Begun.is c.try_begin.ensures.begins (seen v some) (commits-grow good stm.config (number c.try_begin.new.desc) c.turn_back.ensures.commits.0 v v w (carries-refl v).grows c.turn_back.ensures.commits.1) in
+    let refused = begin-fenced good stm.config (number c.args.desc.now) c.try_begin.result _ (known c.args.desc.now) v w c.in-Begun.is
+    c.try_begin.ensures.begins (seen v some)
+    (commits-grow good stm.config (number c.try_begin.new.desc) c.turn_back.ensures.commits.0 v v w (carries-refl v).grows
+    c.turn_back.ensures.commits.1) in
     subst (λ (e : Ended). EndsBegin good stm.config (number c.args.desc.now) e (known c.args.desc.now) w) (sym c.refuse.ensures.last) refused
 
 pub returns-in-Closed-clause-refused : goal.returns-in-Closed-clause-refused

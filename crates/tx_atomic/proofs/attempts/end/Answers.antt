@@ -1,11 +1,10 @@
 use Rattle.std.proofs.Common.{ℕ, suc, ◌≡◌, ◌∙◌, List, rules, refl, ap, sym, subst}
 use Rattle.std.specs.Prelude.{Option, Some, None}
 use Rattle.stm_model.specs.declared.config.Config.{Config}
-use Rattle.stm_model.specs.declared.alg.Alg.{Alg}
 use Rattle.stm_model.specs.Logs.{Log, Keeps}
 use Rattle.tx_answers.specs.Answers.{Commits}
 use Rattle.tx_answers.specs.CallerStateLaws.{carries-refl}
-use Rattle.stm_tx.specs.Descs.{known, number}
+use Rattle.stm_tx.specs.Descs.{known, number, serves-on}
 use Rattle.tx_atomic.specs.AttemptLaws.{commits-grow, same-number, took-by}
 use Rattle.tx_answers.specs.CallerState.{CallerState}
 use Rattle.tx_atomic.specs.declared.tally.Ended.{Ended}
@@ -18,7 +17,7 @@ use Rattle.tx_atomic.specs.TryLaws.{again-more, commit-full, commit-done}
 use Rattle.tx_atomic.proofs.attempts.end.Goals as goal
 
 pub commit-requires-clause-served : goal.commit-requires-clause-served
-commit-requires-clause-served g c = subst (λ (a : Alg). g.C.Calls.acts_as a ≡ a) (sym c.loop.invariant.alg) c.requires.served
+commit-requires-clause-served g c = serves-on g.C.Calls.acts_as (known c.args.desc.now) (known c.loop.desc) c.loop.invariant.alg c.loop.invariant.granted c.requires.served
 
 pub commit-requires-clause-keeps : goal.commit-requires-clause-keeps
 commit-requires-clause-keeps g c =
@@ -34,7 +33,12 @@ returns-in-Committed-clause-took g c =
     took-by good stm.config (number c.args.desc.now) _ c.commit.result _ (known c.args.desc.now) (known c.loop.desc) (known c.commit.new.desc) inv.log inv.made inv.grew inv.later now c.in-Committed.is
 
 pub loop-init : goal.loop-init
-loop-init g c = let grew = (carries-refl (known c.args.desc.now)).grows in let again : (k : ℕ) × FindsAgain (g.K.MemRule.good c.args.stm.now.rule) c.args.stm.now.config (number c.args.desc.now) k (known c.args.desc.now) (known c.args.desc.now) × (c.args.pace.now.tally ≡ noted_times k Again c.args.pace.now.tally) = (0, refl, refl) in search (rules, grew, again)
+loop-init g c =
+    let grew = (carries-refl (known c.args.desc.now)).grows in
+    let again : (k : ℕ) × FindsAgain (g.K.MemRule.good c.args.stm.now.rule) c.args.stm.now.config (number c.args.desc.now) k
+    (known c.args.desc.now) (known c.args.desc.now) × (c.args.pace.now.tally ≡ noted_times k Again c.args.pace.now.tally) =
+    (0, refl, refl) in
+    search (rules, grew, again)
 
 pub loop-preserved : goal.loop-preserved
 loop-preserved g c =
@@ -48,37 +52,62 @@ loop-preserved g c =
     let grew = commits-grow good stm.config (number c.loop.desc) c.commit.result u v w inv.grew c.commit.ensures.commits in
     let went = c.in-Again.ensures.commits in
     let more = again-more good stm.config n inv.again.0 (number c.loop.desc) c.commit.result _ _ _ u v w (same-number c.args.desc.now c.loop.desc inv.same) inv.again.1 c.in-Again.is c.commit.ensures.commits in
-    let again : (k : ℕ) × FindsAgain good stm.config n k u w × (c.wait_at_commit.new.self.tally ≡ noted_times k Again c.args.pace.now.tally) = (suc inv.again.0, more, c.wait_at_commit.ensures.noted ∙ ap (noted Again) (c.tell.ensures ∙ inv.again.2)) in
+    let again : (k : ℕ) × FindsAgain good stm.config n k u w × (c.wait_at_commit.new.self.tally ≡ noted_times k Again c.args.pace.now.tally)
+    = (suc inv.again.0, more, c.wait_at_commit.ensures.noted ∙ ap (noted Again) (c.tell.ensures ∙ inv.again.2)) in
     search (rules, grew, went, again)
 
 -- what came of the calls, and the last of them
-finishes : (good : List ℕ → Type 0) (config : Config) (n m : ℕ) (o : Option Ended) (u v w : CallerState) (s t : Tally) → m ≡ n → (k : ℕ) × FindsAgain good config n k u v × (t ≡ noted_times k Again s) → FinishesBy good config m o v w → Finishes good config n o u w s t
+finishes : (good : List ℕ → Type 0) (config : Config) (n m : ℕ) (o : Option Ended) (u v w : CallerState) (s t : Tally) → m ≡ n
+    → (k : ℕ) × FindsAgain good config n k u v × (t ≡ noted_times k Again s) → FinishesBy good config m o v w
+    → Finishes good config n o u w s t
 finishes good config n m o u v w s t same again h = record { again = again.0; before = v; waits = again.1; last = subst (λ i. FinishesBy good config i o v w) same h; counted = again.2 }
 
 -- the same of a refusal, which the pacing keeps
-refused : (good : List ℕ → Type 0) (config : Config) (n m : ℕ) (e last : Ended) (u v w : CallerState) (s t t' : Tally) → last ≡ e → t' ≡ t → m ≡ n → (k : ℕ) × FindsAgain good config n k u v × (t ≡ noted_times k Again s) → FinishesBy good config m (Some e) v w → Finishes good config n (Some last) u w s t'
-refused good config n m e last u v w s t t' is kept same again h = subst (λ (d : Ended). Finishes good config n (Some d) u w s t') (sym is) (finishes good config n m (Some e) u v w s t' same (again.0, again.1, kept ∙ again.2) h)
+refused : (good : List ℕ → Type 0) (config : Config) (n m : ℕ) (e last : Ended) (u v w : CallerState) (s t t' : Tally) → last ≡ e → t' ≡ t
+    → m ≡ n → (k : ℕ) × FindsAgain good config n k u v × (t ≡ noted_times k Again s) → FinishesBy good config m (Some e) v w
+    → Finishes good config n (Some last) u w s t'
+refused good config n m e last u v w s t t' is kept same again h =
+    subst (λ (d : Ended). Finishes good config n (Some d) u w s t') (sym is)
+    (finishes good config n m (Some e) u v w s t' same (again.0, again.1, kept ∙ again.2) h)
 
 pub returns-in-Committed-clause-finishes : goal.returns-in-Committed-clause-finishes
 returns-in-Committed-clause-finishes g c =
     let stm = c.args.stm.now in
-    finishes (g.K.MemRule.good stm.rule) stm.config (number c.args.desc.now) (number c.loop.desc) None (known c.args.desc.now) (known c.loop.desc) (known c.commit.new.desc) c.args.pace.now.tally c.loop.pace.tally (same-number c.args.desc.now c.loop.desc c.loop.invariant.same) c.loop.invariant.again (commit-done (g.K.MemRule.good stm.rule) stm.config (number c.loop.desc) c.commit.result (known c.loop.desc) (known c.commit.new.desc) c.in-Committed.is c.commit.ensures.commits)
+    finishes (g.K.MemRule.good stm.rule) stm.config (number c.args.desc.now) (number c.loop.desc) None (known c.args.desc.now)
+    (known c.loop.desc) (known c.commit.new.desc) c.args.pace.now.tally c.loop.pace.tally
+    (same-number c.args.desc.now c.loop.desc c.loop.invariant.same) c.loop.invariant.again
+    (commit-done (g.K.MemRule.good stm.rule) stm.config (number c.loop.desc) c.commit.result (known c.loop.desc) (known c.commit.new.desc)
+    c.in-Committed.is c.commit.ensures.commits)
 
 pub returns-in-Conflict-clause-finishes : goal.returns-in-Conflict-clause-finishes
 returns-in-Conflict-clause-finishes g c =
     let stm = c.args.stm.now in
-    refused (g.K.MemRule.good stm.rule) stm.config (number c.args.desc.now) (number c.loop.desc) (ends.Conflict c.in-Conflict.cause) c.refuse.new.self.last (known c.args.desc.now) (known c.loop.desc) (known c.commit.new.desc) c.args.pace.now.tally c.loop.pace.tally c.refuse.new.self.tally c.refuse.ensures.last c.refuse.ensures.tally (same-number c.args.desc.now c.loop.desc c.loop.invariant.same) c.loop.invariant.again c.in-Conflict.ensures.commits
+    refused (g.K.MemRule.good stm.rule) stm.config (number c.args.desc.now) (number c.loop.desc) (ends.Conflict c.in-Conflict.cause)
+    c.refuse.new.self.last (known c.args.desc.now) (known c.loop.desc) (known c.commit.new.desc) c.args.pace.now.tally c.loop.pace.tally
+    c.refuse.new.self.tally c.refuse.ensures.last c.refuse.ensures.tally (same-number c.args.desc.now c.loop.desc c.loop.invariant.same)
+    c.loop.invariant.again c.in-Conflict.ensures.commits
 
 pub returns-in-ClockFull-clause-finishes : goal.returns-in-ClockFull-clause-finishes
 returns-in-ClockFull-clause-finishes g c =
     let stm = c.args.stm.now in
-    refused (g.K.MemRule.good stm.rule) stm.config (number c.args.desc.now) (number c.loop.desc) ends.ClockFull c.refuse-in-ClockFull.new.self.last (known c.args.desc.now) (known c.loop.desc) (known c.commit.new.desc) c.args.pace.now.tally c.loop.pace.tally c.refuse-in-ClockFull.new.self.tally c.refuse-in-ClockFull.ensures.last c.refuse-in-ClockFull.ensures.tally (same-number c.args.desc.now c.loop.desc c.loop.invariant.same) c.loop.invariant.again (commit-full (g.K.MemRule.good stm.rule) stm.config (number c.loop.desc) c.commit.result _ (known c.loop.desc) (known c.commit.new.desc) c.in-ClockFull.is c.commit.ensures.commits)
+    refused (g.K.MemRule.good stm.rule) stm.config (number c.args.desc.now) (number c.loop.desc) ends.ClockFull
+    c.refuse-in-ClockFull.new.self.last (known c.args.desc.now) (known c.loop.desc) (known c.commit.new.desc) c.args.pace.now.tally
+    c.loop.pace.tally c.refuse-in-ClockFull.new.self.tally c.refuse-in-ClockFull.ensures.last c.refuse-in-ClockFull.ensures.tally
+    (same-number c.args.desc.now c.loop.desc c.loop.invariant.same) c.loop.invariant.again
+    (commit-full (g.K.MemRule.good stm.rule) stm.config (number c.loop.desc) c.commit.result _ (known c.loop.desc) (known c.commit.new.desc)
+    c.in-ClockFull.is c.commit.ensures.commits)
 
 pub returns-in-Committed-clause-grew : goal.returns-in-Committed-clause-grew
-returns-in-Committed-clause-grew g c = commits-grow (g.K.MemRule.good c.args.stm.now.rule) c.args.stm.now.config (number c.loop.desc) c.commit.result (known c.args.desc.now) (known c.loop.desc) (known c.commit.new.desc) c.loop.invariant.grew c.commit.ensures.commits
+returns-in-Committed-clause-grew g c =
+    commits-grow (g.K.MemRule.good c.args.stm.now.rule) c.args.stm.now.config (number c.loop.desc) c.commit.result (known c.args.desc.now)
+    (known c.loop.desc) (known c.commit.new.desc) c.loop.invariant.grew c.commit.ensures.commits
 
 pub returns-in-Conflict-clause-grew : goal.returns-in-Conflict-clause-grew
-returns-in-Conflict-clause-grew g c = commits-grow (g.K.MemRule.good c.args.stm.now.rule) c.args.stm.now.config (number c.loop.desc) c.commit.result (known c.args.desc.now) (known c.loop.desc) (known c.commit.new.desc) c.loop.invariant.grew c.commit.ensures.commits
+returns-in-Conflict-clause-grew g c =
+    commits-grow (g.K.MemRule.good c.args.stm.now.rule) c.args.stm.now.config (number c.loop.desc) c.commit.result (known c.args.desc.now)
+    (known c.loop.desc) (known c.commit.new.desc) c.loop.invariant.grew c.commit.ensures.commits
 
 pub returns-in-ClockFull-clause-grew : goal.returns-in-ClockFull-clause-grew
-returns-in-ClockFull-clause-grew g c = commits-grow (g.K.MemRule.good c.args.stm.now.rule) c.args.stm.now.config (number c.loop.desc) c.commit.result (known c.args.desc.now) (known c.loop.desc) (known c.commit.new.desc) c.loop.invariant.grew c.commit.ensures.commits
+returns-in-ClockFull-clause-grew g c =
+    commits-grow (g.K.MemRule.good c.args.stm.now.rule) c.args.stm.now.config (number c.loop.desc) c.commit.result (known c.args.desc.now)
+    (known c.loop.desc) (known c.commit.new.desc) c.loop.invariant.grew c.commit.ensures.commits

@@ -14,6 +14,7 @@ invariant-loop g l = record {
   same : IsSameCaller l.fn.desc l.desc;
   running : (known l.desc).running ≡ true;
   alg : (known l.desc).alg ≡ (known l.fn.desc).alg;
+  granted : (known l.desc).granted ≡ (known l.fn.desc).granted;
   log : (known l.desc).log ≡ (known l.fn.desc).log;
   irrevocable : is_irrevocable (known l.desc) ≡ is_irrevocable (known l.fn.desc);
   grew : Grows (known l.fn.desc) (known l.desc);

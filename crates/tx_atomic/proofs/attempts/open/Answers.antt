@@ -37,7 +37,8 @@ returns-in_err-promote-clause-tried g c =
     let last = c.promote.new.pace.last in
     let here = subst (λ n. Asks good stm.config n (Some last) v w c.begin.new.pace.tally c.promote.new.pace.tally) (same-number c.args.desc.now c.begin.new.desc c.begin.ensures.same) c.in_err-promote.ensures.asks in
     let asks = subst (λ (t : Tally). Asks good stm.config (number c.args.desc.now) (Some last) v w t c.promote.new.pace.tally) c.begin.ensures.uncounted here in
-    let tried = tried-asked good stm.config (number c.args.desc.now) c.args.irrevocable last (known c.args.desc.now) v w c.args.pace.now.tally c.promote.new.pace.tally c.if-irrevocable.true c.in_ok-begin.ensures.begins asks in
+    let tried = tried-asked good stm.config (number c.args.desc.now) c.args.irrevocable last (known c.args.desc.now) v w
+    c.args.pace.now.tally c.promote.new.pace.tally c.if-irrevocable.true c.in_ok-begin.ensures.begins asks in
     let p = err_from_is_err_and c.from_residual-in_err-promote.result c.from_residual-in_err-promote.ensures.1 in
     rw p.1 tried
 

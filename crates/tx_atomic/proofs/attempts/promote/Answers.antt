@@ -27,10 +27,17 @@ returns-in-Taken-clause-over g c =
 pub returns-in-Taken-clause-made : goal.returns-in-Taken-clause-made
 returns-in-Taken-clause-made g c =
     let stm = c.args.stm.now in
-    cancels-made (g.K.MemRule.good stm.rule) stm.config (number c.try_irrevocable.new.desc) c.cancel.result (known c.try_irrevocable.new.desc) (known c.cancel.new.desc) c.cancel.ensures.cancels ∙ (c.in-Taken.ensures.irrevs.0.continues.made ∙ c.loop.invariant.made)
+    cancels-made (g.K.MemRule.good stm.rule) stm.config (number c.try_irrevocable.new.desc) c.cancel.result
+    (known c.try_irrevocable.new.desc) (known c.cancel.new.desc) c.cancel.ensures.cancels
+    ∙ (c.in-Taken.ensures.irrevs.0.continues.made ∙ c.loop.invariant.made)
 
 pub loop-init : goal.loop-init
-loop-init g c = let grew = (carries-refl (known c.args.desc.now)).grows in let busy : (k : ℕ) × FindsBusy (g.K.MemRule.good c.args.stm.now.rule) c.args.stm.now.config (number c.args.desc.now) k (known c.args.desc.now) (known c.args.desc.now) × (c.args.pace.now.tally ≡ noted_times k Busy c.args.pace.now.tally) = (0, refl, refl) in search (rules, grew, busy)
+loop-init g c =
+    let grew = (carries-refl (known c.args.desc.now)).grows in
+    let busy : (k : ℕ) × FindsBusy (g.K.MemRule.good c.args.stm.now.rule) c.args.stm.now.config (number c.args.desc.now) k
+    (known c.args.desc.now) (known c.args.desc.now) × (c.args.pace.now.tally ≡ noted_times k Busy c.args.pace.now.tally) =
+    (0, refl, refl) in
+    search (rules, grew, busy)
 
 pub loop-preserved : goal.loop-preserved
 loop-preserved g c =
@@ -44,12 +51,18 @@ loop-preserved g c =
     let grew = irrevs-grow good stm.config (number c.loop.desc) c.try_irrevocable.result u v w inv.grew c.try_irrevocable.ensures.irrevs in
     let waits = c.in-Busy.ensures.irrevs.0 in
     let more = busy-more good stm.config n inv.busy.0 (number c.loop.desc) c.try_irrevocable.result _ _ u v w (same-number c.args.desc.now c.loop.desc inv.same) inv.busy.1 c.in-Busy.is c.try_irrevocable.ensures.irrevs in
-    let busy : (k : ℕ) × FindsBusy good stm.config n k u w × (c.wait.new.self.tally ≡ noted_times k Busy c.args.pace.now.tally) = (suc inv.busy.0, more, c.wait.ensures.noted ∙ ap (noted Busy) (c.tell.ensures ∙ inv.busy.2)) in
+    let busy : (k : ℕ) × FindsBusy good stm.config n k u w × (c.wait.new.self.tally ≡ noted_times k Busy c.args.pace.now.tally) =
+    (suc inv.busy.0, more, c.wait.ensures.noted ∙ ap (noted Busy) (c.tell.ensures ∙ inv.busy.2)) in
     search (rules, grew, waits, busy)
 
 -- what came of the calls, and the last of them, which the pacing keeps
-asks : (good : List ℕ → Type 0) (config : Config) (n m : ℕ) (e last : Ended) (u v w : CallerState) (s t t' : Tally) → last ≡ e → t' ≡ t → m ≡ n → (k : ℕ) × FindsBusy good config n k u v × (t ≡ noted_times k Busy s) → EndsPromotion good config m e v w → Asks good config n (Some last) u w s t'
-asks good config n m e last u v w s t t' is kept same busy h = subst (λ (d : Ended). Asks good config n (Some d) u w s t') (sym is) (record { busy = busy.0; asked = v; waits = busy.1; last = subst (λ i. EndsPromotion good config i e v w) same h; counted = kept ∙ busy.2 })
+asks : (good : List ℕ → Type 0) (config : Config) (n m : ℕ) (e last : Ended) (u v w : CallerState) (s t t' : Tally) → last ≡ e → t' ≡ t
+    → m ≡ n → (k : ℕ) × FindsBusy good config n k u v × (t ≡ noted_times k Busy s) → EndsPromotion good config m e v w
+    → Asks good config n (Some last) u w s t'
+asks good config n m e last u v w s t t' is kept same busy h =
+    subst (λ (d : Ended). Asks good config n (Some d) u w s t') (sym is)
+    (record
+    { busy = busy.0; asked = v; waits = busy.1; last = subst (λ i. EndsPromotion good config i e v w) same h; counted = kept ∙ busy.2 })
 
 pub returns-in-Granted-clause-asks : goal.returns-in-Granted-clause-asks
 returns-in-Granted-clause-asks g c =
@@ -72,28 +85,48 @@ returns-in-Taken-clause-asks g c =
     let good = g.K.MemRule.good stm.rule in
     let v = known c.try_irrevocable.new.desc in
     let left = cancels-grow good stm.config (number c.try_irrevocable.new.desc) c.cancel.result v v (known c.cancel.new.desc) (carries-refl v).grows c.cancel.ensures.cancels in
-    asks good stm.config (number c.args.desc.now) (number c.loop.desc) ends.Taken c.refuse.new.self.last (known c.args.desc.now) (known c.loop.desc) (known c.cancel.new.desc) c.args.pace.now.tally c.loop.pace.tally c.refuse.new.self.tally c.refuse.ensures.last c.refuse.ensures.tally (same-number c.args.desc.now c.loop.desc c.loop.invariant.same) c.loop.invariant.busy (grant-taken good stm.config (number c.loop.desc) c.try_irrevocable.result _ (known c.loop.desc) v (known c.cancel.new.desc) c.in-Taken.is c.try_irrevocable.ensures.irrevs left)
+    asks good stm.config (number c.args.desc.now) (number c.loop.desc) ends.Taken c.refuse.new.self.last (known c.args.desc.now)
+    (known c.loop.desc) (known c.cancel.new.desc) c.args.pace.now.tally c.loop.pace.tally c.refuse.new.self.tally c.refuse.ensures.last
+    c.refuse.ensures.tally (same-number c.args.desc.now c.loop.desc c.loop.invariant.same) c.loop.invariant.busy
+    (grant-taken good stm.config (number c.loop.desc) c.try_irrevocable.result _ (known c.loop.desc) v (known c.cancel.new.desc)
+    c.in-Taken.is c.try_irrevocable.ensures.irrevs left)
 
 pub returns-in-Conflict-clause-asks : goal.returns-in-Conflict-clause-asks
 returns-in-Conflict-clause-asks g c =
     let stm = c.args.stm.now in
-    asks (g.K.MemRule.good stm.rule) stm.config (number c.args.desc.now) (number c.loop.desc) (ends.Conflict c.in-Conflict.cause) c.refuse-in-Conflict.new.self.last (known c.args.desc.now) (known c.loop.desc) (known c.try_irrevocable.new.desc) c.args.pace.now.tally c.loop.pace.tally c.refuse-in-Conflict.new.self.tally c.refuse-in-Conflict.ensures.last c.refuse-in-Conflict.ensures.tally (same-number c.args.desc.now c.loop.desc c.loop.invariant.same) c.loop.invariant.busy c.in-Conflict.ensures.irrevs
+    asks (g.K.MemRule.good stm.rule) stm.config (number c.args.desc.now) (number c.loop.desc) (ends.Conflict c.in-Conflict.cause)
+    c.refuse-in-Conflict.new.self.last (known c.args.desc.now) (known c.loop.desc) (known c.try_irrevocable.new.desc) c.args.pace.now.tally
+    c.loop.pace.tally c.refuse-in-Conflict.new.self.tally c.refuse-in-Conflict.ensures.last c.refuse-in-Conflict.ensures.tally
+    (same-number c.args.desc.now c.loop.desc c.loop.invariant.same) c.loop.invariant.busy c.in-Conflict.ensures.irrevs
 
 pub returns-in-ClockFull-clause-asks : goal.returns-in-ClockFull-clause-asks
 returns-in-ClockFull-clause-asks g c =
     let stm = c.args.stm.now in
-    asks (g.K.MemRule.good stm.rule) stm.config (number c.args.desc.now) (number c.loop.desc) ends.ClockFull c.refuse-in-ClockFull.new.self.last (known c.args.desc.now) (known c.loop.desc) (known c.try_irrevocable.new.desc) c.args.pace.now.tally c.loop.pace.tally c.refuse-in-ClockFull.new.self.tally c.refuse-in-ClockFull.ensures.last c.refuse-in-ClockFull.ensures.tally (same-number c.args.desc.now c.loop.desc c.loop.invariant.same) c.loop.invariant.busy (grant-full (g.K.MemRule.good stm.rule) stm.config (number c.loop.desc) c.try_irrevocable.result _ (known c.loop.desc) (known c.try_irrevocable.new.desc) c.in-ClockFull.is c.try_irrevocable.ensures.irrevs)
+    asks (g.K.MemRule.good stm.rule) stm.config (number c.args.desc.now) (number c.loop.desc) ends.ClockFull
+    c.refuse-in-ClockFull.new.self.last (known c.args.desc.now) (known c.loop.desc) (known c.try_irrevocable.new.desc) c.args.pace.now.tally
+    c.loop.pace.tally c.refuse-in-ClockFull.new.self.tally c.refuse-in-ClockFull.ensures.last c.refuse-in-ClockFull.ensures.tally
+    (same-number c.args.desc.now c.loop.desc c.loop.invariant.same) c.loop.invariant.busy
+    (grant-full (g.K.MemRule.good stm.rule) stm.config (number c.loop.desc) c.try_irrevocable.result _ (known c.loop.desc)
+    (known c.try_irrevocable.new.desc) c.in-ClockFull.is c.try_irrevocable.ensures.irrevs)
 
 pub returns-in-Granted-clause-grew : goal.returns-in-Granted-clause-grew
-returns-in-Granted-clause-grew g c = irrevs-grow (g.K.MemRule.good c.args.stm.now.rule) c.args.stm.now.config (number c.loop.desc) c.try_irrevocable.result (known c.args.desc.now) (known c.loop.desc) (known c.try_irrevocable.new.desc) c.loop.invariant.grew c.try_irrevocable.ensures.irrevs
+returns-in-Granted-clause-grew g c =
+    irrevs-grow (g.K.MemRule.good c.args.stm.now.rule) c.args.stm.now.config (number c.loop.desc) c.try_irrevocable.result
+    (known c.args.desc.now) (known c.loop.desc) (known c.try_irrevocable.new.desc) c.loop.invariant.grew c.try_irrevocable.ensures.irrevs
 
 pub returns-in-Taken-clause-grew : goal.returns-in-Taken-clause-grew
 returns-in-Taken-clause-grew g c =
-    let grew = irrevs-grow (g.K.MemRule.good c.args.stm.now.rule) c.args.stm.now.config (number c.loop.desc) c.try_irrevocable.result (known c.args.desc.now) (known c.loop.desc) (known c.try_irrevocable.new.desc) c.loop.invariant.grew c.try_irrevocable.ensures.irrevs in
-    cancels-grow (g.K.MemRule.good c.args.stm.now.rule) c.args.stm.now.config (number c.try_irrevocable.new.desc) c.cancel.result (known c.args.desc.now) (known c.try_irrevocable.new.desc) (known c.cancel.new.desc) grew c.cancel.ensures.cancels
+    let grew = irrevs-grow (g.K.MemRule.good c.args.stm.now.rule) c.args.stm.now.config (number c.loop.desc) c.try_irrevocable.result
+    (known c.args.desc.now) (known c.loop.desc) (known c.try_irrevocable.new.desc) c.loop.invariant.grew c.try_irrevocable.ensures.irrevs in
+    cancels-grow (g.K.MemRule.good c.args.stm.now.rule) c.args.stm.now.config (number c.try_irrevocable.new.desc) c.cancel.result
+    (known c.args.desc.now) (known c.try_irrevocable.new.desc) (known c.cancel.new.desc) grew c.cancel.ensures.cancels
 
 pub returns-in-Conflict-clause-grew : goal.returns-in-Conflict-clause-grew
-returns-in-Conflict-clause-grew g c = irrevs-grow (g.K.MemRule.good c.args.stm.now.rule) c.args.stm.now.config (number c.loop.desc) c.try_irrevocable.result (known c.args.desc.now) (known c.loop.desc) (known c.try_irrevocable.new.desc) c.loop.invariant.grew c.try_irrevocable.ensures.irrevs
+returns-in-Conflict-clause-grew g c =
+    irrevs-grow (g.K.MemRule.good c.args.stm.now.rule) c.args.stm.now.config (number c.loop.desc) c.try_irrevocable.result
+    (known c.args.desc.now) (known c.loop.desc) (known c.try_irrevocable.new.desc) c.loop.invariant.grew c.try_irrevocable.ensures.irrevs
 
 pub returns-in-ClockFull-clause-grew : goal.returns-in-ClockFull-clause-grew
-returns-in-ClockFull-clause-grew g c = irrevs-grow (g.K.MemRule.good c.args.stm.now.rule) c.args.stm.now.config (number c.loop.desc) c.try_irrevocable.result (known c.args.desc.now) (known c.loop.desc) (known c.try_irrevocable.new.desc) c.loop.invariant.grew c.try_irrevocable.ensures.irrevs
+returns-in-ClockFull-clause-grew g c =
+    irrevs-grow (g.K.MemRule.good c.args.stm.now.rule) c.args.stm.now.config (number c.loop.desc) c.try_irrevocable.result
+    (known c.args.desc.now) (known c.loop.desc) (known c.try_irrevocable.new.desc) c.loop.invariant.grew c.try_irrevocable.ensures.irrevs

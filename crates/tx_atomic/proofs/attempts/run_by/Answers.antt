@@ -4,8 +4,7 @@ use Rattle.std.proofs.lemmas.Result.{err_from_is_err_and}
 use Rattle.tx_answers.specs.declared.answers.Commit.TheVariants.{Committed, ReadOnly}
 use Rattle.tx_answers.specs.Answers.{Commits}
 use Rattle.tx_answers.specs.CallerStateLaws.{grows-trans}
-use Rattle.stm_model.specs.declared.alg.Alg.{Alg}
-use Rattle.stm_tx.specs.Descs.{known, number}
+use Rattle.stm_tx.specs.Descs.{known, number, serves-on}
 use Rattle.tx_atomic.specs.AttemptLaws.{same-number}
 use Rattle.tx_atomic.specs.Tries.{Finishes}
 use Rattle.tx_atomic.specs.declared.tally.Tally.{Tally}
@@ -13,12 +12,13 @@ use Rattle.tx_atomic.specs.TryLaws.{runs-stopped, runs-finished}
 use Rattle.tx_atomic.proofs.attempts.run_by.Goals as goal
 
 pub end-requires-clause-served : goal.end-requires-clause-served
-end-requires-clause-served g c = subst (λ (a : Alg). g.C.Calls.acts_as a ≡ a) (sym c.in_ok-output.ensures.algorithm) c.requires.served
+end-requires-clause-served g c = serves-on g.C.Calls.acts_as (known c.args.desc.now) (known c.act.new.desc) c.in_ok-output.ensures.algorithm c.in_ok-output.ensures.granted c.requires.served
 
 pub returns-in_err-output-clause-runs : goal.returns-in_err-output-clause-runs
 returns-in_err-output-clause-runs g c =
     let stm = c.args.stm.now in
-    let runs = runs-stopped (g.K.MemRule.good stm.rule) stm.config (number c.args.desc.now) c.act.new.pace.last (known c.args.desc.now) (known c.act.new.desc) c.args.pace.now.tally c.act.new.pace.tally c.act.ensures.uncounted c.in_err-output.ensures.stopped in
+    let runs = runs-stopped (g.K.MemRule.good stm.rule) stm.config (number c.args.desc.now) c.act.new.pace.last (known c.args.desc.now)
+    (known c.act.new.desc) c.args.pace.now.tally c.act.new.pace.tally c.act.ensures.uncounted c.in_err-output.ensures.stopped in
     let p = err_from_is_err_and c.from_residual.result c.from_residual.ensures.1 in
     rw p.1 runs
 
@@ -59,7 +59,9 @@ returns-clause-runs g c =
     let x = known c.act.new.desc in
     let w = known c.end.new.desc in
     let here = subst (λ i. Finishes good stm.config i None x w c.act.new.pace.tally c.end.new.pace.tally) (same-number c.args.desc.now c.act.new.desc c.act.ensures.same) c.in_ok-end.ensures.finishes in
-    runs-finished good stm.config (number c.args.desc.now) None (known c.args.desc.now) x w c.args.pace.now.tally c.end.new.pace.tally c.act.ensures.grew (subst (λ (t : Tally). Finishes good stm.config (number c.args.desc.now) None x w t c.end.new.pace.tally) c.act.ensures.uncounted here)
+    runs-finished good stm.config (number c.args.desc.now) None (known c.args.desc.now) x w c.args.pace.now.tally c.end.new.pace.tally
+    c.act.ensures.grew
+    (subst (λ (t : Tally). Finishes good stm.config (number c.args.desc.now) None x w t c.end.new.pace.tally) c.act.ensures.uncounted here)
 
 pub returns-clause-took : goal.returns-clause-took
 returns-clause-took g c =

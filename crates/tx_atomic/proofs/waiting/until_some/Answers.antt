@@ -22,7 +22,10 @@ loop-preserved g c =
     let v = known c.loop.desc in
     let w = known c.atomically.new.desc in
     let postcondition = g.T.Transaction.postcondition c.args.transaction.now stm.rule stm.config.words None in
-    let took = subst (λ r. TookEffect (g.K.MemRule.good stm.rule) stm.config (number c.loop.desc) (g.T.Transaction.postcondition c.args.transaction.now stm.rule stm.config.words r) v.front v w) c.in-Some-None.field-0-is c.in-Some-None.ensures.took in
+    let took = subst (λ r.
+    TookEffect (g.K.MemRule.good stm.rule) stm.config (number c.loop.desc)
+    (g.T.Transaction.postcondition c.args.transaction.now stm.rule stm.config.words r) v.front v w) c.in-Some-None.field-0-is
+    c.in-Some-None.ensures.took in
     let grew = grows-trans (known c.args.desc.now) v w c.loop.invariant.grew c.atomically.ensures.grew in
     let made = took-nothing (g.K.MemRule.good stm.rule) stm.config (number c.loop.desc) postcondition v.front v w c.requires.waits took ∙ c.loop.invariant.made in
     let good = g.K.MemRule.good stm.rule in

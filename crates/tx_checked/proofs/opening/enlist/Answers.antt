@@ -23,7 +23,9 @@ invariant_of-push_reserved c =
     let ready : IsReady stm desc = all-head (IsReady stm) desc rest (subst (All (IsReady stm)) c.in-Some.ensures.steps.0 c.loop-desc.invariant.ready) in
     record {
       own = subst (λ (s : Stm AnyMem). IsOf desc s) (sym c.in-Ok.ensures) ready.own;
-      exchange_own = subst (λ (s : Stm AnyMem). IsOf (arc_value c.in-Ok-try_clone.note_exchange).table.shared.key s) (sym c.in-Ok.ensures) (subst (λ (b : NoteExchange). IsOf b.table.shared.key stm) (sym c.in-Ok-try_clone.ensures) c.requires.note_exchange);
+      exchange_own =
+          subst (λ (s : Stm AnyMem). IsOf (arc_value c.in-Ok-try_clone.note_exchange).table.shared.key s) (sym c.in-Ok.ensures)
+          (subst (λ (b : NoteExchange). IsOf b.table.shared.key stm) (sym c.in-Ok-try_clone.ensures) c.requires.note_exchange);
       in_phase = idle-in_phase (known desc) ready.idle;
       reaches = refl;
       ranged = no-range (arc_value c.in-Ok.shared).config.words (known desc).fenced;
@@ -41,7 +43,16 @@ loop-desc-preserved c =
     record {
       ready = all-tail (IsReady stm) desc rest (subst (All (IsReady stm)) steps at.invariant.ready);
       descs = ap (λ l. l ++ rest) pushed ∙ (append_assoc (descs_in checked_callers) (desc ∷ []) rest ∙ (ap (λ l. descs_in checked_callers ++ l) (sym steps) ∙ at.invariant.descs));
-      unused = subst (All (IsUnused stm.config)) (sym c.push_reserved.ensures.items) (All-push (IsUnused stm.config) checked_callers _ at.invariant.unused (record { config = ap (λ (s : Stm AnyMem). s.config) c.in-Ok.ensures; phase = refl; range = refl; refusal = refl; counts = c.none.ensures }));
+      unused =
+          subst (All (IsUnused stm.config)) (sym c.push_reserved.ensures.items)
+          (All-push (IsUnused stm.config) checked_callers _ at.invariant.unused
+          (record {
+            config = ap (λ (s : Stm AnyMem). s.config) c.in-Ok.ensures;
+            phase = refl;
+            range = refl;
+            refusal = refl;
+            counts = c.none.ensures;
+          }));
       len = (let was = at.invariant.len in let gone = c.in-Some.ensures.steps.1 in let short = ap length steps in omega arith);
       room = (let was = at.invariant.room in let more = c.push_reserved.ensures.len in let kept = c.push_reserved.ensures.capacity in let short = ap length steps in omega arith);
     }

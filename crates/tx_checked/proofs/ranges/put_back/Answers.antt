@@ -14,14 +14,17 @@ returns-clause-given c =
     let e = c.close_alone.new.desc in
     let u = known d in
     let x = known c.reopen.new.desc in
-    let told = given config (number e) c.give_back-answer.result u (known e) (known c.give_back-answer.new.desc) x c.close_alone.ensures.grew c.close_alone.ensures.made c.give_back-answer.ensures.gives c.reopen.ensures.reopens in
+    let told = given config (number e) c.give_back-answer.result u (known e) (known c.give_back-answer.new.desc) x
+    c.close_alone.ensures.grew c.close_alone.ensures.made c.give_back-answer.ensures.gives c.reopen.ensures.reopens in
     subst (λ (n : ℕ). GivesBack config n c.give_back-answer.result u x) (same-number d e c.close_alone.ensures.same) told
 
 pub returns-clause-full : goal.returns-clause-full
 returns-clause-full c =
     let d = c.args.desc.now in
     let e = c.close_alone.new.desc in
-    finds-full c.args.stm.now.config (number d) c.args.closing c.give_back-answer.result (number e) (known d) (known e) (known c.give_back-answer.new.desc) (known c.reopen.new.desc) (same-number d e c.close_alone.ensures.same) c.in_ok-close_alone.ensures.alone c.give_back-answer.ensures.gives c.reopen.ensures.reopens
+    finds-full c.args.stm.now.config (number d) c.args.closing c.give_back-answer.result (number e) (known d) (known e)
+    (known c.give_back-answer.new.desc) (known c.reopen.new.desc) (same-number d e c.close_alone.ensures.same)
+    c.in_ok-close_alone.ensures.alone c.give_back-answer.ensures.gives c.reopen.ensures.reopens
 
 pub returns-clause-grew : goal.returns-clause-grew
 returns-clause-grew c =

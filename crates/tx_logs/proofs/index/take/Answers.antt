@@ -12,5 +12,8 @@ returns-clause-indexed c v =
     let r = c.requires in
     elim c.if-index-at.branch [
       | then-index-at w ↦ rw w.at-is (index-taken g xs bs c.args.a v w.look_up-at.result r.indexed r.room w.look_up-at.ensures r.new)
-      | else-index-at w ↦ rw w.at-is (index-taken g xs bs c.args.a v (record { at = c.home-at.result; distance = 0; item = None }) r.indexed r.room (home-open g xs bs c.args.a c.home-at.result r.indexed (omega (arith, r.room)) c.home-at.ensures.is w.if-index-at.false) r.new)
+      | else-index-at w ↦
+          rw w.at-is
+          (index-taken g xs bs c.args.a v (record { at = c.home-at.result; distance = 0; item = None }) r.indexed r.room
+          (home-open g xs bs c.args.a c.home-at.result r.indexed (omega (arith, r.room)) c.home-at.ensures.is w.if-index-at.false) r.new)
     ]

@@ -13,7 +13,10 @@ loop-i-preserved c =
     let ms = c.args.mark.now.olds.items in
     let s = c.requires.saves in
     let is = c.loop-i.invariant in
-    restored-next ms c.args.log.now.items c.loop-i.i c.item-a.result c.loop-i.log c.push.new.self c.push.result s.once s.there c.count-count.ensures.once (omega (arith, c.loop-i-test.true, c.count-i-end.ensures.count)) (sym c.item-a.ensures) (ap (λ (l : LogState). l.items) is) c.push.ensures ∙ ap (λ (l : LogState). let k : LogState = record l { items = map (old_or (take (c.loop-i.i + 1) ms)) c.args.log.now.items } in k) is
+    restored-next ms c.args.log.now.items c.loop-i.i c.item-a.result c.loop-i.log c.push.new.self c.push.result s.once s.there
+    c.count-count.ensures.once (omega (arith, c.loop-i-test.true, c.count-i-end.ensures.count)) (sym c.item-a.ensures)
+    (ap (λ (l : LogState). l.items) is) c.push.ensures
+    ∙ ap (λ (l : LogState). let k : LogState = record l { items = map (old_or (take (c.loop-i.i + 1) ms)) c.args.log.now.items } in k) is
 
 pub truncate-requires : goal.truncate-requires
 truncate-requires c =

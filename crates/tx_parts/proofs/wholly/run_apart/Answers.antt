@@ -1,7 +1,7 @@
 use Rattle.std.proofs.Common.{ℕ, ◌≡◌, List, length, ap, ◌∙◌, subst, arith}
 use Rattle.std.specs.Prelude.{Some, None}
 use Rattle.stm_model.specs.Logs.{Log}
-use Rattle.tx_parts.specs.Laying.{over}
+use Rattle.tx_parts.specs.Laying.{over, IsFilled}
 use Rattle.tx_parts.specs.LayingLaws.{keeps-like, keeps-more, goes-either}
 use Rattle.tx_parts.proofs.wholly.run_apart.Goals as goal
 
@@ -47,7 +47,7 @@ returns-in-Ok-None-clause-comes g c =
 pub returns-in-Ok-None-clause-goes : goal.returns-in-Ok-None-clause-goes
 returns-in-Ok-None-clause-goes g c =
     let t = c.run-came.new.memory in
-    goes-either (g.A.Access.stopped t.below) t.stopped t.room.len (g.A.Access.words t.below) _ c.no_room-full.result c.no_room-full.ensures.some c.no_room-full.ensures.none c.in-Ok-None.ensures.goes
+    goes-either (g.A.Access.stopped t.below) t.stopped c.no_room-full.result c.no_room-full.ensures.goes c.no_room-full.ensures.none c.in-Ok-None.ensures.goes
 
 pub returns-in_ok-settle-in-Ok-Some-clause-kept : goal.returns-in_ok-settle-in-Ok-Some-clause-kept
 returns-in_ok-settle-in-Ok-Some-clause-kept g c =
@@ -67,8 +67,11 @@ pub returns-in-Some-clause-kept : goal.returns-in-Some-clause-kept
 returns-in-Some-clause-kept g c =
     let a = g.A.Access in
     let s = c.args.overlay.now in
-    let full = rw c.in-Some.is at c.no_room-full.ensures.some in
-    keeps-more (g.K.MemRule.good c.args.rule.now) (a.words s.below) (a.log s.below) (a.log c.run-came.new.memory.below) (c.in-Err.ensures.keeps.1.reads full.0).1 c.requires.sound
+    let full = rw c.in-Some.is at c.no_room-full.ensures.goes in
+    keeps-more (g.K.MemRule.good c.args.rule.now) (a.words s.below) (a.log s.below) (a.log c.run-came.new.memory.below) (c.in-Err.ensures.keeps.1.reads full).1 c.requires.sound
 
 pub returns-in-Some-clause-explained : goal.returns-in-Some-clause-explained
-returns-in-Some-clause-explained g c = (rw c.in-Some.is at c.no_room-full.ensures.some).3
+returns-in-Some-clause-explained g c = (rw c.in-Some.is at c.no_room-full.ensures.some).2
+
+pub returns-in-Some-clause-full : goal.returns-in-Some-clause-full
+returns-in-Some-clause-full g c = subst (λ (n : ℕ). IsFilled n c.run-came.new.memory.room) c.in-Err.ensures.keeps.1.still (rw c.in-Some.is at c.no_room-full.ensures.some).3

@@ -15,7 +15,8 @@ work_all-requires-clause-ready g c κs within = ready-all c.in_ok-stm.stm 0 c.in
 pub close_into-closed-requires-clause-descs : goal.close_into-closed-requires-clause-descs
 close_into-closed-requires-clause-descs g c =
     let stm = c.in_ok-stm.stm in
-    let worked = each-worked stm c.args.alg (g.J.Job.postcondition c.args.job.now stm.rule stm.config.words) c.in_ok-stm.descs.items c.in_ok-left.left.items c.in_ok-stm.ensures.ready c.in_ok-left.ensures.count c.in_ok-left.ensures.done in
+    let worked = each-worked stm c.args.alg (g.J.Job.postcondition c.args.job.now stm.rule stm.config.words) c.in_ok-stm.descs.items
+    c.in_ok-left.left.items c.in_ok-stm.ensures.ready c.in_ok-left.ensures.count c.in_ok-left.ensures.done in
     ready-idle stm (ap (λ (k : Config). k.fence) c.in_ok-stm.ensures.stm.0 ∙ c.requires.unfenced) 0 _ (subst (AllReady stm 0) (sym c.part-descs.ensures.descs) worked)
 
 pub returns-clause-count : goal.returns-clause-count
@@ -46,7 +47,8 @@ returns-clause-stories g c = λ i a lt.
     let within : i < length ds = let many = c.in_ok-stm.ensures.count in omega (arith, lt, many) in
     let told = subst (AllTold e 0) parted.descs h.told in
     let installs = h.installs ∙ ap (map (λ (d : Handle g.row.K.Denot). installs_of d.view)) parted.descs in
-    let one = stories stm c.args.alg (g.J.Job.postcondition c.args.job.now stm.rule stm.config.words) ds ls e c.in_ok-stm.ensures.ready c.in_ok-stm.ensures.new c.in_ok-left.ensures.count c.in_ok-left.ensures.done told installs i a within in
+    let one = stories stm c.args.alg (g.J.Job.postcondition c.args.job.now stm.rule stm.config.words) ds ls e c.in_ok-stm.ensures.ready
+    c.in_ok-stm.ensures.new c.in_ok-left.ensures.count c.in_ok-left.ensures.done told installs i a within in
     let two = subst (λ xs. IsStory c.args.alg (g.J.Job.postcondition c.args.job.now stm.rule stm.config.words i) e i (get_or xs i a).value) (sym parted.answers) one in
     let three = subst (λ (k : Config). IsStory c.args.alg (g.J.Job.postcondition c.args.job.now stm.rule k.words i) e i (get_or c.part-descs.result.1.items i a).value) of.0 two in
     subst (λ r. IsStory c.args.alg (g.J.Job.postcondition c.args.job.now r c.args.config.words i) e i (get_or c.part-descs.result.1.items i a).value) of.1 three

@@ -14,4 +14,6 @@ returns-clause-known g c fresh =
     let z = c.args.memory.now in
     let one = c.in_ok-first.ensures in
     let two = c.in_ok-second.ensures in
-    known-first (a.good z) _ (a.words z) _ (a.log z) (a.log c.read-2.new.self) ((c.args.a, c.in_ok-first.first) ∷ (c.args.b, c.in_ok-second.second) ∷ []) (returns-clause-read g c) (same-trans _ _ _ one.good two.good) (two.words ∙ one.words) two.explained fresh
+    known-first (a.good z) _ (a.words z) _ (a.log z) (a.log c.read-2.new.self)
+    ((c.args.a, c.in_ok-first.first) ∷ (c.args.b, c.in_ok-second.second) ∷ []) (returns-clause-read g c)
+    (same-trans _ _ _ one.good two.good) (two.words ∙ one.words) two.explained fresh

@@ -11,4 +11,5 @@ returns-then-desc-clause-irrevs g c =
 
 pub returns-in-Alone-clause-irrevs : goal.returns-in-Alone-clause-irrevs
 returns-in-Alone-clause-irrevs g c =
-    granted-alone (g.K.MemRule.good c.args.stm.now.rule) c.args.stm.now.config c.grant.result c.args.desc.now c.promote.new.desc c.grant.new.desc c.promote.ensures.same.who c.in-Alone.ensures.promotes.0 c.in-Alone.ensures.promotes.3 c.grant.ensures.grants
+    granted-alone (g.K.MemRule.good c.args.stm.now.rule) c.args.stm.now.config c.grant.result c.args.desc.now c.promote.new.desc
+    c.grant.new.desc c.promote.ensures.same.who c.in-Alone.ensures.promotes.0 c.in-Alone.ensures.promotes.3 c.grant.ensures.grants

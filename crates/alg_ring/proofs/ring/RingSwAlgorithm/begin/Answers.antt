@@ -10,4 +10,7 @@ begin-requires-clause-view g c = may-begin (g.K.MemRule.good c.args.stm.now.rule
 
 pub returns-clause-begins : goal.returns-clause-begins
 returns-clause-begins g c =
-    tells-started (g.K.MemRule.good c.args.stm.now.rule) c.args.stm.now.config c.args.caller c.args.seat.now.me.0.view c.requires.view c.begin.result c.begin.new.seat.me.0.view (tells-of ring_begin (FindsStart (good_of g.K.MemRule.good c.args.stm.now.config c.args.stm.now.rule) c.args.stm.now.config) _ _ _ c.begin.ensures.step)
+    tells-started (g.K.MemRule.good c.args.stm.now.rule) c.args.stm.now.config c.args.caller c.args.seat.now.me.0.view c.requires.view
+    c.begin.result c.begin.new.seat.me.0.view
+    (tells-of ring_begin (FindsStart (good_of g.K.MemRule.good c.args.stm.now.config c.args.stm.now.rule) c.args.stm.now.config) _ _ _
+    c.begin.ensures.step)

@@ -11,4 +11,6 @@ loop-i-preserved g c =
     search (rules, worked)
 
 pub returns-then-not-hand_over-clause-worked : goal.returns-then-not-hand_over-clause-worked
-returns-then-not-hand_over-clause-worked g c = worked-trans c.args.caller.now.desc c.loop-i.caller.desc c.hand_over.new.caller.desc c.loop-i.invariant.worked c.hand_over.ensures.worked.through c.hand_over.ensures.worked.grew
+returns-then-not-hand_over-clause-worked g c =
+    worked-trans c.args.caller.now.desc c.loop-i.caller.desc c.hand_over.new.caller.desc c.loop-i.invariant.worked
+    c.hand_over.ensures.worked.through c.hand_over.ensures.worked.grew

@@ -7,7 +7,9 @@ returns-clause-postcondition g c =
     let last = c.in_ok-last.ensures in
     let end = g.A.Access.log c.read-2.new.self in
     let does = looked (g.A.Access.log c.args.memory.now) (g.A.Access.log c.read.new.self) end c.in_ok-first.first c.in_ok-last.last c.requires.fresh first.value last.value in
-    saw (g.A.Access.good c.read-2.new.self) (g.A.Access.words c.read-2.new.self) end (record { first = c.in_ok-first.first; last = c.in_ok-last.last }) (λ m fine. (c.requires.good m).0 ((first.good m).1 ((last.good m).1 fine))) last.explained does.0
+    saw (g.A.Access.good c.read-2.new.self) (g.A.Access.words c.read-2.new.self) end
+    (record { first = c.in_ok-first.first; last = c.in_ok-last.last })
+    (λ m fine. (c.requires.good m).0 ((first.good m).1 ((last.good m).1 fine))) last.explained does.0
 
 pub returns-clause-kept : goal.returns-clause-kept
 returns-clause-kept g c =

@@ -42,7 +42,9 @@ returns-then-number-self-clause-postcondition g c =
     let lt = c.if-number-self.true in
     let is : ltb n plan.producers ≡ true = grind (arith, nat_tests, lt) in
     let own : gave ≤ quota plan n = rw is c.give_all-gave.ensures.count in
-    let did : HasDone q s.config.words (range_with_len (first_job plan n) gave) ts a b = subst (λ l. HasDone q s.config.words (range_with_len (first_job plan n) gave) l a b) (sym c.new-took.ensures.items) c.give_all-gave.ensures.gave in
+    let did : HasDone q s.config.words (range_with_len (first_job plan n) gave) ts a b = subst
+    (λ l. HasDone q s.config.words (range_with_len (first_job plan n) gave) l a b) (sym c.new-took.ensures.items)
+    c.give_all-gave.ensures.gave in
     subst (λ k. (gave ≤ quota plan k) × HasDone q s.config.words (range_with_len (first_job plan k) gave) ts a b) c.number-number.ensures (own, did)
 
 pub returns-else-number-self-clause-postcondition : goal.returns-else-number-self-clause-postcondition

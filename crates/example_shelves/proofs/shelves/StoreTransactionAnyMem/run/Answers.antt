@@ -16,7 +16,9 @@ returns-in-Done-clause-postcondition g c =
     let same = c.in_ok-read.ensures.words in
     let low : 0 < words z1 = subst (λ (w : ℕ). 0 < w) (sym same) (omega (arith, c.requires.precondition)) in
     let came = rw c.in-Done.is at c.in_ok-shelf.ensures.comes in
-    subst (λ (w : ℕ). Told w (IsStored (On s)) no_log (log z2)) same (on-shelf (words z1) low (log z0) (log z1) c.in_ok-read.field-0 c.requires.fresh c.in_ok-read.ensures.value _ 0 (log z2) s (omega (arith, c.if-branch-eq0.false)) came)
+    subst (λ (w : ℕ). Told w (IsStored (On s)) no_log (log z2)) same
+    (on-shelf (words z1) low (log z0) (log z1) c.in_ok-read.field-0 c.requires.fresh c.in_ok-read.ensures.value _ 0 (log z2) s
+    (omega (arith, c.if-branch-eq0.false)) came)
 
 pub returns-in-GaveWay-clause-postcondition : goal.returns-in-GaveWay-clause-postcondition
 returns-in-GaveWay-clause-postcondition g c =
@@ -28,4 +30,6 @@ returns-in-GaveWay-clause-postcondition g c =
     let same = c.in_ok-read.ensures.words in
     let low : 0 < words z1 = subst (λ (w : ℕ). 0 < w) (sym same) (omega (arith, c.requires.precondition)) in
     let came = rw c.in-GaveWay.is at c.in_ok-shelf.ensures.comes in
-    subst (λ (w : ℕ). Told w (IsStored Nowhere) no_log (log z2)) same (nowhere (words z1) low (log z0) (log z1) c.in_ok-read.field-0 c.requires.fresh c.in_ok-read.ensures.value (λ (m : List ℕ). Unit {0}) 0 (log z2) (omega (arith, c.if-branch-eq0.false)) came)
+    subst (λ (w : ℕ). Told w (IsStored Nowhere) no_log (log z2)) same
+    (nowhere (words z1) low (log z0) (log z1) c.in_ok-read.field-0 c.requires.fresh c.in_ok-read.ensures.value (λ (m : List ℕ). Unit {0}) 0
+    (log z2) (omega (arith, c.if-branch-eq0.false)) came)

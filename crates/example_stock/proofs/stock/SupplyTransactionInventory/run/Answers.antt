@@ -14,4 +14,6 @@ returns-clause-postcondition g c =
     (supplied_in c.args.self.now) amount (item, found.supplied + amount) ((16 + item, found.stock + amount) ∷ []) _ c.in_ok-write_two.ensures.wrote (λ m s ex. rw (ex.0, ex.1.0, c.min-amount.ensures) refl)
 
 pub returns-clause-kept : goal.returns-clause-kept
-returns-clause-kept g c = keeps-by IsStocked _ (supplied_in c.args.self.now) _ _ (returns-clause-postcondition g c) (λ m s small item at. (let long = s.1 in let precondition = c.requires.precondition in let was = s.0 item at in grind (arith, elements)))
+returns-clause-kept g c =
+    keeps-by IsStocked _ (supplied_in c.args.self.now) _ _ (returns-clause-postcondition g c) (λ m s small item at.
+    (let long = s.1 in let precondition = c.requires.precondition in let was = s.0 item at in grind (arith, elements)))

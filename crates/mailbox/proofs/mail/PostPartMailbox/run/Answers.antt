@@ -17,7 +17,9 @@ put-requires-clause-well g c =
     let z = c.args.memory.now in
     let box = c.args.mailbox.now in
     let urgent = c.args.self.now.urgent in
-    subst (λ (q : Queue). Under (a.good z) (a.words z) (a.log z) (IsQueue q)) (sym c.queue.ensures) (under-rule (IsMailbox box) (a.words z) (a.good z) (a.log z) (IsQueue (queue_of box urgent)) c.requires.good c.requires.sound (λ m well. well urgent))
+    subst (λ (q : Queue). Under (a.good z) (a.words z) (a.log z) (IsQueue q)) (sym c.queue.ensures)
+    (under-rule (IsMailbox box) (a.words z) (a.good z) (a.log z) (IsQueue (queue_of box urgent)) c.requires.good c.requires.sound (λ m well.
+    well urgent))
 
 pub returns-in-Added-clause-kept : goal.returns-in-Added-clause-kept
 returns-in-Added-clause-kept g c =

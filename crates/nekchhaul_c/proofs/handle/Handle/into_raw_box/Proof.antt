@@ -39,12 +39,22 @@ use Rattle.nekchhaul_c.proofs.handle.Handle.into_raw_box.Code as code
 
 pub into_raw_box_spec : {M : Type 1} → statement M
 into_raw_box_spec 𝓤 𝓛 𝓜 𝓡 wired =
-    let H = 𝓛.H in let 𝓣 = tables 𝓤 H 𝓜 𝓡 𝓡.env in let c = clauses 𝓛 𝓜.mem 𝓡.returns in let R : RattleType = checked_caller.the_row in let Z : RattleType = heap.the_row in let LZ = heap_laws.the_row_laws in let fn = code.function in
-    let Lr : RattleType = RawBox R Z LZ ghosts in let k = ended.kept.0 in let k' = ended.kept.1.0 in let hs : Stays ended.signature.params ended.kept = (stay_dropped (plain (λ _. handle.the_row)) k, (stay_dropped (plain (λ _. Z)) k', tt)) in
+    let H = 𝓛.H in
+    let 𝓣 = tables 𝓤 H 𝓜 𝓡 𝓡.env in
+    let c = clauses 𝓛 𝓜.mem 𝓡.returns in
+    let R : RattleType = checked_caller.the_row in
+    let Z : RattleType = heap.the_row in let LZ = heap_laws.the_row_laws in let fn = code.function in
+    let Lr : RattleType = RawBox R Z LZ ghosts in
+    let k = ended.kept.0 in
+    let k' = ended.kept.1.0 in
+    let hs : Stays ended.signature.params ended.kept =
+    (stay_dropped (plain (λ _. handle.the_row)) k, (stay_dropped (plain (λ _. Z)) k', tt)) in
     proved_at 𝓛 ended hs c 𝓜 𝓡 (Goes-blank 𝓛 0 (plain (λ _. handle.the_row)) k (λ κs x f. tt), (Goes-dropped 𝓛 0 (plain (λ _. Z)) k' (λ κs x f. refl), tt)) #self fn (code.unfolded 𝓤 H 𝓜 𝓡 wired) (λ z are.
     let Post : Val → SProp 𝓤 = (walk_of 𝓛 ended hs c).post z in let Run : List Val → SProp 𝓤 = λ ws. WpFn 𝓤 H 𝓣.C 𝓣.Λ fn ws Post in let Out : RattleType = type_at ended.signature.result z.0.0 in
     let v = z.0.3.0 in let a = z.0.3.1.0 in let told = lowers.val_is v z.0.4.0 are.0 in let h = one (layout Z) z.0.4.1.0 ((LZ.lawful 𝓛).typed a z.0.4.1.0 are.1.0) in
-    qed 𝓛 ((raw (alive 𝓛 ended.signature z.0.0 z.0.1) ⊛ ‵ (owns (types_at ended.signature.params z.0.0) z.0.3 z.0.4)) ∷ raw ((c z.0.0 z.0.3).requires z.1) ∷ []) ∵ move ! (1 ∷ []) $ drop ! $ split ! $ move ! (1 ∷ []) $ fsplit ! $ fsplit ! $ drop ! $
+    qed 𝓛
+    ((raw (alive 𝓛 ended.signature z.0.0 z.0.1) ⊛ ‵ (owns (types_at ended.signature.params z.0.0) z.0.3 z.0.4))
+    ∷ raw ((c z.0.0 z.0.3).requires z.1) ∷ []) ∵ move ! (1 ∷ []) $ drop ! $ split ! $ move ! (1 ∷ []) $ fsplit ! $ fsplit ! $ drop ! $
     -- [what it owns; the allocator; the tokens]
     either_owned ! R a v.tag v.at v.inside
     (λ is same. let w : Val = word 0 v.at in
@@ -71,5 +81,6 @@ into_raw_box_spec 𝓤 𝓛 𝓜 𝓡 wired =
     (λ _. skips ! $ exec ! 𝓣.C 𝓣.Λ Ev code.Mir.t-5 (at_ret Ev Post) $
     sets ! (agg ! (and_then ! (get ! refl) (and_then ! (get ! refl) (no_more !)))) refl typed $ sets ! (agg ! (and_then ! (lit ! tt) (and_then ! (get ! refl) (no_more !)))) refl good $
     raw_box_in R Z LZ ghosts ! b o h.0 a x $ use1 𝓛 (‵ (Out.own_val (Some d) (v₁ ∷ []))) (Some-of 𝓛 Lr d made) $
-    use0 𝓛 (raw (fact 𝓤 (Unit {0}))) (fact_i 𝓤 (Unit {0}) (emp 𝓤) tt) $ use0 𝓛 (raw (fact 𝓤 (v.inside ≡ Some x))) (fact_i 𝓤 (v.inside ≡ Some x) (emp 𝓤) same) $ join ! $ nothing ! $ nothing ! $ fjoin ! $ nothing ! $ fjoin ! $
+    use0 𝓛 (raw (fact 𝓤 (Unit {0}))) (fact_i 𝓤 (Unit {0}) (emp 𝓤) tt) $ use0 𝓛 (raw (fact 𝓤 (v.inside ≡ Some x)))
+    (fact_i 𝓤 (v.inside ≡ Some x) (emp 𝓤) same) $ join ! $ nothing ! $ nothing ! $ fjoin ! $ nothing ! $ fjoin ! $
     returns ! (look_at ! 0 refl) $ free_all ! refl $ keep ! (3 ∷ 0 ∷ 2 ∷ 1 ∷ []) $ by ! (leaves 𝓛 ended hs c z v₁ (Some d) (tt, (tt, tt)) (tt, (tt, tt)))))))

@@ -22,7 +22,9 @@ some-at ws a w e lt h = ap (λ (x : PlainWord). is_some x.own) (get_or_default w
 pub push_reserved-requires : goal.push_reserved-requires
 push_reserved-requires c =
     let ws = c.self.inside.words.items in
-    let n = owned-room ws c.args.a (subst (λ (xs : List PlainWord). c.args.a < length xs) (sym c.self.view_is) c.requires.within) (none-at ws c.args.a c.index.result.now c.index.ensures (subst (λ (xs : List PlainWord). c.args.a < length xs) (sym c.self.view_is) c.requires.within) c.if-is_none.ensures) in
+    let n = owned-room ws c.args.a (subst (λ (xs : List PlainWord). c.args.a < length xs) (sym c.self.view_is) c.requires.within)
+    (none-at ws c.args.a c.index.result.now c.index.ensures
+    (subst (λ (xs : List PlainWord). c.args.a < length xs) (sym c.self.view_is) c.requires.within) c.if-is_none.ensures) in
     let k = c.self.invariant.0.count in
     let r = c.self.invariant.1 in
     let l = c.self.inside.touched.ok.0 in
@@ -41,9 +43,11 @@ touched-then : (c : goal.After-self-1) → AreTouched (set c.if-is_none.self-ins
 touched-then c = elim c.if-is_none.branch [
   | then-is_none w ↦ subst (λ (i : Inside). AreTouched (set i.words.items c.args.a (set_word c)) i.touched.items) (sym w.self-inside-is)
       (subst (λ t. AreTouched (set c.self.inside.words.items c.args.a (set_word c)) t) (sym w.push_reserved.ensures.items)
-      (touched-new c.self.inside.words.items c.self.inside.touched.items c.args.a (set_word c) c.args.v c.self.invariant.0 (within c) (none-at c.self.inside.words.items c.args.a c.index.result.now c.index.ensures (within c) w.if-is_none.ensures) refl))
+      (touched-new c.self.inside.words.items c.self.inside.touched.items c.args.a (set_word c) c.args.v c.self.invariant.0 (within c)
+      (none-at c.self.inside.words.items c.args.a c.index.result.now c.index.ensures (within c) w.if-is_none.ensures) refl))
   | else-is_none w ↦ subst (λ (i : Inside). AreTouched (set i.words.items c.args.a (set_word c)) i.touched.items) (sym w.self-inside-is)
-      (touched-again c.self.inside.words.items c.self.inside.touched.items c.args.a (set_word c) c.args.v c.self.invariant.0 (within c) (some-at c.self.inside.words.items c.args.a c.index.result.now c.index.ensures (within c) w.if-is_none.ensures) refl)
+      (touched-again c.self.inside.words.items c.self.inside.touched.items c.args.a (set_word c) c.args.v c.self.invariant.0 (within c)
+      (some-at c.self.inside.words.items c.args.a c.index.result.now c.index.ensures (within c) w.if-is_none.ensures) refl)
 ]
 
 room-then : (c : goal.After-self-1) → length c.if-is_none.self-inside.words.items ≤ vec_capacity c.if-is_none.self-inside.touched
@@ -71,6 +75,7 @@ returns-clause-explained c = plain-explained (set c.if-is_none.self-inside.words
 
 pub returns-clause-good : goal.returns-clause-good
 returns-clause-good c = λ m.
-    let same = ap (λ (ys : List PlainWord). openings (set ys c.args.a (set_word c))) (same-words c) ∙ openings-set c.self.inside.words.items c.args.a c.index.result.now (set_word c) (ap (λ (w : PlainWord). w.opening) c.index.ensures) in
+    let same = ap (λ (ys : List PlainWord). openings (set ys c.args.a (set_word c))) (same-words c) ∙ openings-set c.self.inside.words.items
+    c.args.a c.index.result.now (set_word c) (ap (λ (w : PlainWord). w.opening) c.index.ensures) in
     let was = ap openings c.self.view_is in
     ((λ e. e ∙ (sym was ∙ sym same)), (λ e. e ∙ (same ∙ was)))

@@ -20,7 +20,9 @@ returns-then-is c =
     let place = ap (λ (x : Reading). x.place) (sym c.self.view_is) ∙ rows-place c.self.inside.place c.in_default.not-Title c.in_default-place.not-After c.in_default-place-2.not-Words in
     let words = c.first_word.ensures.words in
     let line = mem-line d c.first_word.result.0.now c.first_word.result.1.now (not-empty _ _ c.is_empty.ensures c.if-is_empty.false) (sym c.is-2.ensures ∙ c.if-is.true) in
-    subst (λ o. Leads c.add_word-then-is.result o c.add_word-then-is.new.self) (sym (ap (λ p. step_by p d (words_of c.args.line.now)) place ∙ (ap (step_by Rows d) words ∙ (line ∙ ap (one_word d) (sym words))))) c.add_word-then-is.ensures
+    subst (λ o. Leads c.add_word-then-is.result o c.add_word-then-is.new.self)
+    (sym (ap (λ p. step_by p d (words_of c.args.line.now)) place ∙ (ap (step_by Rows d) words ∙ (line ∙ ap (one_word d) (sym words)))))
+    c.add_word-then-is.ensures
 
 pub returns-else-is : goal.returns-else-is
 returns-else-is c =

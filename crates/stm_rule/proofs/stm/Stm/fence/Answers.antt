@@ -12,4 +12,6 @@ store_own_as-requires-clause-law g c =
     let f = c.args.self.now.config in
     let m = good_of g.K.MemRule.good f c.args.self.now.rule in
     let n = c.args.caller in
-    law_of (Invariant m f) (fence n (fence_number n c.args.from c.args.count) c.args.alg) (FindsPast m f) n (CanFence f n c.args.from c.args.count c.args.alg) c.args.seat.now.me.0.view (fences m f n c.args.from c.args.count c.args.alg) c.requires.view
+    law_of (Invariant m f) (fence n (fence_number n c.args.from c.args.count) c.args.alg) (FindsPast m f) n
+    (CanFence f n c.args.from c.args.count c.args.alg) c.args.seat.now.me.0.view (fences m f n c.args.from c.args.count c.args.alg)
+    c.requires.view

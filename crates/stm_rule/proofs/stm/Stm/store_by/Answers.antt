@@ -1,7 +1,6 @@
-use Rattle.std.proofs.Common.{ℕ, subst, ap, ◌∙◌}
+use Rattle.std.proofs.Common.{ap}
 use mathlib.Core.Option.{none}
 use Rattle.atomic_table.specs.Table.{step}
-use Rattle.rule_base.specs.Places.{offset, InRange}
 use Rattle.rule_base.specs.StepKinds.{word_after, answer_of}
 use Rattle.stm_rule.specs.Runs.CoreRuns.{core_kind}
 use Rattle.stm_rule.specs.Kinds.Allowing.{allows_at, inside}
@@ -13,11 +12,11 @@ store-requires g c =
     let z = t.table.shared.table_id in
     let r = c.requires in
     let kind = core_kind g.D.Stepping.caller g.D.Stepping.step in
-    let word : ℕ = c.place.result in
-    let here = c.place.ensures ∙ ap (λ p. offset t.config p) r.place.0 in
-    let room = subst (λ p. InRange t.config p) r.place.0 r.place.1 in (
+    let index = c.args.index in (
       r.seat.0,
-      inside t.config kind word z.words here room t.sized.0,
-      allows_at g.K.MemRule.good t.config t.rule kind g.D.Stepping.shows g.D.Stepping.caller c.args.seat.now.id c.args.seat.now.me (step z.slots word c.args.new 0 none) t.table.shared.key t.keyed z.slots word (λ _. c.args.new) (λ _. c.args.new) here room
+      inside t.config kind index z.words r.place.0 r.place.1 t.sized.0,
+      allows_at g.K.MemRule.good t.config t.rule kind g.D.Stepping.shows g.D.Stepping.caller c.args.seat.now.id c.args.seat.now.me
+          (step z.slots index c.args.new 0 none) t.table.shared.key t.keyed z.slots index (λ _. c.args.new) (λ _. c.args.new) r.place.0
+          r.place.1
           (λ x. ap (λ a. word_after a x) r.act) (λ x. ap (λ a. answer_of a x) r.act) r.seat.1 r.law,
     )

@@ -13,7 +13,11 @@ returns-in-Closed g c =
     let u = c.args.self.now in
     let s = c.requires.sound in
     let h = c.in-Closed.ensures.closes in
-    record { turned = turned-closed good stm u s c.close_gate.new.desc c.close_gate.ensures.same (TryClose Closed) Closing (rest-between u.phase c.requires.between) tt (c.requires.between, c.requires.here) (idle-now good stm u s c.requires.between).1 h refl h.grows h.made h.holds c.requires.here }
+    record {
+      turned = turned-closed good stm u s c.close_gate.new.desc c.close_gate.ensures.same (TryClose Closed) Closing
+          (rest-between u.phase c.requires.between) tt (c.requires.between, c.requires.here) (idle-now good stm u s c.requires.between).1 h refl
+          h.grows h.made h.holds c.requires.here;
+    }
 
 pub returns-in-Taken : goal.returns-in-Taken
 returns-in-Taken g c =
@@ -21,4 +25,8 @@ returns-in-Taken g c =
     let stm = c.args.stm.now in
     let u = c.args.self.now in
     let s = c.requires.sound in
-    record { turned = turned-stayed good stm u s c.close_gate.new.desc c.close_gate.ensures.same (TryClose (Taken c.in-Taken.gate)) c.requires.between (c.requires.between, c.requires.here) (idle-now good stm u s c.requires.between).1 c.in-Taken.ensures.closes refl c.in-Taken.ensures.closes.0 }
+    record {
+      turned = turned-stayed good stm u s c.close_gate.new.desc c.close_gate.ensures.same (TryClose (Taken c.in-Taken.gate))
+          c.requires.between (c.requires.between, c.requires.here) (idle-now good stm u s c.requires.between).1 c.in-Taken.ensures.closes refl
+          c.in-Taken.ensures.closes.0;
+    }

@@ -15,7 +15,10 @@ returns-in-Committed g c =
     let stm = c.args.stm.now in
     let u = c.args.self.now in
     let s = c.requires.sound in
-    record { turned = turned-committed good stm u s c.commit.new.desc c.commit.ensures.same c.in-Committed.time true c.end.new.self c.requires.inside c.requires.over c.requires.unforced c.in-Committed.ensures.commits c.end.ensures.ends }
+    record {
+      turned = turned-committed good stm u s c.commit.new.desc c.commit.ensures.same c.in-Committed.time true c.end.new.self
+          c.requires.inside c.requires.over c.requires.unforced c.in-Committed.ensures.commits c.end.ensures.ends;
+    }
 
 pub returns-in-ReadOnly : goal.returns-in-ReadOnly
 returns-in-ReadOnly g c =
@@ -23,7 +26,11 @@ returns-in-ReadOnly g c =
     let stm = c.args.stm.now in
     let u = c.args.self.now in
     let s = c.requires.sound in
-    record { turned = turned-readonly good stm u s c.commit.new.desc c.commit.ensures.same c.in-ReadOnly.time true c.end-in-ReadOnly.new.self c.requires.inside c.requires.over c.requires.unforced c.in-ReadOnly.ensures.commits c.end-in-ReadOnly.ensures.ends }
+    record {
+      turned = turned-readonly good stm u s c.commit.new.desc c.commit.ensures.same c.in-ReadOnly.time true
+          c.end-in-ReadOnly.new.self c.requires.inside c.requires.over c.requires.unforced c.in-ReadOnly.ensures.commits
+          c.end-in-ReadOnly.ensures.ends;
+    }
 
 pub returns-in-Again : goal.returns-in-Again
 returns-in-Again g c =
@@ -31,7 +38,10 @@ returns-in-Again g c =
     let stm = c.args.stm.now in
     let u = c.args.self.now in
     let s = c.requires.sound in
-    record { turned = turned-again good stm u s c.commit.new.desc c.commit.ensures.same c.in-Again.word c.in-Again.had c.in-Again.now true c.requires.inside c.requires.over c.requires.unforced c.in-Again.ensures.commits }
+    record {
+      turned = turned-again good stm u s c.commit.new.desc c.commit.ensures.same c.in-Again.word c.in-Again.had c.in-Again.now true
+          c.requires.inside c.requires.over c.requires.unforced c.in-Again.ensures.commits;
+    }
 
 pub returns-in-Conflict : goal.returns-in-Conflict
 returns-in-Conflict g c =
@@ -42,7 +52,9 @@ returns-in-Conflict g c =
     let said = Conflict c.in-Conflict.cause in
     record {
       turned = subst (Turned good stm MaySay u (TryCommit said)) (sym c.make_way.ensures)
-          (turned-quit good stm u s c.commit.new.desc c.commit.ensures.same (TryCommit said) (with_outcome u.profile outcomes.Conflict) (must_next u.must u.failed) true (failed_next u.must u.failed) (cleared u.out) c.requires.inside (c.requires.inside, c.requires.unforced, c.requires.over)
+          (turned-quit good stm u s c.commit.new.desc c.commit.ensures.same (TryCommit said) (with_outcome u.profile outcomes.Conflict)
+          (must_next u.must u.failed) true (failed_next u.must u.failed) (cleared u.out) c.requires.inside
+          (c.requires.inside, c.requires.unforced, c.requires.over)
           c.in-Conflict.ensures.commits (runs-now good stm u s c.requires.inside) refl c.in-Conflict.ensures.commits.0 refl (few-next good stm u s c.commit.new.desc c.commit.ensures.same));
     }
 

@@ -16,7 +16,9 @@ returns-in-Cancelled g c =
     let s = c.requires.sound in
     let h = c.in-Cancelled.ensures.cancels in
     subst (Turned good stm MayWind u Dropped) (sym c.give_up_as.ensures)
-    (turned-over good stm u s c.cancel.new.desc c.cancel.ensures.same MayWind Dropped (with_outcome u.profile outcomes.Cancelled) u.must u.passed u.failed (cleared u.out) (λ m. m) c.requires.inside (c.requires.inside, irrevocable-place good stm u s c.requires.inside ∙ h.3) (runs-now good stm u s c.requires.inside) (c.in-Cancelled.time, h) refl
+    (turned-over good stm u s c.cancel.new.desc c.cancel.ensures.same MayWind Dropped (with_outcome u.profile outcomes.Cancelled) u.must
+    u.passed u.failed (cleared u.out) (λ m. m) c.requires.inside (c.requires.inside, irrevocable-place good stm u s c.requires.inside ∙ h.3)
+    (runs-now good stm u s c.requires.inside) (c.in-Cancelled.time, h) refl
     h.0.ends.grows h.0.ends.idle h.0.made refl s.counted)
 
 pub returns-in-Irrevocable : goal.returns-in-Irrevocable

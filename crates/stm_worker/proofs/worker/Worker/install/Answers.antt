@@ -1,7 +1,6 @@
 use Rattle.std.proofs.Common.{inr, subst, sym}
 use Rattle.stm_trace.specs.declared.said.Said.TheVariants.{Installed}
 use Rattle.stm_trace.specs.Turns.{MaySay}
-use Rattle.tx_answers.specs.CallerState.{caller_of}
 use Rattle.stm_tx.specs.Descs.{known}
 use Rattle.stm_worker.specs.Workers.{Turned}
 use Rattle.stm_worker.proofs.StandLaws.{same-twice}
@@ -14,7 +13,12 @@ returns-in-None g c =
     let stm = c.args.stm.now in
     let u = c.args.self.now in
     let s = c.requires.sound in
-    record { turned = turned-switched good stm u s c.reopen.new.desc (same-twice u.desc c.install.new.desc c.reopen.new.desc c.install.ensures.same c.reopen.ensures.same) c.args.alg c.tail-self.result (known c.install.new.desc) c.requires.quiet c.in-None.is c.requires.to c.tail-self.ensures c.install.ensures.installs c.reopen.ensures.reopens }
+    record {
+      turned = turned-switched good stm u s c.reopen.new.desc
+          (same-twice u.desc c.install.new.desc c.reopen.new.desc c.install.ensures.same c.reopen.ensures.same) c.args.alg c.tail-self.result
+          (known c.install.new.desc) c.requires.quiet c.in-None.is c.requires.to c.tail-self.ensures c.install.ensures.installs
+          c.reopen.ensures.reopens;
+    }
 
 pub returns-in-Some : goal.returns-in-Some
 returns-in-Some g c =
@@ -23,7 +27,12 @@ returns-in-Some g c =
     let u = c.args.self.now in
     let s = c.requires.sound in
     let is = c.begin_anew.ensures in
-    record { turned = subst (Turned good stm MaySay u (Installed c.args.alg)) (sym is) (turned-besides good stm u s c.reopen.new.desc (same-twice u.desc c.install.new.desc c.reopen.new.desc c.install.ensures.same c.reopen.ensures.same) c.args.alg _ (known c.install.new.desc) c.requires.quiet c.in-Some.is c.requires.to c.install.ensures.installs c.reopen.ensures.reopens) }
+    record {
+      turned = subst (Turned good stm MaySay u (Installed c.args.alg)) (sym is)
+          (turned-besides good stm u s c.reopen.new.desc
+          (same-twice u.desc c.install.new.desc c.reopen.new.desc c.install.ensures.same c.reopen.ensures.same) c.args.alg _
+          (known c.install.new.desc) c.requires.quiet c.in-Some.is c.requires.to c.install.ensures.installs c.reopen.ensures.reopens);
+    }
 
 pub install-requires-clause-closing : goal.install-requires-clause-closing
 install-requires-clause-closing g c =

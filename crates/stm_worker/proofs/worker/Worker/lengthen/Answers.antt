@@ -9,7 +9,11 @@ returns g c =
     let u = c.args.self.now in
     let s = c.requires.sound in
     let d = c.reserve.new.desc in
-    record { turned = turned-lengthened good stm u s d c.reserve.ensures.same c.args.reads c.args.writes c.tail-self.result c.requires.between c.requires.unasked c.requires.here c.tail-self.ensures c.in_ok-reserve.ensures.reserves (outside u.desc d c.reserve.ensures.view) }
+    record {
+      turned = turned-lengthened good stm u s d c.reserve.ensures.same c.args.reads c.args.writes c.tail-self.result
+          c.requires.between c.requires.unasked c.requires.here c.tail-self.ensures c.in_ok-reserve.ensures.reserves
+          (outside u.desc d c.reserve.ensures.view);
+    }
 
 pub returns-in_err-reserve : goal.returns-in_err-reserve
 returns-in_err-reserve g c =

@@ -19,7 +19,11 @@ returns-in-Quiet g c =
     let h = c.in-Quiet.ensures.looks in
     let k = h.0.closed in
     let turning = subst (λ p. ToSwitch p u.chosen u.items_left.now) c.requires.closing s.turning in
-    record { turned = turned-closed good stm u s c.look.new.desc c.look.ensures.same (Looked Quiet) Phase.Quiet (rest-closing u.phase c.requires.closing) tt c.requires.closing (closed-now good stm u s (inl c.requires.closing)).running h refl k.grows k.made (k.holds, h.1) turning }
+    record {
+      turned = turned-closed good stm u s c.look.new.desc c.look.ensures.same (Looked Quiet) Phase.Quiet
+          (rest-closing u.phase c.requires.closing) tt c.requires.closing (closed-now good stm u s (inl c.requires.closing)).running h refl
+          k.grows k.made (k.holds, h.1) turning;
+    }
 
 pub returns-in-Busy : goal.returns-in-Busy
 returns-in-Busy g c =
@@ -30,4 +34,8 @@ returns-in-Busy g c =
     let h = c.in-Busy.ensures.looks in
     let k = h.0.closed in
     let r = rest-closing u.phase c.requires.closing in
-    record { turned = turned-closed good stm u s c.look.new.desc c.look.ensures.same (Looked (Busy c.in-Busy.caller c.in-Busy.status)) u.phase r r c.requires.closing (closed-now good stm u s (inl c.requires.closing)).running h refl k.grows k.made (subst (λ p. IsAt good stm.config (caller_of u.desc.who.role) p (known c.look.new.desc)) (sym c.requires.closing) k.holds) s.turning }
+    record {
+      turned = turned-closed good stm u s c.look.new.desc c.look.ensures.same (Looked (Busy c.in-Busy.caller c.in-Busy.status))
+          u.phase r r c.requires.closing (closed-now good stm u s (inl c.requires.closing)).running h refl k.grows k.made
+          (subst (λ p. IsAt good stm.config (caller_of u.desc.who.role) p (known c.look.new.desc)) (sym c.requires.closing) k.holds) s.turning;
+    }

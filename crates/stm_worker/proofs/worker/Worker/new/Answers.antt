@@ -12,7 +12,9 @@ returns g c =
     record {
       is_desc = refl;
       all = refl;
-      at = start-at (caller_of c.args.desc.who.role) c.args.items.now c.args.alg c.args.policy (known c.args.desc).reads_limit (known c.args.desc).writes_limit room.profile room.out room.rows.items empty is.none is.noted;
+      at =
+          start-at (caller_of c.args.desc.who.role) c.args.items.now c.args.alg c.args.policy (known c.args.desc).reads_limit
+          (known c.args.desc).writes_limit room.profile room.out room.rows.items empty is.none is.noted;
       over = refl;
       roomy = record {
         spare = ap (λ o. room.spare.items ++ o ∷ []) (sym empty) ∙ is.spare;

@@ -25,11 +25,15 @@ use Rattle.tx_answers.specs.CallerStateLaws.{grows-trans}
 use Rattle.stm_worker.proofs.worker.Worker.try_irrevocable.Goals as goal
 
 -- it may be asked for: because it must, or by the operation
-may : {K : Type 0} → (u : Worker K) (forced : Bool) (r : Rattle.tx_answers.specs.declared.answers.Irrev.Irrev) → u.phase ≡ Rattle.stm_trace.specs.declared.said.Phase.TheVariants.Inside → forced ≡ is_forced (place_of u) → (forced ≡ false → Next Irrev u.operations_left.now) → MaySay (place_of u) (TryIrrevocable r)
+may : {K : Type 0} → (u : Worker K) (forced : Bool) (r : Rattle.tx_answers.specs.declared.answers.Irrev.Irrev)
+    → u.phase ≡ Rattle.stm_trace.specs.declared.said.Phase.TheVariants.Inside → forced ≡ is_forced (place_of u)
+    → (forced ≡ false → Next Irrev u.operations_left.now) → MaySay (place_of u) (TryIrrevocable r)
 may u true r inside is next = inl (inside, sym is)
 may u false r inside is next = inr (inside, sym is, next refl)
 
-granted : {K : Type 0} → (good : _) (stm : Stm K) (u : Worker K) → Sound good stm u → (d : _) → IsSameCaller u.desc d → (forced : Bool) (w : Worker K) → u.phase ≡ Rattle.stm_trace.specs.declared.said.Phase.TheVariants.Inside → forced ≡ is_forced (place_of u) → (forced ≡ false → Next Irrev u.operations_left.now)
+granted : {K : Type 0} → (good : _) (stm : Stm K) (u : Worker K) → Sound good stm u → (d : _) → IsSameCaller u.desc d
+    → (forced : Bool) (w : Worker K) → u.phase ≡ Rattle.stm_trace.specs.declared.said.Phase.TheVariants.Inside
+    → forced ≡ is_forced (place_of u) → (forced ≡ false → Next Irrev u.operations_left.now)
     → answers.TriesIrrevocable good stm.config (caller_of u.desc.who.role) (known u.desc) (known d) → MatchBool forced (w ≡ record (record u { desc = d }) { granted = true }) (DoneIrrev (record u { desc = d }) w)
     → Turned good stm MaySay u (TryIrrevocable irrevs.Granted) w
 granted good stm u s d same true w inside is next h e = subst (Turned good stm MaySay u (TryIrrevocable irrevs.Granted)) (sym e) (turned-forced good stm u s d same inside (sym is) h)
@@ -42,7 +46,10 @@ returns-in-Granted g c =
     let stm = c.args.stm.now in
     let u = c.args.self.now in
     let s = c.requires.sound in
-    record { turned = granted good stm u s c.try_irrevocable.new.desc c.try_irrevocable.ensures.same c.args.forced c.take_grant.new.self c.requires.inside c.requires.forced c.requires.asked c.in-Granted.ensures.irrevs c.take_grant.ensures }
+    record {
+      turned = granted good stm u s c.try_irrevocable.new.desc c.try_irrevocable.ensures.same c.args.forced c.take_grant.new.self
+          c.requires.inside c.requires.forced c.requires.asked c.in-Granted.ensures.irrevs c.take_grant.ensures;
+    }
 
 pub returns-in-Busy : goal.returns-in-Busy
 returns-in-Busy g c =
@@ -50,7 +57,12 @@ returns-in-Busy g c =
     let stm = c.args.stm.now in
     let u = c.args.self.now in
     let s = c.requires.sound in
-    record { turned = turned-busy good stm u s c.try_irrevocable.new.desc c.try_irrevocable.ensures.same c.in-Busy.caller c.in-Busy.status c.requires.inside (may u c.args.forced (irrevs.Busy c.in-Busy.caller c.in-Busy.status) c.requires.inside c.requires.forced c.requires.asked) c.in-Busy.ensures.irrevs }
+    record {
+      turned = turned-busy good stm u s c.try_irrevocable.new.desc c.try_irrevocable.ensures.same c.in-Busy.caller c.in-Busy.status
+          c.requires.inside
+          (may u c.args.forced (irrevs.Busy c.in-Busy.caller c.in-Busy.status) c.requires.inside c.requires.forced c.requires.asked)
+          c.in-Busy.ensures.irrevs;
+    }
 
 pub returns-in-Conflict : goal.returns-in-Conflict
 returns-in-Conflict g c =
@@ -61,7 +73,9 @@ returns-in-Conflict g c =
     let said = irrevs.Conflict c.in-Conflict.cause in
     record {
       turned = subst (Turned good stm MaySay u (TryIrrevocable said)) (sym c.make_way-in-Conflict.ensures)
-          (turned-quit good stm u s c.try_irrevocable.new.desc c.try_irrevocable.ensures.same (TryIrrevocable said) (with_outcome u.profile outcomes.Conflict) (must_next u.must u.failed) u.passed (failed_next u.must u.failed) (cleared u.out) c.requires.inside (may u c.args.forced said c.requires.inside c.requires.forced c.requires.asked)
+          (turned-quit good stm u s c.try_irrevocable.new.desc c.try_irrevocable.ensures.same (TryIrrevocable said)
+          (with_outcome u.profile outcomes.Conflict) (must_next u.must u.failed) u.passed (failed_next u.must u.failed) (cleared u.out)
+          c.requires.inside (may u c.args.forced said c.requires.inside c.requires.forced c.requires.asked)
           c.in-Conflict.ensures.irrevs (runs-now good stm u s c.requires.inside) refl c.in-Conflict.ensures.irrevs.0 refl (few-next good stm u s c.try_irrevocable.new.desc c.try_irrevocable.ensures.same));
     }
 
@@ -74,7 +88,9 @@ returns-in-ClockFull g c =
     let said = irrevs.ClockFull c.in-ClockFull.clock in
     record {
       turned = subst (Turned good stm MaySay u (TryIrrevocable said)) (sym c.give_up.ensures)
-          (turned-quit good stm u s c.try_irrevocable.new.desc c.try_irrevocable.ensures.same (TryIrrevocable said) u.profile u.must u.passed u.failed (cleared u.out) c.requires.inside (may u c.args.forced said c.requires.inside c.requires.forced c.requires.asked)
+          (turned-quit good stm u s c.try_irrevocable.new.desc c.try_irrevocable.ensures.same (TryIrrevocable said) u.profile u.must
+          u.passed u.failed (cleared u.out) c.requires.inside
+          (may u c.args.forced said c.requires.inside c.requires.forced c.requires.asked)
           c.in-ClockFull.ensures.irrevs (runs-now good stm u s c.requires.inside) refl c.in-ClockFull.ensures.irrevs.0 refl s.counted);
     }
 
@@ -101,12 +117,16 @@ returns-in-Taken g c =
     let same = same-twice u.desc c.try_irrevocable.new.desc c.cancel.new.desc c.try_irrevocable.ensures.same c.cancel.ensures.same in
     record {
       turned = subst (Turned good stm MaySay u (TryIrrevocable said)) (sym c.make_way.ensures)
-          (turned-over good stm u s c.cancel.new.desc same MaySay (TryIrrevocable said) (with_outcome u.profile outcomes.Cancelled) (must_next u.must u.failed) u.passed (failed_next u.must u.failed) (cleared u.out) (λ m. m) c.requires.inside (may u c.args.forced said c.requires.inside c.requires.forced c.requires.asked)
+          (turned-over good stm u s c.cancel.new.desc same MaySay (TryIrrevocable said) (with_outcome u.profile outcomes.Cancelled)
+          (must_next u.must u.failed) u.passed (failed_next u.must u.failed) (cleared u.out) (λ m. m) c.requires.inside
+          (may u c.args.forced said c.requires.inside c.requires.forced c.requires.asked)
           (runs-now good stm u s c.requires.inside) (x, h, q) refl (grows-trans (known u.desc) x (known c.cancel.new.desc) w.continues.grows e.ends.grows) e.ends.idle (e.made ∙ w.continues.made) refl
           (few-next good stm u s c.cancel.new.desc same));
     }
 
-running-now : {K : Type 0} → (good : _) (stm : Stm K) (u : Worker K) → Sound good stm u → (forced : Bool) → u.phase ≡ Rattle.stm_trace.specs.declared.said.Phase.TheVariants.Inside → forced ≡ is_forced (place_of u) → (forced ≡ false → Next Irrev u.operations_left.now) → IsRunning (known u.desc)
+running-now : {K : Type 0} → (good : _) (stm : Stm K) (u : Worker K) → Sound good stm u → (forced : Bool)
+    → u.phase ≡ Rattle.stm_trace.specs.declared.said.Phase.TheVariants.Inside → forced ≡ is_forced (place_of u)
+    → (forced ≡ false → Next Irrev u.operations_left.now) → IsRunning (known u.desc)
 running-now good stm u s true inside is next = runs-forced good stm u s inside (sym is)
 running-now good stm u s false inside is next = runs-free good stm u s inside Irrev (next refl)
 

@@ -13,8 +13,11 @@ overflow_add-handed g c =
 pub returns-clause-postcondition : goal.returns-clause-postcondition
 returns-clause-postcondition g c =
     let client = c.args.self.now.client in let found = c.in_ok-found in let given = c.granted-given.result in
-    does-write (IsFair c.args.limiter.now) _ _ c.requires.good _ c.requires.fresh ((16 + client, found.found) ∷ (client, found.handed) ∷ (32, found.counted) ∷ []) _ found.ensures.read (wished_in c.args.limiter.now c.args.self.now) given
-    (16 + client, found.found + c.min.result - given) ((client, found.handed + given) ∷ (32, found.counted + given) ∷ []) _ c.in_ok-write_three.ensures.wrote (λ m s ex. rw (ex.0, ex.1.0, ex.1.1.0, c.granted-given.ensures.is, c.min.ensures) refl)
+    does-write (IsFair c.args.limiter.now) _ _ c.requires.good _ c.requires.fresh
+    ((16 + client, found.found) ∷ (client, found.handed) ∷ (32, found.counted) ∷ []) _ found.ensures.read
+    (wished_in c.args.limiter.now c.args.self.now) given
+    (16 + client, found.found + c.min.result - given) ((client, found.handed + given) ∷ (32, found.counted + given) ∷ []) _
+    c.in_ok-write_three.ensures.wrote (λ m s ex. rw (ex.0, ex.1.0, ex.1.1.0, c.granted-given.ensures.is, c.min.ensures) refl)
 
 pub returns-clause-kept : goal.returns-clause-kept
 returns-clause-kept g c =

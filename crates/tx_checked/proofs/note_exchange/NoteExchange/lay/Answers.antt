@@ -17,5 +17,9 @@ store-requires c =
     let known : seat.me.0 ≡ shared.key = ap (λ (m : Hand). m.0) told.3 ∙ was.key in
     let even = c.args.self.now.sized in
     let low = c.if-place-word_count.false in
-    let count = c.word_count.ensures in
-    (told.0 ∙ was.table, omega arith, shut shared.key shared.table_id.slots seat.id c.args.place c.letter_to.result seat.me (Some c.args.note) out (subst (λ (k : Handle AnyMem). IsOfSameMemory k c.args.note) (sym known) c.requires) (omega arith))
+    let count = c.word_count.ensures in (
+      told.0 ∙ was.table,
+      omega arith,
+      shut shared.key shared.table_id.slots seat.id c.args.place c.letter_to.result seat.me (Some c.args.note) out
+          (subst (λ (k : Handle AnyMem). IsOfSameMemory k c.args.note) (sym known) c.requires) (omega arith),
+    )

@@ -31,7 +31,9 @@ returns-then-tag-eq0-clause-frees g c =
     let s = c.loop-cell-test.true in
     let pos : 0 < r.count - j = omega arith in
     let z = c.if-tag-eq0.true in
-    shows-read (g.A.Access.good c.args.acc.now) (g.A.Access.words c.args.acc.now) (g.A.Access.log c.args.acc.now) _ _ (λ m. free_from (tag r m) 0 r.count ≡ free_from (tag r m) j (r.count - j)) (λ m. Some j ≡ free_from (tag r m) 0 r.count) (tag_at r j) c.in_ok-tag.tag inv.shows inv.writes
+    shows-read (g.A.Access.good c.args.acc.now) (g.A.Access.words c.args.acc.now) (g.A.Access.log c.args.acc.now) _ _
+    (λ m. free_from (tag r m) 0 r.count ≡ free_from (tag r m) j (r.count - j)) (λ m. Some j ≡ free_from (tag r m) 0 r.count) (tag_at r j)
+    c.in_ok-tag.tag inv.shows inv.writes
     (tag-inside r _ j w s) c.in_ok-tag.ensures.value (λ m h x. sym (h ∙ free-here (tag r m) j (r.count - j) pos (sym x ∙ z)))
 
 pub loop-cell-preserved : goal.loop-cell-preserved

@@ -10,4 +10,5 @@ returns c =
     let bs = c.self.inside.index.items in
     let i = c.self.invariant in
     let found = rw (c.deref-2.ensures.value, c.deref.ensures.value) at c.look_up.ensures in
-    subst (λ (l : LogState). IsPlace (2 * l.len) l.items c.args.a c.look_up.result.at) c.self.view_is (rw (← i.1) (place-of c.self.inside.generation xs bs c.args.a c.look_up.result i.0 (omega (arith, i.1, i.2, i.3)) found))
+    subst (λ (l : LogState). IsPlace (2 * l.len) l.items c.args.a c.look_up.result.at) c.self.view_is
+    (rw (← i.1) (place-of c.self.inside.generation xs bs c.args.a c.look_up.result i.0 (omega (arith, i.1, i.2, i.3)) found))

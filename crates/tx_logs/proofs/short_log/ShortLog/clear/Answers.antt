@@ -21,4 +21,13 @@ invariant_of-self-else-self c =
     let short = c.min-self-inside.result in
     let most : short ≤ 8 = search rules in
     let within : short ≤ c.self.inside.len = search rules in
-    rw c.clear.ensures.items (kept-empty short 0 (c.self.inside.generation + 1) c.self.inside.index.items most (kept-raised _ _ _ _ _ i.0), within, i.2, omega arith, i.4, i.5, omega arith, rw c.clear.ensures.capacity i.7)
+    rw c.clear.ensures.items (
+      kept-empty short 0 (c.self.inside.generation + 1) c.self.inside.index.items most (kept-raised _ _ _ _ _ i.0),
+      within,
+      i.2,
+      omega arith,
+      i.4,
+      i.5,
+      omega arith,
+      rw c.clear.ensures.capacity i.7,
+    )

@@ -18,7 +18,17 @@ invariant_of-self c =
     let last = c.count-last.result - 1 in
     let next : last + 1 ≡ length xs = omega arith in
     let size : length (take last xs) ≡ last = length-take-le last xs (omega arith) in
-    rw c.truncate.ensures.items (kept-less c.self.inside.short c.self.inside.seen c.self.inside.generation last xs c.self.inside.index.items c.if-self-ne0.true next i.0, i.1, i.2, omega (arith, size, i.3), i.4, i.5, i.6, rw c.truncate.ensures.capacity i.7)
+    rw c.truncate.ensures.items (
+      kept-less c.self.inside.short c.self.inside.seen c.self.inside.generation last xs c.self.inside.index.items c.if-self-ne0.true next
+          i.0,
+      i.1,
+      i.2,
+      omega (arith, size, i.3),
+      i.4,
+      i.5,
+      i.6,
+      rw c.truncate.ensures.capacity i.7,
+    )
 
 pub invariant_of-self-2 : goal.invariant_of-self-2
 invariant_of-self-2 c =
@@ -37,4 +47,14 @@ invariant_of-self-2 c =
     let less : IsIndex Mixed g (take last xs) (slice_set bs c.look_up-found.result.at (record { mark = 0; item = 0 })) =
     index-popped g xs bs c.item-a.result.0 last c.look_up-found.result (i.0.indexed c.if-self-ne0.false) (omega (arith, i.6)) next found here in
     let size : length (take last xs) ≡ last = length-take-le last xs (omega arith) in
-    rw c.truncate-2.ensures.items (kept-less-indexed c.self.inside.short c.self.inside.seen g last xs (slice_set bs c.look_up-found.result.at (record { mark = 0; item = 0 })) c.if-self-ne0.false next i.0.front i.0.most less, i.1, length-set bs c.look_up-found.result.at (record { mark = 0; item = 0 }) ∙ i.2, omega (arith, size, i.3), i.4, i.5, i.6, rw c.truncate-2.ensures.capacity i.7)
+    rw c.truncate-2.ensures.items (
+      kept-less-indexed c.self.inside.short c.self.inside.seen g last xs
+          (slice_set bs c.look_up-found.result.at (record { mark = 0; item = 0 })) c.if-self-ne0.false next i.0.front i.0.most less,
+      i.1,
+      length-set bs c.look_up-found.result.at (record { mark = 0; item = 0 }) ∙ i.2,
+      omega (arith, size, i.3),
+      i.4,
+      i.5,
+      i.6,
+      rw c.truncate-2.ensures.capacity i.7,
+    )

@@ -12,8 +12,16 @@ invariant_of-self c =
     let xs = c.self.inside.items.items in
     let new : item_at c.args.a xs ≡ None = ap (λ (l : LogState). item_at c.args.a l.items) c.self.view_is ∙ c.requires in
     let low : length xs < c.self.inside.short = omega (arith, c.if-len-self.false, c.len.ensures, c.self.inside.items.ok.0) in
-    rw (c.push_reserved.ensures.items, c.push_reserved.ensures.capacity, c.bit_of.ensures)
-    (kept-more c.self.inside.short c.self.inside.seen c.self.inside.generation c.args.a c.args.v xs c.self.inside.index.items low new i.0, i.1, i.2, omega (arith, length-append xs ((c.args.a, c.args.v) ∷ []), i.1), i.4, i.5, i.6, i.7)
+    rw (c.push_reserved.ensures.items, c.push_reserved.ensures.capacity, c.bit_of.ensures) (
+      kept-more c.self.inside.short c.self.inside.seen c.self.inside.generation c.args.a c.args.v xs c.self.inside.index.items low new i.0,
+      i.1,
+      i.2,
+      omega (arith, length-append xs ((c.args.a, c.args.v) ∷ []), i.1),
+      i.4,
+      i.5,
+      i.6,
+      i.7,
+    )
 
 pub returns : goal.returns
 returns c =

@@ -27,7 +27,9 @@ invariant_of-self-2 c =
     let some : 1 < d = (let v = ap (λ (l : LogState). length l.marks) c.self.view_is in let r = c.requires in let f = c.if-self-eq1.false in omega arith) in
     let most : d ≤ length ms = omega (arith, i.0, i.1) in
     let n = merged (get_or ms (d - 1 - 1) blank_mark) (get_or ms (d - 1) blank_mark) in
-    let after : c.merge.new.marks ≡ set ms (d - 1 - 1) n = c.merge.ensures ∙ ap (λ (ks : List Mark). set ks (d - 1 - 1) (merged (get_or ks (d - 1 - 1) blank_mark) (get_or ks (d - 1) blank_mark))) c.deref_mut.ensures.value in
+    let after : c.merge.new.marks ≡ set ms (d - 1 - 1) n = c.merge.ensures ∙ ap
+    (λ (ks : List Mark). set ks (d - 1 - 1) (merged (get_or ks (d - 1 - 1) blank_mark) (get_or ks (d - 1) blank_mark)))
+    c.deref_mut.ensures.value in
     let long : length c.merge.new.marks ≡ length ms = ap length after ∙ length-set ms (d - 1 - 1) n in
     let whole : take c.self.inside.marks.len (c.merge.new.marks ++ drop (length c.merge.new.marks) ms) ≡ set ms (d - 1 - 1) n =
     written-over {X = Mark} c.merge.new.marks ms c.self.inside.marks.len long (sym c.deref_mut.ensures.len ∙ (ap length c.deref_mut.ensures.value ∙ sym long)) ∙ after in
@@ -44,7 +46,9 @@ returns c =
     let some : 1 < d = (let v = ap (λ (l : LogState). length l.marks) c.self.view_is in let r = c.requires in let f = c.if-self-eq1.false in omega arith) in
     let most : d ≤ length ms = omega (arith, i.0, i.1) in
     let n = merged (get_or ms (d - 1 - 1) blank_mark) (get_or ms (d - 1) blank_mark) in
-    let after : c.merge.new.marks ≡ set ms (d - 1 - 1) n = c.merge.ensures ∙ ap (λ (ks : List Mark). set ks (d - 1 - 1) (merged (get_or ks (d - 1 - 1) blank_mark) (get_or ks (d - 1) blank_mark))) c.deref_mut.ensures.value in
+    let after : c.merge.new.marks ≡ set ms (d - 1 - 1) n = c.merge.ensures ∙ ap
+    (λ (ks : List Mark). set ks (d - 1 - 1) (merged (get_or ks (d - 1 - 1) blank_mark) (get_or ks (d - 1) blank_mark)))
+    c.deref_mut.ensures.value in
     let long : length c.merge.new.marks ≡ length ms = ap length after ∙ length-set ms (d - 1 - 1) n in
     let whole : take c.self.inside.marks.len (c.merge.new.marks ++ drop (length c.merge.new.marks) ms) ≡ set ms (d - 1 - 1) n =
     written-over {X = Mark} c.merge.new.marks ms c.self.inside.marks.len long (sym c.deref_mut.ensures.len ∙ (ap length c.deref_mut.ensures.value ∙ sym long)) ∙ after in

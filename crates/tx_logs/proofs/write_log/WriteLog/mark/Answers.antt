@@ -30,5 +30,7 @@ returns c =
     let g = c.self.inside.log in
     let n = c.begin.new.mark in
     let low : d < length ms = (let s = length-marks ms d g.items (omega (arith, i.0, i.1)) in let v = ap (λ (l : LogState). length l.marks) c.self.view_is in let r = c.requires in omega (arith, i.0)) in
-    ap (λ (ks : List (List (ℕ × ℕ))). let l : LogState = record g { marks = ks } in l) (mark-tied ms d n g.items low (ap (λ (m : Mark). m.count) c.begin.ensures ∙ c.count-count.ensures.count) (ap (λ (m : Mark). m.olds.items) c.begin.ensures) i.3).1
+    ap (λ (ks : List (List (ℕ × ℕ))). let l : LogState = record g { marks = ks } in l)
+    (mark-tied ms d n g.items low (ap (λ (m : Mark). m.count) c.begin.ensures ∙ c.count-count.ensures.count)
+    (ap (λ (m : Mark). m.olds.items) c.begin.ensures) i.3).1
     ∙ ap (λ (l : LogState). let k : LogState = record l { marks = l.marks ++ l.items ∷ [] } in k) c.self.view_is

@@ -60,4 +60,7 @@ returns-clause-prefix c =
     let most : d ≤ length ms = omega (arith, i.0, i.1) in
     let old : c.index_mut.result.now ≡ get_or ms (d - 1) blank_mark = c.index_mut.ensures.value ∙ get_or_default ms (d - 1) c.index_mut.result.now blank_mark (omega arith) in
     let items : c.restore.new.log.items ≡ at_mark (get_or ms (d - 1) blank_mark) g.items = ap (λ (l : LogState). l.items) c.restore.ensures.log ∙ ap (λ (m : Mark). at_mark m g.items) old in
-    ap firsts items ∙ (at-prefix (get_or ms (d - 1) blank_mark) g.items (top-tied ms d g.items some most i.3).0.count ∙ ((λ j. take (length (sym items j)) (firsts g.items)) ∙ ap (λ (l : LogState). take (length c.restore.new.log.items) (firsts l.items)) c.self.view_is))
+    ap firsts items
+    ∙ (at-prefix (get_or ms (d - 1) blank_mark) g.items (top-tied ms d g.items some most i.3).0.count
+    ∙ ((λ j. take (length (sym items j)) (firsts g.items))
+    ∙ ap (λ (l : LogState). take (length c.restore.new.log.items) (firsts l.items)) c.self.view_is))

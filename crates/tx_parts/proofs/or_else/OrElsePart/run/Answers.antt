@@ -32,7 +32,8 @@ returns-clause-postcondition g c =
       gave,
       (more.0, more.1 ∙ ap (λ (l : Log). l.reads ++ more.0) c.mark.ensures.log),
       (last.0, last.1 ∙ ap (λ (rs : List (ℕ × ℕ)). rs ++ last.0) c.roll_back.ensures.reads),
-      subst (λ (l : Log). g.Q.Part.postcondition c.args.self.now.second c.args.rule.now (g.N.Access.words z0) o l (log z4)) from (subst (λ (w : ℕ). g.Q.Part.postcondition c.args.self.now.second c.args.rule.now w o (log z3) (log z4)) words t),
+      subst (λ (l : Log). g.Q.Part.postcondition c.args.self.now.second c.args.rule.now (g.N.Access.words z0) o l (log z4)) from
+          (subst (λ (w : ℕ). g.Q.Part.postcondition c.args.self.now.second c.args.rule.now w o (log z3) (log z4)) words t),
     ))
 
 pub run-requires-2-clause-sound : goal.run-requires-2-clause-sound

@@ -1,7 +1,7 @@
 use Rattle.std.proofs.Common.{ℕ, ◌≡◌, ◌<◌, sym, subst}
 use Rattle.std.specs.Prelude.{None}
 use Rattle.stm_model.specs.Logs.{IsExplained}
-use Rattle.tx_parts.specs.Laying.{Top}
+use Rattle.tx_parts.specs.Laying.{Top, IsFilled}
 use Rattle.tx_parts.proofs.RoomLaws.{overflows-short}
 use Rattle.tx_parts.proofs.overlay.Overlay.no_room.Goals as goal
 
@@ -11,7 +11,12 @@ returns-then-self-clause-some g c =
     let s = c.self.inside in
     let i = c.self.invariant in
     let e = c.if-self.true in
-    let less = overflows-short (a.words s.below) s.room.len s.room.items i.within c.count-count.ensures.once (i.full e) in
-    let came : (a.stopped s.below ≡ None) × (c.len.result ≡ s.room.len) × (c.len.result < a.words s.below) × IsExplained (a.good s.below) (a.words s.below) (a.log s.below) =
-    ((i.goes e).0, c.len.ensures, subst (λ (n : ℕ). n < a.words s.below) (sym c.len.ensures) less, i.knew e) in
-    subst (λ (t : Top g.row.A.Denot). (a.stopped t.below ≡ None) × (c.len.result ≡ t.room.len) × (c.len.result < a.words t.below) × IsExplained (a.good t.below) (a.words t.below) (a.log t.below)) c.self.view_is came
+    let less = overflows-short (a.words s.below) s.room.now.len s.room.now.items i.within c.count-count.ensures.once (i.full e) in
+    let came : (c.len.result ≡ s.room.now.len) × (c.len.result < a.words s.below) × IsExplained (a.good s.below) (a.words s.below) (a.log s.below) × IsFilled (a.words s.below) s.room.now =
+    (c.len.ensures, subst (λ (n : ℕ). n < a.words s.below) (sym c.len.ensures) less, i.knew e, (i.full e, c.count-count.ensures.once, i.within)) in
+    subst (λ (t : Top g.row.A.Denot).
+    (c.len.result ≡ t.room.len) × (c.len.result < a.words t.below) × IsExplained (a.good t.below) (a.words t.below) (a.log t.below)
+    × IsFilled (a.words t.below) t.room) c.self.view_is came
+
+pub returns-then-self-clause-goes : goal.returns-then-self-clause-goes
+returns-then-self-clause-goes g c = subst (λ (t : Top g.row.A.Denot). g.A.Access.stopped t.below ≡ None) c.self.view_is (c.self.invariant.goes c.if-self.true).0

@@ -1,6 +1,6 @@
 use Rattle.std.proofs.Common.{ℕ, ◌≡◌, refl, sym, ap, ◌∙◌, subst}
 use Rattle.std.specs.Prelude.{Some, None}
-use Rattle.tx_logs.specs.LogStates.{LogState, firsts}
+use Rattle.tx_logs.specs.LogStates.{firsts}
 use Rattle.tx_parts.specs.Laying.{Top, Within}
 use Rattle.tx_parts.specs.LayingLaws.{no-stop, not-crowded}
 use Rattle.tx_parts.proofs.overlay.Overlay.settle.Goals as goal
@@ -9,15 +9,14 @@ pub invariant_of-self : goal.invariant_of-self
 invariant_of-self g c =
     let a = g.A.Access in
     let s = c.self.inside in
-    let b = c.write_through.new.memory in
     let going : s.stopped ≡ None = ap (λ (t : Top g.row.A.Denot). t.stopped) c.self.view_is ∙ c.requires.going in
     record {
       passes = λ e. c.in-Ok.ensures.goes ∙ sym going;
-      goes = λ e. not-crowded s.room.len s.stopped (c.self.invariant.goes e).1 going;
-      full = λ e. not-crowded s.room.len s.stopped (c.self.invariant.goes e).1 going;
-      knew = λ e. not-crowded s.room.len s.stopped (c.self.invariant.goes e).1 going;
+      goes = λ e. not-crowded s.room.now.len s.stopped (c.self.invariant.goes e).1 going;
+      full = λ e. not-crowded s.room.now.len s.stopped (c.self.invariant.goes e).1 going;
+      knew = λ e. not-crowded s.room.now.len s.stopped (c.self.invariant.goes e).1 going;
       seen = λ e. c.in-Ok.ensures.explained;
-      within = subst (λ (l : LogState). Within (a.words b) (firsts l.items)) (sym c.clear.ensures) tt;
+      within = subst (λ (n : ℕ). Within n (firsts s.room.now.items)) (sym c.write_through.ensures.words) c.self.invariant.within;
     }
 
 pub invariant_of-self-in-Err : goal.invariant_of-self-in-Err
@@ -27,9 +26,9 @@ invariant_of-self-in-Err g c =
     let going : s.stopped ≡ None = ap (λ (t : Top g.row.A.Denot). t.stopped) c.self.view_is ∙ c.requires.going in
     record {
       passes = λ e. c.in-Err.ensures.stops;
-      goes = λ e. not-crowded s.room.len s.stopped (c.self.invariant.goes e).1 going;
-      full = λ e. not-crowded s.room.len s.stopped (c.self.invariant.goes e).1 going;
-      knew = λ e. not-crowded s.room.len s.stopped (c.self.invariant.goes e).1 going;
+      goes = λ e. not-crowded s.room.now.len s.stopped (c.self.invariant.goes e).1 going;
+      full = λ e. not-crowded s.room.now.len s.stopped (c.self.invariant.goes e).1 going;
+      knew = λ e. not-crowded s.room.now.len s.stopped (c.self.invariant.goes e).1 going;
       seen = λ e. absurd (no-stop (Some c.in-Err.stop) c.in-Err.stop refl e);
-      within = subst (λ (n : ℕ). Within n (firsts s.room.items)) (sym c.write_through.ensures.words) c.self.invariant.within;
+      within = subst (λ (n : ℕ). Within n (firsts s.room.now.items)) (sym c.write_through.ensures.words) c.self.invariant.within;
     }

@@ -11,8 +11,9 @@ returns-in-Some-clause-value g c =
     let log = g.A.Access.log in
     let s = c.self.inside in
     let v = c.in-Some.v in
-    let found : item_at c.args.a s.room.items ≡ Some v = search rules in
-    subst (λ (t : Top g.row.A.Denot). Reads (over t.room.items (log t.below)) c.args.a v (over t.room.items (log t.below))) c.self.view_is (reads-top s.room.items (log s.below) c.args.a v c.count-count.ensures.once found)
+    let found : item_at c.args.a s.room.now.items ≡ Some v = search rules in
+    subst (λ (t : Top g.row.A.Denot). Reads (over t.room.items (log t.below)) c.args.a v (over t.room.items (log t.below))) c.self.view_is
+    (reads-top s.room.now.items (log s.below) c.args.a v c.count-count.ensures.once found)
 
 pub returns-in-Ok-clause-value : goal.returns-in-Ok-clause-value
 returns-in-Ok-clause-value g c =
@@ -20,5 +21,6 @@ returns-in-Ok-clause-value g c =
     let s = c.self.inside in
     let v = c.in-Ok.v in
     let k = log c.read.new.self in
-    let absent : item_at c.args.a s.room.items ≡ None = search rules in
-    subst (λ (t : Top g.row.A.Denot). Reads (over t.room.items (log t.below)) c.args.a v (over s.room.items k)) c.self.view_is (reads-below s.room.items (log s.below) k c.args.a v c.count-count.ensures.once absent c.in-Ok.ensures.value)
+    let absent : item_at c.args.a s.room.now.items ≡ None = search rules in
+    subst (λ (t : Top g.row.A.Denot). Reads (over t.room.items (log t.below)) c.args.a v (over s.room.now.items k)) c.self.view_is
+    (reads-below s.room.now.items (log s.below) k c.args.a v c.count-count.ensures.once absent c.in-Ok.ensures.value)

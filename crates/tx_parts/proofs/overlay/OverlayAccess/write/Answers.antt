@@ -17,10 +17,10 @@ invariant_of-self g c =
     record {
       passes = i.passes;
       goes = λ e. ((i.goes e).0, subst (λ (n : ℕ). IsFull n s.stopped) (sym (ap (λ (l : LogState). l.len) is)) (i.goes e).1);
-      full = λ e. not-crowded s.room.len s.stopped (i.goes e).1 going;
+      full = λ e. not-crowded s.room.now.len s.stopped (i.goes e).1 going;
       knew = i.knew;
       seen = i.seen;
-      within = subst (λ (l : LogState). Within words (firsts l.items)) (sym is) (within-put words c.args.a c.args.v s.room.items low i.within);
+      within = subst (λ (l : LogState). Within words (firsts l.items)) (sym is) (within-put words c.args.a c.args.v s.room.now.items low i.within);
     }
 
 pub invariant_of-self-in-Full : goal.invariant_of-self-in-Full
@@ -46,4 +46,5 @@ returns-in-Done-clause-value g c =
     let log = g.A.Access.log in
     let s = c.self.inside in
     subst (λ (t : Top g.row.A.Denot). Writes (over t.room.items (log t.below)) c.args.a c.args.v (over c.push.new.self.items (log s.below))) c.self.view_is
-    (subst (λ (l : LogState). Writes (over s.room.items (log s.below)) c.args.a c.args.v (over l.items (log s.below))) (sym c.in-Done.ensures.1) (writes-top s.room.items (log s.below) c.args.a c.args.v c.count-count.ensures.once))
+    (subst (λ (l : LogState). Writes (over s.room.now.items (log s.below)) c.args.a c.args.v (over l.items (log s.below)))
+    (sym c.in-Done.ensures.1) (writes-top s.room.now.items (log s.below) c.args.a c.args.v c.count-count.ensures.once))

@@ -17,8 +17,8 @@ invariant_of-self g c =
     record {
       passes = i.passes;
       goes = λ e. ((i.goes e).0, subst (λ (n : ℕ). IsFull n s.stopped) (sym len) (i.goes e).1);
-      full = λ e. not-crowded s.room.len s.stopped (i.goes e).1 going;
+      full = λ e. not-crowded s.room.now.len s.stopped (i.goes e).1 going;
       knew = i.knew;
       seen = i.seen;
-      within = subst (Within words) (sym left) (within-take words (length r.items) (firsts s.room.items) i.within);
+      within = subst (Within words) (sym left) (within-take words (length r.items) (firsts s.room.now.items) i.within);
     }

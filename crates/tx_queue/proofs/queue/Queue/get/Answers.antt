@@ -53,7 +53,8 @@ pub overflow_cast-value : goal.overflow_cast-value
 overflow_cast-value g c =
     let one = c.in_ok-count.ensures in let two = c.in_ok-front.ensures in let three = c.in_ok-found.ensures in
     let z = c.if-count-eq0.false in
-    let small = is-small (g.A.Access.good c.args.acc.now) (g.A.Access.words c.args.acc.now) (g.A.Access.log c.args.acc.now) c.args.self.now c.requires.within c.requires.well _ _ _ c.in_ok-count.count c.in_ok-front.front c.in_ok-found.found _ _ (inside-found g c) (omega arith)
+    let small = is-small (g.A.Access.good c.args.acc.now) (g.A.Access.words c.args.acc.now) (g.A.Access.log c.args.acc.now) c.args.self.now
+    c.requires.within c.requires.well _ _ _ c.in_ok-count.count c.in_ok-front.front c.in_ok-found.found _ _ (inside-found g c) (omega arith)
     one.value one.value.0 two.value (two.value.0 ∙ one.value.0) three.value (same-trans _ _ _ one.good (same-trans _ _ _ two.good three.good)) (three.words ∙ (two.words ∙ one.words)) three.explained in
     omega arith
 

@@ -19,4 +19,6 @@ returns-clause-reply g c =
 pub returns-clause-well : goal.returns-clause-well
 returns-clause-well g c =
     let one = c.in_ok-count.ensures in
-    under-after (g.A.Access.good c.args.acc.now) (g.A.Access.words c.args.acc.now) (g.A.Access.log c.args.acc.now) (counted_in c.args.self.now) _ _ _ _ (IsQueue c.args.self.now) (IsQueue c.args.self.now) (returns-clause-reply g c) c.requires.well one.good one.words (λ m len w. w)
+    under-after (g.A.Access.good c.args.acc.now) (g.A.Access.words c.args.acc.now) (g.A.Access.log c.args.acc.now)
+    (counted_in c.args.self.now) _ _ _ _ (IsQueue c.args.self.now) (IsQueue c.args.self.now) (returns-clause-reply g c) c.requires.well
+    one.good one.words (λ m len w. w)

@@ -21,7 +21,8 @@ pub returns-then-self-count-clause-well : goal.returns-then-self-count-clause-we
 returns-then-self-count-clause-well g c =
     let q = c.args.self.now in
     let one = c.in_ok-count.ensures in
-    under-after (g.A.Access.good c.args.acc.now) (g.A.Access.words c.args.acc.now) (g.A.Access.log c.args.acc.now) (put_in q c.args.value) _ _ _ NoRoom (IsQueue q) (IsQueue q) (returns-then-self-count-clause-reply g c) c.requires.well one.good one.words
+    under-after (g.A.Access.good c.args.acc.now) (g.A.Access.words c.args.acc.now) (g.A.Access.log c.args.acc.now) (put_in q c.args.value) _
+    _ _ NoRoom (IsQueue q) (IsQueue q) (returns-then-self-count-clause-reply g c) c.requires.well one.good one.words
     (λ m len w. put-keeps q m c.args.value w (subst (QueueFits q) (sym len) c.requires.within) c.ranges.value.fits)
 
 inside : (g : _) (c : goal.In_ok-front g) → c.in_ok-front.front < c.args.self.now.cells

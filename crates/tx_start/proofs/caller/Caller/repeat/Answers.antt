@@ -36,7 +36,13 @@ pub returns-in-None-clause-counted : goal.returns-in-None-clause-counted
 returns-in-None-clause-counted g c = c.in-None.ensures.uncounted ∙ c.loop-round.invariant.counted
 
 pub returns-in-None-clause-full : goal.returns-in-None-clause-full
-returns-in-None-clause-full g c = λ less. let f = c.in-None.ensures.full in (f.0, full-earlier f.0 (known c.args.self.now.desc) (known c.loop-round.self.desc) (known c.run.new.self.desc) c.loop-round.invariant.worked.grew f.1)
+returns-in-None-clause-full g c =
+    λ less.
+    let f = c.in-None.ensures.full in (
+      f.0,
+      full-earlier f.0 (known c.args.self.now.desc) (known c.loop-round.self.desc) (known c.run.new.self.desc)
+          c.loop-round.invariant.worked.grew f.1,
+    )
 
 pub returns-clause-took : goal.returns-clause-took
 returns-clause-took g c = let same : c.loop-round.round ≡ c.args.rounds = omega arith in made-at c.loop-round.invariant.took same

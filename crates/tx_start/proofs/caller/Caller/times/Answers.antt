@@ -36,4 +36,10 @@ pub returns-in-None-clause-counted : goal.returns-in-None-clause-counted
 returns-in-None-clause-counted g c = c.in-None.ensures.uncounted ∙ c.loop-round.invariant.counted
 
 pub returns-in-None-clause-full : goal.returns-in-None-clause-full
-returns-in-None-clause-full g c = λ less. let f = c.in-None.ensures.full in (f.0, full-earlier f.0 (known c.args.self.now.desc) (known c.loop-round.self.desc) (known c.run.new.self.desc) c.loop-round.invariant.worked.grew f.1)
+returns-in-None-clause-full g c =
+    λ less.
+    let f = c.in-None.ensures.full in (
+      f.0,
+      full-earlier f.0 (known c.args.self.now.desc) (known c.loop-round.self.desc) (known c.run.new.self.desc)
+          c.loop-round.invariant.worked.grew f.1,
+    )

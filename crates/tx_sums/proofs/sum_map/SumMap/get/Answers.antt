@@ -38,7 +38,8 @@ returns-clause-reply g c =
     let n : s.next ≡ suc j = omega arith in
     does-stay good words log (got_in r key) (g.A.Access.log c.read.new.self) (Some v) (IsSumMap r) c.requires.well (two.value.0 ∙ one.writes)
     (λ m. (s ≡ position_of r m key) × (v ≡ value r m j))
-    (shows-read good words log (g.A.Access.log c.find.new.acc) (g.A.Access.log c.read.new.self) (λ m. s ≡ position_of r m key) (λ m. (s ≡ position_of r m key) × (v ≡ value r m j)) (value_at r j) v one.finds one.writes (omega arith) two.value (λ m h x. (h, x)))
+    (shows-read good words log (g.A.Access.log c.find.new.acc) (g.A.Access.log c.read.new.self) (λ m. s ≡ position_of r m key)
+    (λ m. (s ≡ position_of r m key) × (v ≡ value r m j)) (value_at r j) v one.finds one.writes (omega arith) two.value (λ m h x. (h, x)))
     (λ m w e. got-some r m key j s w small e.0 n ∙ (let q = e.1 in rw q refl))
 
 pub returns-clause-well : goal.returns-clause-well
@@ -46,4 +47,6 @@ returns-clause-well g c =
     let r = c.args.self.now in
     let one = c.in_ok-position.ensures in
     let two = c.in_ok-value.ensures in
-    under-after (g.A.Access.good c.args.acc.now) (g.A.Access.words c.args.acc.now) (g.A.Access.log c.args.acc.now) (got_in r c.args.key) (g.A.Access.log c.read.new.self) _ _ (Some c.in_ok-value.value) (IsSumMap r) (IsSumMap r) (returns-clause-reply g c) c.requires.well (same-trans _ _ _ one.good two.good) (two.words ∙ one.words) (λ m len w. w)
+    under-after (g.A.Access.good c.args.acc.now) (g.A.Access.words c.args.acc.now) (g.A.Access.log c.args.acc.now) (got_in r c.args.key)
+    (g.A.Access.log c.read.new.self) _ _ (Some c.in_ok-value.value) (IsSumMap r) (IsSumMap r) (returns-clause-reply g c) c.requires.well
+    (same-trans _ _ _ one.good two.good) (two.words ∙ one.words) (λ m len w. w)

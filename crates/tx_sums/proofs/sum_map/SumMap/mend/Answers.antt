@@ -20,14 +20,17 @@ loop-step-init g c =
     let v = c.in_ok-link.link in
     let one = c.in_ok-link.ensures in
     let b = not (nat_eq v 0) in
-    let shows = shows-read good words log log _ (LinksFrom r from) (λ m. LinksFrom r from m × (v ≡ slice_index m from)) from v (shows-none good words log (LinksFrom r from) c.requires.links) refl (omega arith) one.value (λ m w e. (w, e)) in
+    let shows = shows-read good words log log _ (LinksFrom r from) (λ m. LinksFrom r from m × (v ≡ slice_index m from)) from v
+    (shows-none good words log (LinksFrom r from) c.requires.links) refl (omega arith) one.value (λ m w e. (w, e)) in
     record {
       going = one.goes;
       words = one.words;
       good = one.good;
       keeps = one.keeps;
       explained = one.explained;
-      below = shown good words log (g.A.Access.log c.read.new.self) _ _ (λ m. LinksFrom r from m × (v ≡ slice_index m from)) (v ≤ r.cells) shows one.good one.words one.explained (λ m h. let le = h.0.from in let e = h.1 in omega arith);
+      below =
+          shown good words log (g.A.Access.log c.read.new.self) _ _ (λ m. LinksFrom r from m × (v ≡ slice_index m from)) (v ≤ r.cells) shows
+          one.good one.words one.explained (λ m h. let le = h.0.from in let e = h.1 in omega arith);
       wrote = inl (refl, one.value.0, refl);
       walks = walks-shown good words log (g.A.Access.log c.read.new.self) (λ m. LinksFrom r from m × (v ≡ slice_index m from)) (Mending r from key d v (r.cells - 0) b) shows one.value.0
           (λ m h. let q : r.cells - 0 ≡ r.cells = omega arith in subst (λ n. Mending r from key d v n b m m) (sym q) (mending-begins r from key d v m h.1 h.0.links));
@@ -38,7 +41,9 @@ returns-then-link-eq0-clause-reply g c =
     let r = c.args.self.now in
     let inv = c.loop-step.invariant in
     let z = c.if-link-eq0.true in
-    mending-over (g.A.Access.good c.args.acc.now) (g.A.Access.words c.args.acc.now) (g.A.Access.log c.args.acc.now) (g.A.Access.log c.loop-step.acc) r c.args.from c.args.key c.args.by c.loop-step.link (r.cells - c.loop-step._step) c.loop-step._step (not (nat_eq c.in_ok-link.link 0)) inv.walks inv.wrote (λ e. z) (λ x. mending-ends r c.args.key c.args.by c.loop-step.link _ x z)
+    mending-over (g.A.Access.good c.args.acc.now) (g.A.Access.words c.args.acc.now) (g.A.Access.log c.args.acc.now)
+    (g.A.Access.log c.loop-step.acc) r c.args.from c.args.key c.args.by c.loop-step.link (r.cells - c.loop-step._step) c.loop-step._step
+    (not (nat_eq c.in_ok-link.link 0)) inv.walks inv.wrote (λ e. z) (λ x. mending-ends r c.args.key c.args.by c.loop-step.link _ x z)
 
 pub returns-clause-reply : goal.returns-clause-reply
 returns-clause-reply g c =
@@ -47,7 +52,10 @@ returns-clause-reply g c =
     let z = c.loop-step-test.false in
     let below = inv.below in
     let q : r.cells - c.loop-step._step ≡ 0 = omega arith in
-    mending-over (g.A.Access.good c.args.acc.now) (g.A.Access.words c.args.acc.now) (g.A.Access.log c.args.acc.now) (g.A.Access.log c.loop-step.acc) r c.args.from c.args.key c.args.by c.loop-step.link (r.cells - c.loop-step._step) c.loop-step._step (not (nat_eq c.in_ok-link.link 0)) inv.walks inv.wrote (λ e. omega arith) (λ x. mending-stops r c.args.key c.args.by c.loop-step.link _ x q)
+    mending-over (g.A.Access.good c.args.acc.now) (g.A.Access.words c.args.acc.now) (g.A.Access.log c.args.acc.now)
+    (g.A.Access.log c.loop-step.acc) r c.args.from c.args.key c.args.by c.loop-step.link (r.cells - c.loop-step._step) c.loop-step._step
+    (not (nat_eq c.in_ok-link.link 0)) inv.walks inv.wrote (λ e. omega arith) (λ x.
+    mending-stops r c.args.key c.args.by c.loop-step.link _ x q)
 
 pub returns-in_err-found-clause-keeps : goal.returns-in_err-found-clause-keeps
 returns-in_err-found-clause-keeps g c = g.met.A.Access.keeps_trans _ _ _ c.loop-step.invariant.keeps (g.met.A.Access.keeps_trans _ _ _ c.in_ok-raise.ensures.keeps c.in_err-found.ensures.keeps)
@@ -56,11 +64,17 @@ pub returns-then-found-tag-clause-keeps : goal.returns-then-found-tag-clause-kee
 returns-then-found-tag-clause-keeps g c = g.met.A.Access.keeps_trans _ _ _ c.loop-step.invariant.keeps (g.met.A.Access.keeps_trans _ _ _ c.in_ok-raise.ensures.keeps c.in_ok-found.ensures.keeps)
 
 pub returns-in_err-link-2-clause-keeps : goal.returns-in_err-link-2-clause-keeps
-returns-in_err-link-2-clause-keeps g c = g.met.A.Access.keeps_trans _ _ _ c.loop-step.invariant.keeps (g.met.A.Access.keeps_trans _ _ _ c.in_ok-raise.ensures.keeps (g.met.A.Access.keeps_trans _ _ _ c.in_ok-found.ensures.keeps c.in_err-link-2.ensures.keeps))
+returns-in_err-link-2-clause-keeps g c =
+    g.met.A.Access.keeps_trans _ _ _ c.loop-step.invariant.keeps (g.met.A.Access.keeps_trans _ _ _ c.in_ok-raise.ensures.keeps
+    (g.met.A.Access.keeps_trans _ _ _ c.in_ok-found.ensures.keeps c.in_err-link-2.ensures.keeps))
 
 -- with the cell's sum raised, and its tag read: y is the memory before the raise
 raised-walk : (g : _) (c : In_ok-found g) → Walks (g.A.Access.good c.args.acc.now) (g.A.Access.words c.args.acc.now) (g.A.Access.log c.args.acc.now) (g.A.Access.log c.read-in-loop-step.new.self)
-    (λ m x. (y : List ℕ) × Mending c.args.self.now c.args.from c.args.key c.args.by c.loop-step.link (c.args.self.now.cells - c.loop-step._step) (not (nat_eq c.in_ok-link.link 0)) m y × (x ≡ raised c.args.self.now c.args.by (c.loop-step.link - 1) y) × (c.in_ok-found.found ≡ tag c.args.self.now (raised c.args.self.now c.args.by (c.loop-step.link - 1) y) (c.loop-step.link - 1)))
+    (λ m x.
+    (y : List ℕ)
+    × Mending c.args.self.now c.args.from c.args.key c.args.by c.loop-step.link (c.args.self.now.cells - c.loop-step._step)
+    (not (nat_eq c.in_ok-link.link 0)) m y × (x ≡ raised c.args.self.now c.args.by (c.loop-step.link - 1) y)
+    × (c.in_ok-found.found ≡ tag c.args.self.now (raised c.args.self.now c.args.by (c.loop-step.link - 1) y) (c.loop-step.link - 1)))
 raised-walk g c =
     let good = g.A.Access.good c.args.acc.now in
     let words = g.A.Access.words c.args.acc.now in
@@ -75,16 +89,24 @@ raised-walk g c =
     let below = inv.below in
     let within = c.requires.within.1.0 in
     let M = λ (m y : List ℕ). Mending r c.args.from c.args.key d v (r.cells - c.loop-step._step) (not (nat_eq c.in_ok-link.link 0)) m y in
-    let w1 = walks-does good words log (g.A.Access.log c.loop-step.acc) (g.A.Access.log c.raise.new.acc) _ _ M (λ m x. (y : List ℕ) × M m y × (x ≡ raised r d j y)) (raised_in r d j) c.in_ok-raise.field-0 inv.walks inv.good inv.words c.in_ok-raise.ensures.reply
+    let w1 = walks-does good words log (g.A.Access.log c.loop-step.acc) (g.A.Access.log c.raise.new.acc) _ _ M
+    (λ m x. (y : List ℕ) × M m y × (x ≡ raised r d j y)) (raised_in r d j) c.in_ok-raise.field-0 inv.walks inv.good inv.words
+    c.in_ok-raise.ensures.reply
     (λ m x h i. (x, h, refl)) in
-    walks-read good words log (g.A.Access.log c.raise.new.acc) (g.A.Access.log c.read-in-loop-step.new.self) (λ m x. (y : List ℕ) × M m y × (x ≡ raised r d j y)) (λ m x. (y : List ℕ) × M m y × (x ≡ raised r d j y) × (t ≡ tag r (raised r d j y) j)) (tag_at r j) t w1 (omega arith) c.in_ok-found.ensures.value
+    walks-read good words log (g.A.Access.log c.raise.new.acc) (g.A.Access.log c.read-in-loop-step.new.self)
+    (λ m x. (y : List ℕ) × M m y × (x ≡ raised r d j y))
+    (λ m x. (y : List ℕ) × M m y × (x ≡ raised r d j y) × (t ≡ tag r (raised r d j y) j)) (tag_at r j) t w1 (omega arith)
+    c.in_ok-found.ensures.value
     (λ m x h i. (h.0, h.1, h.2, i ∙ ap (λ q. tag r q j) h.2))
 
 raised-wrote : (g : _) (c : In_ok-found g) → (is_empty (g.A.Access.log c.read-in-loop-step.new.self).writes ≡ false) × (not (nat_eq c.in_ok-link.link 0) ≡ true)
 raised-wrote g c =
     let one = c.in_ok-raise.ensures in
     let z = c.if-link-eq0.false in (
-      ap is_empty c.in_ok-found.ensures.value.0 ∙ does-wrote (g.A.Access.good c.loop-step.acc) (g.A.Access.words c.loop-step.acc) (g.A.Access.log c.loop-step.acc) (g.A.Access.log c.raise.new.acc) _ _ (raised_in c.args.self.now c.args.by (c.loop-step.link - 1)) c.in_ok-raise.field-0 one.reply one.good one.words one.explained (λ m. refl),
+      ap is_empty c.in_ok-found.ensures.value.0
+          ∙ does-wrote (g.A.Access.good c.loop-step.acc) (g.A.Access.words c.loop-step.acc) (g.A.Access.log c.loop-step.acc)
+          (g.A.Access.log c.raise.new.acc) _ _ (raised_in c.args.self.now c.args.by (c.loop-step.link - 1)) c.in_ok-raise.field-0 one.reply
+          one.good one.words one.explained (λ m. refl),
       wrote-true c.loop-step._step (g.A.Access.log c.args.acc.now) (g.A.Access.log c.loop-step.acc) _ c.loop-step.link c.loop-step.invariant.wrote (λ x. absurd (omega arith)),
     )
 
@@ -103,8 +125,15 @@ returns-then-found-tag-clause-reply g c =
     let pos : 0 < n = omega arith in
     let e : v ≡ suc (v - 1) = omega arith in
     let wrote = raised-wrote g f in
-    walks-end (g.A.Access.good c.args.acc.now) (g.A.Access.words c.args.acc.now) log (g.A.Access.log c.read-in-loop-step.new.self) (mended_in r c.args.from key d) b b (wrote-here log (g.A.Access.log c.read-in-loop-step.new.self) b wrote.0 wrote.1)
-    (λ m fine len ex. let p = raised-walk g f m fine len ex in let h = p.1 in (p.0, mended-is r c.args.from key d b _ _ (h.1.on ∙ (mending-found r key d v n (v - 1) c.in_ok-found.found h.0 e pos h.3 c.if-found-tag.true ∙ sym h.2)) h.1.first))
+    walks-end (g.A.Access.good c.args.acc.now) (g.A.Access.words c.args.acc.now) log (g.A.Access.log c.read-in-loop-step.new.self)
+    (mended_in r c.args.from key d) b b (wrote-here log (g.A.Access.log c.read-in-loop-step.new.self) b wrote.0 wrote.1)
+    (λ m fine len ex.
+    let p = raised-walk g f m fine len ex in
+    let h = p.1 in (
+      p.0,
+      mended-is r c.args.from key d b _ _
+          (h.1.on ∙ (mending-found r key d v n (v - 1) c.in_ok-found.found h.0 e pos h.3 c.if-found-tag.true ∙ sym h.2)) h.1.first,
+    ))
 
 pub loop-step-preserved : goal.loop-step-preserved
 loop-step-preserved g c =
@@ -138,7 +167,9 @@ loop-step-preserved g c =
     let f = (goal.at.loop-step-preserved g c).In_ok-found in
     let wrote = raised-wrote g f in
     let near = side-inside (pool r) key j t a c.side.ensures in
-    let w3 = walks-read good words log (g.A.Access.log c.read-in-loop-step.new.self) (g.A.Access.log c.read-in-loop-step-2.new.self) (λ m x. (y : List ℕ) × Mending r from key d v n b m y × (x ≡ raised r d j y) × (t ≡ tag r (raised r d j y) j)) (λ m x. Mending r from key d u less b m x × (u ≤ r.cells)) a u (raised-walk g f) (omega arith) three.value
+    let w3 = walks-read good words log (g.A.Access.log c.read-in-loop-step.new.self) (g.A.Access.log c.read-in-loop-step-2.new.self)
+    (λ m x. (y : List ℕ) × Mending r from key d v n b m y × (x ≡ raised r d j y) × (t ≡ tag r (raised r d j y) j))
+    (λ m x. Mending r from key d u less b m x × (u ≤ r.cells)) a u (raised-walk g f) (omega arith) three.value
     (λ m x h i. let y : u ≡ slice_index (raised r d j h.0) a = i ∙ ap (λ q. slice_index q a) h.2 in
     (subst (Mending r from key d u less b m) (sym h.2) (mending-on r from key d v n less j t a u b m h.0 h.1 e k h.3 other c.side.ensures y), word-most r from key d v n j t a u b m h.0 h.1 in' c.side.ensures y)) in
     let good' = same-trans _ _ _ inv.good (same-trans _ _ _ one.good (same-trans _ _ _ two.good three.good)) in

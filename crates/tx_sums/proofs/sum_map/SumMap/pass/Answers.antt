@@ -95,7 +95,12 @@ returns-clause-passes g c =
     let lt : t < b = omega arith in
     let q1 = shows-read good words log log _ (IsSumMap r) (λ m. t ≡ tag r m j) (tag_at r j) t (shows-none good words log (IsSumMap r) c.requires.well) refl (omega arith) one.value (λ m h x. x) in
     let q2 = shows-read good words log _ _ (λ m. t ≡ tag r m j) (λ m. (t ≡ tag r m j) × (whole ≡ get_or m (sum_at r j) 0)) (sum_at r j) whole q1 one.value.0 (omega arith) two.value (λ m h x. (h, x)) in
-    let q3 = shows-read good words log _ _ (λ m. (t ≡ tag r m j) × (whole ≡ get_or m (sum_at r j) 0)) (λ m. ((t ≡ tag r m j) × (whole ≡ get_or m (sum_at r j) 0)) × (u ≡ get_or m (right_at r j) 0)) (right_at r j) u q2 (two.value.0 ∙ one.value.0) (omega arith) three.value (λ m h x. (h, x)) in
-    let both = shows-then good words log (g.A.Access.log c.read-3.new.self) (g.A.Access.log c.sum_under.new.acc) _ _ (λ m. ((t ≡ tag r m j) × (whole ≡ get_or m (sum_at r j) 0)) × (u ≡ get_or m (right_at r j) 0)) (λ m. rest ≡ sum_under r m u) q3 (three.value.0 ∙ (two.value.0 ∙ one.value.0)) (same-trans _ _ _ one.good (same-trans _ _ _ two.good three.good)) (three.words ∙ (two.words ∙ one.words)) four.sums in
+    let q3 = shows-read good words log _ _ (λ m. (t ≡ tag r m j) × (whole ≡ get_or m (sum_at r j) 0))
+    (λ m. ((t ≡ tag r m j) × (whole ≡ get_or m (sum_at r j) 0)) × (u ≡ get_or m (right_at r j) 0)) (right_at r j) u q2
+    (two.value.0 ∙ one.value.0) (omega arith) three.value (λ m h x. (h, x)) in
+    let both = shows-then good words log (g.A.Access.log c.read-3.new.self) (g.A.Access.log c.sum_under.new.acc) _ _
+    (λ m. ((t ≡ tag r m j) × (whole ≡ get_or m (sum_at r j) 0)) × (u ≡ get_or m (right_at r j) 0)) (λ m. rest ≡ sum_under r m u) q3
+    (three.value.0 ∙ (two.value.0 ∙ one.value.0)) (same-trans _ _ _ one.good (same-trans _ _ _ two.good three.good))
+    (three.words ∙ (two.words ∙ one.words)) four.sums in
     λ m fine len ex. let x = both m fine len ex in
     (x.0, pass-right r _ b j t u whole rest ((whole + (2 ^ 64 - rest)) % 2 ^ 64) x.1.0.0.0 lt x.1.0.0.1 x.1.0.1 x.1.1 refl)

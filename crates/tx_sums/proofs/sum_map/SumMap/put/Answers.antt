@@ -41,7 +41,9 @@ returns-then-position-ne0-clause-reply g c =
     let two = c.in_ok-replace.ensures in
     let z = c.if-position-ne0.true in
     let n : s.next ≡ suc (s.next - 1) = omega arith in
-    does-then good words log (g.A.Access.log c.find.new.acc) (g.A.Access.log c.replace.new.acc) _ _ one.good one.words (put_in r key c.args.value) (replaced_in r key c.args.value (s.next - 1)) Replaced (IsSumMap r) (λ m. s ≡ position_of r m key) c.requires.well one.writes one.finds two.reply
+    does-then good words log (g.A.Access.log c.find.new.acc) (g.A.Access.log c.replace.new.acc) _ _ one.good one.words
+    (put_in r key c.args.value) (replaced_in r key c.args.value (s.next - 1)) Replaced (IsSumMap r) (λ m. s ≡ position_of r m key)
+    c.requires.well one.writes one.finds two.reply
     (λ m w e. ap (put_by r key c.args.value m) (ap (λ p. p.next) (sym e) ∙ n))
 
 -- A CELL ADDED
@@ -51,7 +53,10 @@ small-key g c = let f = c.ranges.key in omega arith
 no-cell : (g : _) (c : In_ok-write-in-Some-3 g) → c.in_ok-position.position.next ≡ 0
 no-cell g c = let z = c.if-position-ne0.false in omega arith
 
-adding : (g : _) (c : In_ok-write-in-Some-3 g) → Walks (g.A.Access.good c.args.acc.now) (g.A.Access.words c.args.acc.now) (g.A.Access.log c.args.acc.now) (g.A.Access.log c.write-in-Some-2.new.self) (λ m x. Adding c.args.self.now (g.A.Access.words c.args.acc.now) c.args.key c.args.value c.in_ok-position.position c.in-Some.cell m x)
+adding : (g : _) (c : In_ok-write-in-Some-3 g)
+    → Walks (g.A.Access.good c.args.acc.now) (g.A.Access.words c.args.acc.now) (g.A.Access.log c.args.acc.now)
+    (g.A.Access.log c.write-in-Some-2.new.self) (λ m x.
+    Adding c.args.self.now (g.A.Access.words c.args.acc.now) c.args.key c.args.value c.in_ok-position.position c.in-Some.cell m x)
 adding g c =
     let good = g.A.Access.good c.args.acc.now in
     let words = g.A.Access.words c.args.acc.now in
@@ -69,17 +74,29 @@ adding g c =
     let l3 = g.A.Access.log c.write-in-Some.new.self in
     let l4 = g.A.Access.log c.write-in-Some-2.new.self in
     let start : Shows good words log (g.A.Access.log c.find.new.acc) (λ m. (IsSumMap r m × (length m ≡ words)) × (s ≡ position_of r m key)) =
-    shows-then good words log log (g.A.Access.log c.find.new.acc) good words (λ m. IsSumMap r m × (length m ≡ words)) (λ m. s ≡ position_of r m key) (λ m fine len ex. (ex, (c.requires.well m fine len ex, overlay-length m log.writes ∙ len))) refl (λ m. ((λ h. h), (λ h. h))) refl q0.finds in
+    shows-then good words log log (g.A.Access.log c.find.new.acc) good words (λ m. IsSumMap r m × (length m ≡ words))
+    (λ m. s ≡ position_of r m key) (λ m fine len ex. (ex, (c.requires.well m fine len ex, overlay-length m log.writes ∙ len))) refl
+    (λ m. ((λ h. h), (λ h. h))) refl q0.finds in
     let both : Shows good words log l1 (λ m. ((IsSumMap r m × (length m ≡ words)) × (s ≡ position_of r m key)) × (o ≡ free_from (tag r m) 0 r.cells)) =
-    shows-then good words log (g.A.Access.log c.find.new.acc) l1 _ _ (λ m. (IsSumMap r m × (length m ≡ words)) × (s ≡ position_of r m key)) (λ m. o ≡ free_from (tag r m) 0 r.cells) start q0.writes q0.good q0.words q1.frees in
-    let w1 = walks-shown good words log l1 (λ m. ((IsSumMap r m × (length m ≡ words)) × (s ≡ position_of r m key)) × (o ≡ free_from (tag r m) 0 r.cells)) (λ m x. Adding r words key v s i m (attached r key v i s.link x)) both (q1.writes ∙ q0.writes) (λ m h. record { well = h.0.0.0; long = h.0.0.1; place = h.0.1; free = sym c.in-Some.is ∙ h.1; now = refl }) in
+    shows-then good words log (g.A.Access.log c.find.new.acc) l1 _ _ (λ m. (IsSumMap r m × (length m ≡ words)) × (s ≡ position_of r m key))
+    (λ m. o ≡ free_from (tag r m) 0 r.cells) start q0.writes q0.good q0.words q1.frees in
+    let w1 = walks-shown good words log l1
+    (λ m. ((IsSumMap r m × (length m ≡ words)) × (s ≡ position_of r m key)) × (o ≡ free_from (tag r m) 0 r.cells))
+    (λ m x. Adding r words key v s i m (attached r key v i s.link x)) both (q1.writes ∙ q0.writes)
+    (λ m h. record { well = h.0.0.0; long = h.0.0.1; place = h.0.1; free = sym c.in-Some.is ∙ h.1; now = refl }) in
     let k1 : key + 1 ≡ suc key = omega arith in
     let k2 : i + 1 ≡ suc i = omega arith in
-    let t = turns-then _ _ _ _ _ (turns-then _ _ _ _ _ (turns-write l1 l2 (tag_at r i) (key + 1) c.in_ok-write-in-Some.ensures.value) (turns-write l2 l3 (value_at r i) v c.in_ok-write-in-Some-2.ensures.value)) (turns-write l3 l4 s.link (i + 1) c.in_ok-write-in-Some-3.ensures.value) in
-    walks-turns good words log l1 l4 (λ m x. Adding r words key v s i m (attached r key v i s.link x)) (λ m x. Adding r words key v s i m x) (λ x. set (set (set x (tag_at r i) (key + 1)) (value_at r i) v) s.link (i + 1)) w1 t (λ m x h. rw (k1, k2) h)
+    let t = turns-then _ _ _ _ _ (turns-then _ _ _ _ _ (turns-write l1 l2 (tag_at r i) (key + 1) c.in_ok-write-in-Some.ensures.value)
+    (turns-write l2 l3 (value_at r i) v c.in_ok-write-in-Some-2.ensures.value))
+    (turns-write l3 l4 s.link (i + 1) c.in_ok-write-in-Some-3.ensures.value) in
+    walks-turns good words log l1 l4 (λ m x. Adding r words key v s i m (attached r key v i s.link x)) (λ m x. Adding r words key v s i m x)
+    (λ x. set (set (set x (tag_at r i) (key + 1)) (value_at r i) v) s.link (i + 1)) w1 t (λ m x h. rw (k1, k2) h)
 
 adding-good : (g : _) (c : In_ok-write-in-Some-3 g) → SameMemories (g.A.Access.good c.args.acc.now) (g.A.Access.good c.write-in-Some-2.new.self)
-adding-good g c = same-trans _ _ _ c.in_ok-position.ensures.good (same-trans _ _ _ c.in_ok-free_cell.ensures.good (same-trans _ _ _ c.in_ok-write-in-Some.ensures.good (same-trans _ _ _ c.in_ok-write-in-Some-2.ensures.good c.in_ok-write-in-Some-3.ensures.good)))
+adding-good g c =
+    same-trans _ _ _ c.in_ok-position.ensures.good (same-trans _ _ _ c.in_ok-free_cell.ensures.good
+    (same-trans _ _ _ c.in_ok-write-in-Some.ensures.good
+    (same-trans _ _ _ c.in_ok-write-in-Some-2.ensures.good c.in_ok-write-in-Some-3.ensures.good)))
 
 adding-words : (g : _) (c : In_ok-write-in-Some-3 g) → g.A.Access.words c.write-in-Some-2.new.self ≡ g.A.Access.words c.args.acc.now
 adding-words g c = c.in_ok-write-in-Some-3.ensures.words ∙ (c.in_ok-write-in-Some-2.ensures.words ∙ (c.in_ok-write-in-Some.ensures.words ∙ (c.in_ok-free_cell.ensures.words ∙ c.in_ok-position.ensures.words)))
@@ -87,23 +104,38 @@ adding-words g c = c.in_ok-write-in-Some-3.ensures.words ∙ (c.in_ok-write-in-S
 adding-keeps : (g : _) (c : In_ok-write-in-Some-3 g) → g.A.Access.keeps c.args.acc.now c.write-in-Some-2.new.self
 adding-keeps g c =
     let chain = g.met.A.Access.keeps_trans in
-    chain _ _ _ c.in_ok-position.ensures.keeps (chain _ _ _ c.in_ok-free_cell.ensures.keeps (chain _ _ _ c.in_ok-write-in-Some.ensures.keeps (chain _ _ _ c.in_ok-write-in-Some-2.ensures.keeps c.in_ok-write-in-Some-3.ensures.keeps)))
+    chain _ _ _ c.in_ok-position.ensures.keeps (chain _ _ _ c.in_ok-free_cell.ensures.keeps
+    (chain _ _ _ c.in_ok-write-in-Some.ensures.keeps
+    (chain _ _ _ c.in_ok-write-in-Some-2.ensures.keeps c.in_ok-write-in-Some-3.ensures.keeps)))
 
 pub mend-requires-clause-links : goal.mend-requires-clause-links
 mend-requires-clause-links g c =
     let o = (goal.at.mend-requires-clause-links g c).In_ok-write-in-Some-3 in
     λ m fine len ex. let p = adding g o m ((adding-good g o m).1 fine) (len ∙ adding-words g o) ex in
-    (let l = added-links c.args.self.now (g.A.Access.words c.args.acc.now) c.args.key c.args.value c.in_ok-position.position c.in-Some.cell _ _ p.1 (small-key g o) c.requires.within.0 (no-cell g o) in record { links = l; from = l.0 })
+    (let l = added-links c.args.self.now (g.A.Access.words c.args.acc.now) c.args.key c.args.value c.in_ok-position.position c.in-Some.cell
+    _ _ p.1 (small-key g o) c.requires.within.0 (no-cell g o) in
+    record { links = l; from = l.0 })
 
-added : (g : _) (c : In_ok-mend-in-Some g) → Walks (g.A.Access.good c.args.acc.now) (g.A.Access.words c.args.acc.now) (g.A.Access.log c.args.acc.now) (g.A.Access.log c.write-in-Some-2.new.self) (λ m x. Adding c.args.self.now (g.A.Access.words c.args.acc.now) c.args.key c.args.value c.in_ok-position.position c.in-Some.cell m x)
-    → SameMemories (g.A.Access.good c.args.acc.now) (g.A.Access.good c.write-in-Some-2.new.self) → g.A.Access.words c.write-in-Some-2.new.self ≡ g.A.Access.words c.args.acc.now → c.args.key < 2 ^ 32 → c.in_ok-position.position.next ≡ 0
-    → Walks (g.A.Access.good c.args.acc.now) (g.A.Access.words c.args.acc.now) (g.A.Access.log c.args.acc.now) (g.A.Access.log c.mend.new.acc) (λ m x. (put_in c.args.self.now c.args.key c.args.value m ≡ changed Added x) × IsSumMap c.args.self.now x)
+added : (g : _) (c : In_ok-mend-in-Some g)
+    → Walks (g.A.Access.good c.args.acc.now) (g.A.Access.words c.args.acc.now) (g.A.Access.log c.args.acc.now)
+    (g.A.Access.log c.write-in-Some-2.new.self) (λ m x.
+    Adding c.args.self.now (g.A.Access.words c.args.acc.now) c.args.key c.args.value c.in_ok-position.position c.in-Some.cell m x)
+    → SameMemories (g.A.Access.good c.args.acc.now) (g.A.Access.good c.write-in-Some-2.new.self)
+    → g.A.Access.words c.write-in-Some-2.new.self ≡ g.A.Access.words c.args.acc.now → c.args.key < 2 ^ 32
+    → c.in_ok-position.position.next ≡ 0
+    → Walks (g.A.Access.good c.args.acc.now) (g.A.Access.words c.args.acc.now) (g.A.Access.log c.args.acc.now)
+    (g.A.Access.log c.mend.new.acc) (λ m x.
+    (put_in c.args.self.now c.args.key c.args.value m ≡ changed Added x) × IsSumMap c.args.self.now x)
 added g c walks same long small none =
     let words = g.A.Access.words c.args.acc.now in
     let r = c.args.self.now in
     let s = c.in_ok-position.position in
-    walks-does (g.A.Access.good c.args.acc.now) words (g.A.Access.log c.args.acc.now) (g.A.Access.log c.write-in-Some-2.new.self) (g.A.Access.log c.mend.new.acc) (g.A.Access.good c.write-in-Some-2.new.self) (g.A.Access.words c.write-in-Some-2.new.self) (λ m x. Adding r words c.args.key c.args.value s c.in-Some.cell m x)
-    (λ m x. (put_in r c.args.key c.args.value m ≡ changed Added x) × IsSumMap r x) (mended_in r r.at c.args.key c.args.value) c.in_ok-mend-in-Some.field-0 walks same long c.in_ok-mend-in-Some.ensures.reply (λ m x h y. added-is r words c.args.key c.args.value s c.in-Some.cell m x h small c.requires.within.0 none)
+    walks-does (g.A.Access.good c.args.acc.now) words (g.A.Access.log c.args.acc.now) (g.A.Access.log c.write-in-Some-2.new.self)
+    (g.A.Access.log c.mend.new.acc) (g.A.Access.good c.write-in-Some-2.new.self) (g.A.Access.words c.write-in-Some-2.new.self) (λ m x.
+    Adding r words c.args.key c.args.value s c.in-Some.cell m x)
+    (λ m x. (put_in r c.args.key c.args.value m ≡ changed Added x) × IsSumMap r x) (mended_in r r.at c.args.key c.args.value)
+    c.in_ok-mend-in-Some.field-0 walks same long c.in_ok-mend-in-Some.ensures.reply (λ m x h y.
+    added-is r words c.args.key c.args.value s c.in-Some.cell m x h small c.requires.within.0 none)
 
 pub returns-in_ok-mend-in-Some-clause-reply : goal.returns-in_ok-mend-in-Some-clause-reply
 returns-in_ok-mend-in-Some-clause-reply g c =
@@ -116,7 +148,8 @@ returns-in_ok-mend-in-Some-clause-reply g c =
     let l4 = g.A.Access.log c.write-in-Some-2.new.self in
     let l5 = g.A.Access.log c.mend.new.acc in
     let t4 = turns-write l3 l4 c.in_ok-position.position.link (c.in-Some.cell + 1) c.in_ok-write-in-Some-3.ensures.value in
-    let some = does-after (g.A.Access.good c.write-in-Some-2.new.self) (g.A.Access.words c.write-in-Some-2.new.self) l4 l5 _ _ (mended_in r r.at c.args.key c.args.value) c.in_ok-mend-in-Some.field-0 q5.reply q5.good q5.words q5.explained t4.wrote in
+    let some = does-after (g.A.Access.good c.write-in-Some-2.new.self) (g.A.Access.words c.write-in-Some-2.new.self) l4 l5 _ _
+    (mended_in r r.at c.args.key c.args.value) c.in_ok-mend-in-Some.field-0 q5.reply q5.good q5.words q5.explained t4.wrote in
     walks-end (g.A.Access.good c.args.acc.now) (g.A.Access.words c.args.acc.now) log l5 (put_in r c.args.key c.args.value) Added true (wrote-here log l5 true some refl)
     (λ m fine len ex. let p = added g at.In_ok-mend-in-Some (adding g o) (adding-good g o) (adding-words g o) (small-key g o) (no-cell g o) m fine len ex in (p.0, p.1.0))
 
@@ -131,7 +164,9 @@ returns-in_ok-mend-in-Some-clause-well g c =
 pub returns-in_err-write-in-Some-3-clause-keeps : goal.returns-in_err-write-in-Some-3-clause-keeps
 returns-in_err-write-in-Some-3-clause-keeps g c =
     let chain = g.met.A.Access.keeps_trans in
-    chain _ _ _ c.in_ok-position.ensures.keeps (chain _ _ _ c.in_ok-free_cell.ensures.keeps (chain _ _ _ c.in_ok-write-in-Some.ensures.keeps (chain _ _ _ c.in_ok-write-in-Some-2.ensures.keeps c.in_err-write-in-Some-3.ensures.keeps)))
+    chain _ _ _ c.in_ok-position.ensures.keeps (chain _ _ _ c.in_ok-free_cell.ensures.keeps
+    (chain _ _ _ c.in_ok-write-in-Some.ensures.keeps
+    (chain _ _ _ c.in_ok-write-in-Some-2.ensures.keeps c.in_err-write-in-Some-3.ensures.keeps)))
 
 pub returns-in_err-mend-in-Some-clause-keeps : goal.returns-in_err-mend-in-Some-clause-keeps
 returns-in_err-mend-in-Some-clause-keeps g c = g.met.A.Access.keeps_trans _ _ _ (adding-keeps g (goal.at.returns-in_err-mend-in-Some-clause-keeps g c).In_ok-write-in-Some-3) c.in_err-mend-in-Some.ensures.keeps
@@ -155,7 +190,8 @@ returns-in-None-clause-reply g c =
     let n : s.next ≡ 0 = omega arith in
     does-stay good words log (put_in r key c.args.value) _ NoRoom (IsSumMap r) c.requires.well (two.writes ∙ one.writes)
     (λ m. (s ≡ position_of r m key) × (o ≡ free_from (tag r m) 0 r.cells))
-    (shows-then good words log (g.A.Access.log c.find.new.acc) (g.A.Access.log c.free_cell.new.acc) _ _ (λ m. s ≡ position_of r m key) (λ m. o ≡ free_from (tag r m) 0 r.cells) one.finds one.writes one.good one.words two.frees)
+    (shows-then good words log (g.A.Access.log c.find.new.acc) (g.A.Access.log c.free_cell.new.acc) _ _ (λ m. s ≡ position_of r m key)
+    (λ m. o ≡ free_from (tag r m) 0 r.cells) one.finds one.writes one.good one.words two.frees)
     (λ m w e. full-is r key c.args.value s m e.0 n (sym c.in-None.is ∙ e.1))
 
 pub returns-then-position-ne0-clause-keeps : goal.returns-then-position-ne0-clause-keeps

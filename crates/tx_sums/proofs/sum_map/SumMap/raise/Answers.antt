@@ -13,6 +13,8 @@ returns-clause-reply g c =
     let sum = (v + c.args.by) % 2 ^ 64 in
     does-change good words log (raised_in c.args.self.now c.args.by c.args.cell) _ _ sum (λ m. Unit {0}) (λ m g len ex. tt) c.in_ok-found.ensures.value.0
     (λ m. v ≡ get_or m address 0)
-    (shows-read good words log log _ (λ m. Unit {0}) (λ m. v ≡ get_or m address 0) address v (shows-none good words log (λ m. Unit {0}) (λ m g len ex. tt)) refl (let w = c.requires.within in let s = c.requires.cell in omega arith) c.in_ok-found.ensures.value (λ m p e. e))
+    (shows-read good words log log _ (λ m. Unit {0}) (λ m. v ≡ get_or m address 0) address v
+    (shows-none good words log (λ m. Unit {0}) (λ m g len ex. tt)) refl
+    (let w = c.requires.within in let s = c.requires.cell in omega arith) c.in_ok-found.ensures.value (λ m p e. e))
     (λ m. set m address sum) (turns-write _ _ address sum c.in_ok-write.ensures.value)
     (λ m p e. rw e refl)

@@ -17,7 +17,9 @@ returns-then-position-eq0-clause-reply g c =
     let r = c.args.self.now in
     let s = c.in_ok-position.position in
     let one = c.in_ok-position.ensures in
-    does-stay (g.A.Access.good c.args.acc.now) (g.A.Access.words c.args.acc.now) (g.A.Access.log c.args.acc.now) (removed_in r c.args.key) _ false (IsSumMap r) c.requires.well one.writes (λ m. s ≡ position_of r m c.args.key) one.finds (λ m w e. remove-none r m c.args.key s e c.if-position-eq0.true)
+    does-stay (g.A.Access.good c.args.acc.now) (g.A.Access.words c.args.acc.now) (g.A.Access.log c.args.acc.now) (removed_in r c.args.key) _
+    false (IsSumMap r) c.requires.well one.writes (λ m. s ≡ position_of r m c.args.key) one.finds (λ m w e.
+    remove-none r m c.args.key s e c.if-position-eq0.true)
 
 next-is : (n : ℕ) → n ≢ 0 → n ≡ suc (n - 1)
 next-is n d = omega arith
@@ -65,9 +67,13 @@ returns-clause-reply g c =
     let one = c.in_ok-position.ensures in
     let two = c.in_ok-replace.ensures in
     let three = c.in_ok-take_out.ensures in
-    let both = does-both (g.A.Access.good c.find.new.acc) (g.A.Access.words c.find.new.acc) (g.A.Access.log c.find.new.acc) (g.A.Access.log c.replace.new.acc) (g.A.Access.log c.take_out.new.acc) (g.A.Access.good c.replace.new.acc) (g.A.Access.words c.replace.new.acc) two.good two.words
+    let both = does-both (g.A.Access.good c.find.new.acc) (g.A.Access.words c.find.new.acc) (g.A.Access.log c.find.new.acc)
+    (g.A.Access.log c.replace.new.acc) (g.A.Access.log c.take_out.new.acc) (g.A.Access.good c.replace.new.acc)
+    (g.A.Access.words c.replace.new.acc) two.good two.words
     (replaced_in r key 0 j) (taken_in r j s.link) (λ m. taken_in r j s.link (replaced_in r key 0 j m).memory) Replaced true two.reply three.reply (λ m. refl) (λ m. refl) in
-    does-then good words log (g.A.Access.log c.find.new.acc) (g.A.Access.log c.take_out.new.acc) (g.A.Access.good c.find.new.acc) (g.A.Access.words c.find.new.acc) one.good one.words (removed_in r key) (λ m. taken_in r j s.link (replaced_in r key 0 j m).memory) true (IsSumMap r) (λ m. s ≡ position_of r m key) c.requires.well one.writes one.finds both
+    does-then good words log (g.A.Access.log c.find.new.acc) (g.A.Access.log c.take_out.new.acc) (g.A.Access.good c.find.new.acc)
+    (g.A.Access.words c.find.new.acc) one.good one.words (removed_in r key) (λ m. taken_in r j s.link (replaced_in r key 0 j m).memory) true
+    (IsSumMap r) (λ m. s ≡ position_of r m key) c.requires.well one.writes one.finds both
     (λ m w e. remove-some r m key j s e (next-is s.next c.if-position-eq0.false))
 
 pub returns-clause-keeps : goal.returns-clause-keeps

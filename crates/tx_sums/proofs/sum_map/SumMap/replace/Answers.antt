@@ -10,7 +10,10 @@ use Rattle.tx_sums.proofs.sum_map.SumMap.replace.Goals.{In_ok-mend, In_ok-write}
 use Rattle.tx_sums.proofs.sum_map.SumMap.replace.Goals as goal
 
 -- up to the write
-written : (g : _) (c : In_ok-write g) → Walks (g.A.Access.good c.args.acc.now) (g.A.Access.words c.args.acc.now) (g.A.Access.log c.args.acc.now) (g.A.Access.log c.write.new.self) (λ m x. Replacing c.args.self.now (g.A.Access.words c.args.acc.now) c.args.key c.args.value c.args.cell c.in_ok-old.old m x)
+written : (g : _) (c : In_ok-write g)
+    → Walks (g.A.Access.good c.args.acc.now) (g.A.Access.words c.args.acc.now) (g.A.Access.log c.args.acc.now)
+    (g.A.Access.log c.write.new.self) (λ m x.
+    Replacing c.args.self.now (g.A.Access.words c.args.acc.now) c.args.key c.args.value c.args.cell c.in_ok-old.old m x)
 written g c =
     let good = g.A.Access.good c.args.acc.now in
     let words = g.A.Access.words c.args.acc.now in
@@ -25,9 +28,12 @@ written g c =
     let w = c.requires.within in
     let start : Shows good words log log (λ m. HasKey r key j m × (length m ≡ words)) = λ m fine len ex. (ex, (c.requires.well m fine len ex, overlay-length m log.writes ∙ len)) in
     let w0 = walks-shown good words log log (λ m. HasKey r key j m × (length m ≡ words)) (λ m x. (HasKey r key j m × (length m ≡ words)) × (x ≡ m)) start refl (λ m h. (h, refl)) in
-    let w1 = walks-read good words log log (g.A.Access.log c.read.new.self) (λ m x. (HasKey r key j m × (length m ≡ words)) × (x ≡ m)) (λ m x. Replacing r words key v j old m (set x (value_at r j) v)) (value_at r j) old w0 (omega arith) q1.value
+    let w1 = walks-read good words log log (g.A.Access.log c.read.new.self) (λ m x. (HasKey r key j m × (length m ≡ words)) × (x ≡ m))
+    (λ m x. Replacing r words key v j old m (set x (value_at r j) v)) (value_at r j) old w0 (omega arith) q1.value
     (λ m x h i. record { well = h.0.0.well; long = h.0.1; at = h.0.0.at; held = i ∙ ap (λ y. value r y j) h.1; now = ap (λ y. set y (value_at r j) v) h.1 }) in
-    walks-turns good words log (g.A.Access.log c.read.new.self) (g.A.Access.log c.write.new.self) (λ m x. Replacing r words key v j old m (set x (value_at r j) v)) (λ m x. Replacing r words key v j old m x) (λ x. set x (value_at r j) v) w1 (turns-write _ _ (value_at r j) v q2.value) (λ m x h. h)
+    walks-turns good words log (g.A.Access.log c.read.new.self) (g.A.Access.log c.write.new.self)
+    (λ m x. Replacing r words key v j old m (set x (value_at r j) v)) (λ m x. Replacing r words key v j old m x)
+    (λ x. set x (value_at r j) v) w1 (turns-write _ _ (value_at r j) v q2.value) (λ m x h. h)
 
 pub mend-requires-clause-links : goal.mend-requires-clause-links
 mend-requires-clause-links g c =
@@ -39,9 +45,16 @@ mend-requires-clause-links g c =
     let small : c.args.key < 2 ^ 32 = omega arith in
     let same = same-trans _ _ _ q1.good q2.good in
     let words' = q2.words ∙ q1.words in
-    λ m fine len ex. let p = written g (goal.at.mend-requires-clause-links g c).In_ok-write m ((same m).1 fine) (len ∙ words') ex in let l = replaced-links r words c.args.key c.args.value c.args.cell c.in_ok-old.old _ _ p.1 small c.requires.within.1.0 c.requires.within.0 q1.range in record { links = l; from = l.0 }
+    λ m fine len ex.
+    let p = written g (goal.at.mend-requires-clause-links g c).In_ok-write m ((same m).1 fine) (len ∙ words') ex in
+    let l = replaced-links r words c.args.key c.args.value c.args.cell c.in_ok-old.old _ _ p.1 small c.requires.within.1.0
+    c.requires.within.0 q1.range in
+    record { links = l; from = l.0 }
 
-mended-all : (g : _) (c : In_ok-mend g) → Walks (g.A.Access.good c.args.acc.now) (g.A.Access.words c.args.acc.now) (g.A.Access.log c.args.acc.now) (g.A.Access.log c.write.new.self) (λ m x. Replacing c.args.self.now (g.A.Access.words c.args.acc.now) c.args.key c.args.value c.args.cell c.in_ok-old.old m x)
+mended-all : (g : _) (c : In_ok-mend g)
+    → Walks (g.A.Access.good c.args.acc.now) (g.A.Access.words c.args.acc.now) (g.A.Access.log c.args.acc.now)
+    (g.A.Access.log c.write.new.self) (λ m x.
+    Replacing c.args.self.now (g.A.Access.words c.args.acc.now) c.args.key c.args.value c.args.cell c.in_ok-old.old m x)
     → Walks (g.A.Access.good c.args.acc.now) (g.A.Access.words c.args.acc.now) (g.A.Access.log c.args.acc.now) (g.A.Access.log c.mend.new.acc)
     (λ m x. (replaced_in c.args.self.now c.args.key c.args.value c.args.cell m ≡ changed Replaced x) × IsSumMap c.args.self.now x)
 mended-all g c before =
@@ -61,7 +74,10 @@ mended-all g c before =
     let d = (v + (2 ^ 64 - old)) % 2 ^ 64 in
     let same = same-trans _ _ _ q1.good q2.good in
     let words' = q2.words ∙ q1.words in
-    walks-does good words log (g.A.Access.log c.write.new.self) (g.A.Access.log c.mend.new.acc) (g.A.Access.good c.write.new.self) (g.A.Access.words c.write.new.self) (λ m x. Replacing r words key v j old m x) (λ m x. (replaced_in r key v j m ≡ changed Replaced x) × IsSumMap r x) (mended_in r r.at key d) c.in_ok-mend.field-0 before same words' q3.reply
+    walks-does good words log (g.A.Access.log c.write.new.self) (g.A.Access.log c.mend.new.acc) (g.A.Access.good c.write.new.self)
+    (g.A.Access.words c.write.new.self) (λ m x. Replacing r words key v j old m x)
+    (λ m x. (replaced_in r key v j m ≡ changed Replaced x) × IsSumMap r x) (mended_in r r.at key d) c.in_ok-mend.field-0 before same words'
+    q3.reply
     (λ m x h i. replaced-is r words key v j old m x h small c.requires.within.1.0 c.requires.within.0 q1.range)
 
 pub returns-clause-reply : goal.returns-clause-reply
@@ -78,8 +94,11 @@ returns-clause-reply g c =
     let q3 = c.in_ok-mend.ensures in
     let d = (v + (2 ^ 64 - c.in_ok-old.old)) % 2 ^ 64 in
     let t = turns-write (g.A.Access.log c.read.new.self) (g.A.Access.log c.write.new.self) (value_at r j) v q2.value in
-    let some = does-after (g.A.Access.good c.write.new.self) (g.A.Access.words c.write.new.self) (g.A.Access.log c.write.new.self) (g.A.Access.log c.mend.new.acc) _ _ (mended_in r r.at key d) c.in_ok-mend.field-0 q3.reply q3.good q3.words q3.explained t.wrote in
-    walks-end good words log (g.A.Access.log c.mend.new.acc) (replaced_in r key v j) Replaced true (wrote-here log (g.A.Access.log c.mend.new.acc) true some refl) (λ m fine len ex. let p = mended-all g at.In_ok-mend (written g at.In_ok-write) m fine len ex in (p.0, p.1.0))
+    let some = does-after (g.A.Access.good c.write.new.self) (g.A.Access.words c.write.new.self) (g.A.Access.log c.write.new.self)
+    (g.A.Access.log c.mend.new.acc) _ _ (mended_in r r.at key d) c.in_ok-mend.field-0 q3.reply q3.good q3.words q3.explained t.wrote in
+    walks-end good words log (g.A.Access.log c.mend.new.acc) (replaced_in r key v j) Replaced true
+    (wrote-here log (g.A.Access.log c.mend.new.acc) true some refl) (λ m fine len ex.
+    let p = mended-all g at.In_ok-mend (written g at.In_ok-write) m fine len ex in (p.0, p.1.0))
 
 pub returns-clause-well : goal.returns-clause-well
 returns-clause-well g c =

@@ -23,7 +23,9 @@ pub returns-then-lo-hi-clause-well : goal.returns-then-lo-hi-clause-well
 returns-then-lo-hi-clause-well g c =
     let r = c.args.self.now in
     let one = c.in_ok-read.ensures in
-    under-after (g.A.Access.good c.args.acc.now) (g.A.Access.words c.args.acc.now) (g.A.Access.log c.args.acc.now) (summed_in r c.args.lo c.args.hi) _ _ _ 0 (IsSumMap r) (IsSumMap r) (returns-then-lo-hi-clause-reply g c) c.requires.well one.good one.words (λ m len w. w)
+    under-after (g.A.Access.good c.args.acc.now) (g.A.Access.words c.args.acc.now) (g.A.Access.log c.args.acc.now)
+    (summed_in r c.args.lo c.args.hi) _ _ _ 0 (IsSumMap r) (IsSumMap r) (returns-then-lo-hi-clause-reply g c) c.requires.well one.good
+    one.words (λ m len w. w)
 
 -- THE TWO WALKS
 pub sum_below-requires-2-clause-well : goal.sum_below-requires-2-clause-well
@@ -47,7 +49,9 @@ returns-clause-reply g c =
     let two = c.in_ok-lower.ensures in
     let f = c.if-lo-hi.false in
     let le : lo ≤ hi = omega arith in
-    let both = shows-then good words log (g.A.Access.log c.sum_below.new.acc) (g.A.Access.log c.sum_below-2.new.acc) _ _ (λ m. upper ≡ sum_within r m 0 (hi + 2) r.cells % 2 ^ 64) (λ m. lower ≡ sum_within r m 0 (lo + 1) r.cells % 2 ^ 64) one.sums one.writes one.good one.words two.sums in
+    let both = shows-then good words log (g.A.Access.log c.sum_below.new.acc) (g.A.Access.log c.sum_below-2.new.acc) _ _
+    (λ m. upper ≡ sum_within r m 0 (hi + 2) r.cells % 2 ^ 64) (λ m. lower ≡ sum_within r m 0 (lo + 1) r.cells % 2 ^ 64) one.sums one.writes
+    one.good one.words two.sums in
     does-stay good words log (summed_in r lo hi) (g.A.Access.log c.sum_below-2.new.acc) ((upper + (2 ^ 64 - lower)) % 2 ^ 64) (IsSumMap r) c.requires.well (two.writes ∙ one.writes)
     (λ m. (upper ≡ sum_within r m 0 (hi + 2) r.cells % 2 ^ 64) × (lower ≡ sum_within r m 0 (lo + 1) r.cells % 2 ^ 64)) both
     (λ m h e. summed-is r m lo hi upper lower ((upper + (2 ^ 64 - lower)) % 2 ^ 64) le e.0 e.1 refl)
@@ -57,4 +61,6 @@ returns-clause-well g c =
     let r = c.args.self.now in
     let one = c.in_ok-upper.ensures in
     let two = c.in_ok-lower.ensures in
-    under-after (g.A.Access.good c.args.acc.now) (g.A.Access.words c.args.acc.now) (g.A.Access.log c.args.acc.now) (summed_in r c.args.lo c.args.hi) _ _ _ _ (IsSumMap r) (IsSumMap r) (returns-clause-reply g c) c.requires.well (same-trans _ _ _ one.good two.good) (two.words ∙ one.words) (λ m len w. w)
+    under-after (g.A.Access.good c.args.acc.now) (g.A.Access.words c.args.acc.now) (g.A.Access.log c.args.acc.now)
+    (summed_in r c.args.lo c.args.hi) _ _ _ _ (IsSumMap r) (IsSumMap r) (returns-clause-reply g c) c.requires.well
+    (same-trans _ _ _ one.good two.good) (two.words ∙ one.words) (λ m len w. w)

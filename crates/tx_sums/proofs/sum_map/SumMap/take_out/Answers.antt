@@ -12,7 +12,10 @@ use Rattle.tx_sums.proofs.sum_map.SumMap.take_out.Goals.{In_ok-greater, In_ok-sp
 use Rattle.tx_sums.proofs.sum_map.SumMap.take_out.Goals as goal
 
 -- what is read of the cell's links
-read-links : (g : _) (c : In_ok-greater g) → Shows (g.A.Access.good c.args.acc.now) (g.A.Access.words c.args.acc.now) (g.A.Access.log c.args.acc.now) (g.A.Access.log c.read-2.new.self) (Cutting c.args.self.now (g.A.Access.words c.args.acc.now) c.args.cell c.args.link c.in_ok-lesser.lesser c.in_ok-greater.greater)
+read-links : (g : _) (c : In_ok-greater g)
+    → Shows (g.A.Access.good c.args.acc.now) (g.A.Access.words c.args.acc.now) (g.A.Access.log c.args.acc.now)
+    (g.A.Access.log c.read-2.new.self)
+    (Cutting c.args.self.now (g.A.Access.words c.args.acc.now) c.args.cell c.args.link c.in_ok-lesser.lesser c.in_ok-greater.greater)
 read-links g c =
     let good = g.A.Access.good c.args.acc.now in
     let words = g.A.Access.words c.args.acc.now in
@@ -25,21 +28,34 @@ read-links g c =
     let P = λ (m : List ℕ). IsEmptied r x c.args.link m × (length m ≡ words) in
     let start : Shows good words log log P = λ m fine len ex. (ex, (c.requires.well m fine len ex, overlay-length m log.writes ∙ len)) in
     let q1 = shows-read good words log log (g.A.Access.log c.read.new.self) P (λ m. P m × (u ≡ get_or m (left_at r x) 0)) (left_at r x) u start refl (omega arith) c.in_ok-lesser.ensures.value (λ m h i. (h, i)) in
-    shows-read good words log (g.A.Access.log c.read.new.self) (g.A.Access.log c.read-2.new.self) (λ m. P m × (u ≡ get_or m (left_at r x) 0)) (Cutting r words x c.args.link u v) (right_at r x) v q1 c.in_ok-lesser.ensures.value.0 (omega arith) c.in_ok-greater.ensures.value (λ m h i. record { well = h.0.0; long = h.0.1; left = h.1; right = i })
+    shows-read good words log (g.A.Access.log c.read.new.self) (g.A.Access.log c.read-2.new.self)
+    (λ m. P m × (u ≡ get_or m (left_at r x) 0)) (Cutting r words x c.args.link u v) (right_at r x) v q1 c.in_ok-lesser.ensures.value.0
+    (omega arith) c.in_ok-greater.ensures.value (λ m h i. record { well = h.0.0; long = h.0.1; left = h.1; right = i })
 
 -- NOTHING ON THE LEFT
-right-out-right : (g : _) (c : In_ok-splice g) → Shows (g.A.Access.good c.args.acc.now) (g.A.Access.words c.args.acc.now) (g.A.Access.log c.args.acc.now) (g.A.Access.log c.read-2.new.self) (Cutting c.args.self.now (g.A.Access.words c.args.acc.now) c.args.cell c.args.link c.in_ok-lesser.lesser c.in_ok-greater.greater)
-    → Walks (g.A.Access.good c.args.acc.now) (g.A.Access.words c.args.acc.now) (g.A.Access.log c.args.acc.now) (g.A.Access.log c.splice.new.acc) (λ m z. (taken_in c.args.self.now c.args.cell c.args.link m ≡ changed true z) × IsSumMap c.args.self.now z)
+right-out-right : (g : _) (c : In_ok-splice g)
+    → Shows (g.A.Access.good c.args.acc.now) (g.A.Access.words c.args.acc.now) (g.A.Access.log c.args.acc.now)
+    (g.A.Access.log c.read-2.new.self)
+    (Cutting c.args.self.now (g.A.Access.words c.args.acc.now) c.args.cell c.args.link c.in_ok-lesser.lesser c.in_ok-greater.greater)
+    → Walks (g.A.Access.good c.args.acc.now) (g.A.Access.words c.args.acc.now) (g.A.Access.log c.args.acc.now)
+    (g.A.Access.log c.splice.new.acc) (λ m z.
+    (taken_in c.args.self.now c.args.cell c.args.link m ≡ changed true z) × IsSumMap c.args.self.now z)
 right-out-right g c reads =
     let w = c.requires.within in
-    walks-cut (g.A.Access.good c.args.acc.now) (g.A.Access.words c.args.acc.now) (g.A.Access.log c.args.acc.now) (g.A.Access.log c.read-2.new.self) (g.A.Access.log c.splice.new.acc) c.args.self.now c.args.cell c.args.link c.in_ok-lesser.lesser c.in_ok-greater.greater c.in_ok-greater.greater reads (c.in_ok-greater.ensures.value.0 ∙ c.in_ok-lesser.ensures.value.0) c.in_ok-splice.ensures.turns
+    walks-cut (g.A.Access.good c.args.acc.now) (g.A.Access.words c.args.acc.now) (g.A.Access.log c.args.acc.now)
+    (g.A.Access.log c.read-2.new.self) (g.A.Access.log c.splice.new.acc) c.args.self.now c.args.cell c.args.link c.in_ok-lesser.lesser
+    c.in_ok-greater.greater c.in_ok-greater.greater reads (c.in_ok-greater.ensures.value.0 ∙ c.in_ok-lesser.ensures.value.0)
+    c.in_ok-splice.ensures.turns
     (λ m h. let l = h.long in out-right c.args.self.now m c.args.cell c.args.link _ _ h.well (omega arith) h.left c.if-lesser-eq0.true h.right)
 
 pub returns-then-lesser-eq0-clause-reply : goal.returns-then-lesser-eq0-clause-reply
 returns-then-lesser-eq0-clause-reply g c =
     let at = goal.at.returns-then-lesser-eq0-clause-reply g c in
     let log = g.A.Access.log c.args.acc.now in
-    walks-end (g.A.Access.good c.args.acc.now) (g.A.Access.words c.args.acc.now) log (g.A.Access.log c.splice.new.acc) (taken_in c.args.self.now c.args.cell c.args.link) true true (wrote-here log (g.A.Access.log c.splice.new.acc) true c.in_ok-splice.ensures.turns.wrote refl) (λ m fine len ex. let p = right-out-right g at.In_ok-splice (read-links g at.In_ok-greater) m fine len ex in (p.0, p.1.0))
+    walks-end (g.A.Access.good c.args.acc.now) (g.A.Access.words c.args.acc.now) log (g.A.Access.log c.splice.new.acc)
+    (taken_in c.args.self.now c.args.cell c.args.link) true true
+    (wrote-here log (g.A.Access.log c.splice.new.acc) true c.in_ok-splice.ensures.turns.wrote refl) (λ m fine len ex.
+    let p = right-out-right g at.In_ok-splice (read-links g at.In_ok-greater) m fine len ex in (p.0, p.1.0))
 
 pub returns-then-lesser-eq0-clause-well : goal.returns-then-lesser-eq0-clause-well
 returns-then-lesser-eq0-clause-well g c =
@@ -49,19 +65,30 @@ returns-then-lesser-eq0-clause-well g c =
     λ m fine len ex. (right-out-right g at.In_ok-splice (read-links g at.In_ok-greater) m ((all m).1 fine) (len ∙ (q3.words ∙ (q2.words ∙ q1.words))) ex).1.1
 
 -- NOTHING ON THE RIGHT
-left-out-left : (g : _) (c : In_ok-splice-2 g) → Shows (g.A.Access.good c.args.acc.now) (g.A.Access.words c.args.acc.now) (g.A.Access.log c.args.acc.now) (g.A.Access.log c.read-2.new.self) (Cutting c.args.self.now (g.A.Access.words c.args.acc.now) c.args.cell c.args.link c.in_ok-lesser.lesser c.in_ok-greater.greater)
-    → Walks (g.A.Access.good c.args.acc.now) (g.A.Access.words c.args.acc.now) (g.A.Access.log c.args.acc.now) (g.A.Access.log c.splice-then-greater-eq0.new.acc) (λ m z. (taken_in c.args.self.now c.args.cell c.args.link m ≡ changed true z) × IsSumMap c.args.self.now z)
+left-out-left : (g : _) (c : In_ok-splice-2 g)
+    → Shows (g.A.Access.good c.args.acc.now) (g.A.Access.words c.args.acc.now) (g.A.Access.log c.args.acc.now)
+    (g.A.Access.log c.read-2.new.self)
+    (Cutting c.args.self.now (g.A.Access.words c.args.acc.now) c.args.cell c.args.link c.in_ok-lesser.lesser c.in_ok-greater.greater)
+    → Walks (g.A.Access.good c.args.acc.now) (g.A.Access.words c.args.acc.now) (g.A.Access.log c.args.acc.now)
+    (g.A.Access.log c.splice-then-greater-eq0.new.acc) (λ m z.
+    (taken_in c.args.self.now c.args.cell c.args.link m ≡ changed true z) × IsSumMap c.args.self.now z)
 left-out-left g c reads =
     let w = c.requires.within in
     let z = c.if-lesser-eq0.false in
-    walks-cut (g.A.Access.good c.args.acc.now) (g.A.Access.words c.args.acc.now) (g.A.Access.log c.args.acc.now) (g.A.Access.log c.read-2.new.self) (g.A.Access.log c.splice-then-greater-eq0.new.acc) c.args.self.now c.args.cell c.args.link c.in_ok-lesser.lesser c.in_ok-greater.greater c.in_ok-lesser.lesser reads (c.in_ok-greater.ensures.value.0 ∙ c.in_ok-lesser.ensures.value.0) c.in_ok-splice-2.ensures.turns
+    walks-cut (g.A.Access.good c.args.acc.now) (g.A.Access.words c.args.acc.now) (g.A.Access.log c.args.acc.now)
+    (g.A.Access.log c.read-2.new.self) (g.A.Access.log c.splice-then-greater-eq0.new.acc) c.args.self.now c.args.cell c.args.link
+    c.in_ok-lesser.lesser c.in_ok-greater.greater c.in_ok-lesser.lesser reads
+    (c.in_ok-greater.ensures.value.0 ∙ c.in_ok-lesser.ensures.value.0) c.in_ok-splice-2.ensures.turns
     (λ m h. let l = h.long in out-left c.args.self.now m c.args.cell c.args.link _ _ h.well (omega arith) h.left (λ i. absurd (omega arith)) h.right c.if-greater-eq0.true)
 
 pub returns-then-greater-eq0-clause-reply : goal.returns-then-greater-eq0-clause-reply
 returns-then-greater-eq0-clause-reply g c =
     let at = goal.at.returns-then-greater-eq0-clause-reply g c in
     let log = g.A.Access.log c.args.acc.now in
-    walks-end (g.A.Access.good c.args.acc.now) (g.A.Access.words c.args.acc.now) log (g.A.Access.log c.splice-then-greater-eq0.new.acc) (taken_in c.args.self.now c.args.cell c.args.link) true true (wrote-here log (g.A.Access.log c.splice-then-greater-eq0.new.acc) true c.in_ok-splice-2.ensures.turns.wrote refl) (λ m fine len ex. let p = left-out-left g at.In_ok-splice-2 (read-links g at.In_ok-greater) m fine len ex in (p.0, p.1.0))
+    walks-end (g.A.Access.good c.args.acc.now) (g.A.Access.words c.args.acc.now) log (g.A.Access.log c.splice-then-greater-eq0.new.acc)
+    (taken_in c.args.self.now c.args.cell c.args.link) true true
+    (wrote-here log (g.A.Access.log c.splice-then-greater-eq0.new.acc) true c.in_ok-splice-2.ensures.turns.wrote refl) (λ m fine len ex.
+    let p = left-out-left g at.In_ok-splice-2 (read-links g at.In_ok-greater) m fine len ex in (p.0, p.1.0))
 
 pub returns-then-greater-eq0-clause-well : goal.returns-then-greater-eq0-clause-well
 returns-then-greater-eq0-clause-well g c =
@@ -83,7 +110,9 @@ take_least-requires-clause-within g c =
     let w = c.requires.within in
     let q1 = c.in_ok-lesser.ensures in let q2 = c.in_ok-greater.ensures in
     let z = c.if-greater-eq0.false in
-    let most = shown good words log (g.A.Access.log c.read-2.new.self) _ _ (Cutting r words x c.args.link u v) (v ≤ r.cells) (read-links g (goal.at.take_least-requires-clause-within g c).In_ok-greater) (same-trans _ _ _ q1.good q2.good) (q2.words ∙ q1.words) q2.explained
+    let most = shown good words log (g.A.Access.log c.read-2.new.self) _ _ (Cutting r words x c.args.link u v) (v ≤ r.cells)
+    (read-links g (goal.at.take_least-requires-clause-within g c).In_ok-greater) (same-trans _ _ _ q1.good q2.good) (q2.words ∙ q1.words)
+    q2.explained
     (λ m h. let le = (cell-inside (pool r) m h.well.well.0 x h.well.well.1.shape w.0).1 in let i = h.right in omega arith) in
     (w.0, omega arith, most, (omega arith, w.2.1))
 

@@ -58,7 +58,9 @@ returns-then-tag-key-clause-finds g c =
     let e : v ≡ suc j = omega arith in
     let room = cell-end r j (omega arith) in
     let same = c.if-tag-key.true in
-    shows-read (g.A.Access.good c.args.acc.now) (g.A.Access.words c.args.acc.now) (g.A.Access.log c.args.acc.now) _ _ (Walked r c.args.key a v n) (λ m. record { link = a; next = v; tag = t } ≡ position_of r m c.args.key) (tag_at r j) t inv.shows inv.writes
+    shows-read (g.A.Access.good c.args.acc.now) (g.A.Access.words c.args.acc.now) (g.A.Access.log c.args.acc.now) _ _
+    (Walked r c.args.key a v n) (λ m. record { link = a; next = v; tag = t } ≡ position_of r m c.args.key) (tag_at r j) t inv.shows
+    inv.writes
     (omega arith) c.in_ok-tag.ensures.value (λ m h x. find-stop r m c.args.key n a v j t pos h.at e x same ∙ sym h.on)
 
 pub loop-step-preserved : goal.loop-step-preserved

@@ -54,7 +54,9 @@ returns-then-left-eq0-clause-finds g c =
     let none = c.if-left-eq0.true in
     let room = cell-end r j (omega arith) in
     let lefts = shows-read good words log _ _ (WalkedLeft r from a v n) (λ m. WalkedLeft r from a v n m × (u ≡ get_or m (left_at r j) 0)) (left_at r j) u inv.shows inv.writes (omega arith) one.value (λ m h x. (h, x)) in
-    shows-read good words log _ _ (λ m. WalkedLeft r from a v n m × (u ≡ get_or m (left_at r j) 0)) (λ m. record { link = a; next = v; tag = t } ≡ leftmost r m r.cells from) (tag_at r j) t lefts (one.value.0 ∙ inv.writes) (omega arith) two.value
+    shows-read good words log _ _ (λ m. WalkedLeft r from a v n m × (u ≡ get_or m (left_at r j) 0))
+    (λ m. record { link = a; next = v; tag = t } ≡ leftmost r m r.cells from) (tag_at r j) t lefts (one.value.0 ∙ inv.writes) (omega arith)
+    two.value
     (λ m h x. leftmost-stop r m n a v j u t pos h.0.at e h.1 none x ∙ sym h.0.on)
 
 pub loop-step-preserved : goal.loop-step-preserved

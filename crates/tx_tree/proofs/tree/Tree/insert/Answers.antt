@@ -71,5 +71,8 @@ returns-in_ok-write-in-Some-2-clause-well g c =
     let q1 = c.in_ok-free_cell.ensures in
     let q2 = c.in_ok-write-in-Some.ensures in
     let q3 = c.in_ok-write-in-Some-2.ensures in
-    under-after (g.A.Access.good c.args.acc.now) (g.A.Access.words c.args.acc.now) (g.A.Access.log c.args.acc.now) (inserted_in r key) _ _ _ Added (IsTree r) (IsTree r) (returns-in_ok-write-in-Some-2-clause-reply g c) c.requires.well (same-trans _ _ _ q0.good (same-trans _ _ _ q1.good (same-trans _ _ _ q2.good (q3.good)))) (q3.words ∙ (q2.words ∙ (q1.words ∙ q0.words)))
+    under-after (g.A.Access.good c.args.acc.now) (g.A.Access.words c.args.acc.now) (g.A.Access.log c.args.acc.now) (inserted_in r key) _ _ _
+    Added (IsTree r) (IsTree r) (returns-in_ok-write-in-Some-2-clause-reply g c) c.requires.well
+    (same-trans _ _ _ q0.good (same-trans _ _ _ q1.good (same-trans _ _ _ q2.good (q3.good))))
+    (q3.words ∙ (q2.words ∙ (q1.words ∙ q0.words)))
     (λ m len w. inserted-keeps r m key w small (omega arith))

@@ -48,7 +48,9 @@ opened g c =
     let lies = c.requires.within in
     let P = λ (m : List ℕ). (s ≡ position_of r m c.args.key) × (c.in_ok-lesser.lesser ≡ get_or m (left_at r i) 0) in
     let q1 = shows-read good words log _ _ (λ m. s ≡ position_of r m c.args.key) P (left_at r i) c.in_ok-lesser.lesser one.finds one.writes (omega arith) two.value (λ m h x. (h, x)) in
-    shows-read good words log _ _ P (Opened r c.args.key s c.in_ok-lesser.lesser c.in_ok-greater.greater) (right_at r i) c.in_ok-greater.greater q1 (two.value.0 ∙ one.writes) (omega arith) c.in_ok-greater.ensures.value (λ m h x. record { place = h.0; left = h.1; right = x })
+    shows-read good words log _ _ P (Opened r c.args.key s c.in_ok-lesser.lesser c.in_ok-greater.greater) (right_at r i)
+    c.in_ok-greater.greater q1 (two.value.0 ∙ one.writes) (omega arith) c.in_ok-greater.ensures.value (λ m h x.
+    record { place = h.0; left = h.1; right = x })
 
 opened-writes : (g : _) (c : In_ok-greater g) → (g.A.Access.log c.read-2.new.self).writes ≡ (g.A.Access.log c.args.acc.now).writes
 opened-writes g c = c.in_ok-greater.ensures.value.0 ∙ (c.in_ok-lesser.ensures.value.0 ∙ c.in_ok-position.ensures.writes)
@@ -69,7 +71,9 @@ returns-then-lesser-eq0-clause-reply g c =
     let r = c.args.self.now in
     let s = c.in_ok-position.position in
     let i = s.next - 1 in
-    does-change (g.A.Access.good c.args.acc.now) (g.A.Access.words c.args.acc.now) (g.A.Access.log c.args.acc.now) (removed_in r c.args.key) _ _ true (IsTree r) c.requires.well (opened-writes g o) (Opened c.args.self.now c.args.key c.in_ok-position.position c.in_ok-lesser.lesser c.in_ok-greater.greater) (opened g o)
+    does-change (g.A.Access.good c.args.acc.now) (g.A.Access.words c.args.acc.now) (g.A.Access.log c.args.acc.now) (removed_in r c.args.key)
+    _ _ true (IsTree r) c.requires.well (opened-writes g o)
+    (Opened c.args.self.now c.args.key c.in_ok-position.position c.in_ok-lesser.lesser c.in_ok-greater.greater) (opened g o)
     (spliced r i s.link c.in_ok-greater.greater) c.in_ok-splice.ensures.turns
     (λ m w h. removed-right r m c.args.key w (small-key g o) s i h.place (tag-is g o) (next-is g o) _ _ h.left c.if-lesser-eq0.true h.right)
 
@@ -89,7 +93,9 @@ returns-then-greater-eq0-clause-reply g c =
     let s = c.in_ok-position.position in
     let i = s.next - 1 in
     let z = c.if-lesser-eq0.false in
-    does-change (g.A.Access.good c.args.acc.now) (g.A.Access.words c.args.acc.now) (g.A.Access.log c.args.acc.now) (removed_in r c.args.key) _ _ true (IsTree r) c.requires.well (opened-writes g o) (Opened c.args.self.now c.args.key c.in_ok-position.position c.in_ok-lesser.lesser c.in_ok-greater.greater) (opened g o)
+    does-change (g.A.Access.good c.args.acc.now) (g.A.Access.words c.args.acc.now) (g.A.Access.log c.args.acc.now) (removed_in r c.args.key)
+    _ _ true (IsTree r) c.requires.well (opened-writes g o)
+    (Opened c.args.self.now c.args.key c.in_ok-position.position c.in_ok-lesser.lesser c.in_ok-greater.greater) (opened g o)
     (spliced r i s.link c.in_ok-lesser.lesser) c.in_ok-splice-2.ensures.turns
     (λ m w h. removed-left r m c.args.key w (small-key g o) s i h.place (tag-is g o) (next-is g o) _ _ h.left (λ x. absurd (omega arith)) h.right c.if-greater-eq0.true)
 
@@ -111,7 +117,9 @@ leftmost-requires-clause-within g c =
     let e = next-is g o in
     let in' = c.in_ok-position.ensures.inside in
     let lies = c.requires.within in
-    let below = shown (g.A.Access.good c.args.acc.now) (g.A.Access.words c.args.acc.now) (g.A.Access.log c.args.acc.now) (g.A.Access.log c.read-2.new.self) _ _ (λ m. IsTree r m × (c.in_ok-greater.greater ≡ get_or m (right_at r i) 0)) (c.in_ok-greater.greater ≤ r.cells)
+    let below = shown (g.A.Access.good c.args.acc.now) (g.A.Access.words c.args.acc.now) (g.A.Access.log c.args.acc.now)
+    (g.A.Access.log c.read-2.new.self) _ _ (λ m. IsTree r m × (c.in_ok-greater.greater ≡ get_or m (right_at r i) 0))
+    (c.in_ok-greater.greater ≤ r.cells)
     (λ m fine len ex. (let x = opened g o m fine len ex in (x.0, (c.requires.well m fine len x.0, x.1.right)))) (opened-good g o) (opened-words g o) c.in_ok-greater.ensures.explained
     (λ m h. let le = (cell-inside (pool r) m h.0.0 i h.0.1 (omega arith)).1 in let x = h.1 in omega arith) in
     (omega arith, below, (omega arith, omega arith))
@@ -119,7 +127,10 @@ leftmost-requires-clause-within g c =
 pub leftmost-requires-clause-well : goal.leftmost-requires-clause-well
 leftmost-requires-clause-well g c =
     let o = (goal.at.leftmost-requires-clause-well g c).In_ok-greater in
-    let h = under-now (g.A.Access.good c.args.acc.now) (g.A.Access.words c.args.acc.now) (g.A.Access.log c.args.acc.now) (g.A.Access.log c.read-2.new.self) (g.A.Access.good c.read-2.new.self) (g.A.Access.words c.read-2.new.self) (IsTree c.args.self.now) (Opened c.args.self.now c.args.key c.in_ok-position.position c.in_ok-lesser.lesser c.in_ok-greater.greater) c.requires.well (opened g o) (opened-writes g o) (opened-good g o) (opened-words g o) in
+    let h = under-now (g.A.Access.good c.args.acc.now) (g.A.Access.words c.args.acc.now) (g.A.Access.log c.args.acc.now)
+    (g.A.Access.log c.read-2.new.self) (g.A.Access.good c.read-2.new.self) (g.A.Access.words c.read-2.new.self) (IsTree c.args.self.now)
+    (Opened c.args.self.now c.args.key c.in_ok-position.position c.in_ok-lesser.lesser c.in_ok-greater.greater) c.requires.well (opened g o)
+    (opened-writes g o) (opened-good g o) (opened-words g o) in
     λ m fine len ex. let x = h m fine len ex in record { well = x.0; at = x.1.right }
 
 pub unreachable-requires : goal.unreachable-requires
@@ -130,11 +141,17 @@ unreachable-requires g c =
     let i = s.next - 1 in
     let four = c.in_ok-least.ensures in
     let p = c.in_ok-least.least in
-    let least = shows-then (g.A.Access.good c.args.acc.now) (g.A.Access.words c.args.acc.now) (g.A.Access.log c.args.acc.now) (g.A.Access.log c.read-2.new.self) (g.A.Access.log c.leftmost.new.acc) _ _ (Opened r c.args.key s c.in_ok-lesser.lesser c.in_ok-greater.greater) (λ m. p ≡ leftmost r m r.cells (right_at r i)) (opened g o) (opened-writes g o) (opened-good g o) (opened-words g o) four.finds in
+    let least = shows-then (g.A.Access.good c.args.acc.now) (g.A.Access.words c.args.acc.now) (g.A.Access.log c.args.acc.now)
+    (g.A.Access.log c.read-2.new.self) (g.A.Access.log c.leftmost.new.acc) _ _
+    (Opened r c.args.key s c.in_ok-lesser.lesser c.in_ok-greater.greater) (λ m. p ≡ leftmost r m r.cells (right_at r i)) (opened g o)
+    (opened-writes g o) (opened-good g o) (opened-words g o) four.finds in
     let e = next-is g o in
     let in' = c.in_ok-position.ensures.inside in
     let z = c.if-greater-eq0.false in
-    let some = shown (g.A.Access.good c.args.acc.now) (g.A.Access.words c.args.acc.now) (g.A.Access.log c.args.acc.now) (g.A.Access.log c.leftmost.new.acc) _ _ (λ m. IsTree r m × (Opened r c.args.key s c.in_ok-lesser.lesser c.in_ok-greater.greater m × (p ≡ leftmost r m r.cells (right_at r i)))) (p.next ≡ 0 → ⊥)
+    let some = shown (g.A.Access.good c.args.acc.now) (g.A.Access.words c.args.acc.now) (g.A.Access.log c.args.acc.now)
+    (g.A.Access.log c.leftmost.new.acc) _ _
+    (λ m. IsTree r m × (Opened r c.args.key s c.in_ok-lesser.lesser c.in_ok-greater.greater m × (p ≡ leftmost r m r.cells (right_at r i))))
+    (p.next ≡ 0 → ⊥)
     (λ m fine len ex. (let x = least m fine len ex in (x.0, (c.requires.well m fine len x.0, x.1)))) (same-trans _ _ _ (opened-good g o) four.good) (four.words ∙ opened-words g o) four.explained
     (λ m h. (least-some r m c.args.key h.0 (small-key g o) s i h.1.0.place (tag-is g o) e c.in_ok-greater.greater p (omega arith) h.1.0.right (λ x. absurd (omega arith)) h.1.1).0) in
     some c.if-least-eq0.true
@@ -152,7 +169,10 @@ returns-clause-reply g c =
     let v = c.in_ok-greater.greater in
     let four = c.in_ok-least.ensures in
     let p = c.in_ok-least.least in
-    let least = shows-then (g.A.Access.good c.args.acc.now) (g.A.Access.words c.args.acc.now) (g.A.Access.log c.args.acc.now) (g.A.Access.log c.read-2.new.self) (g.A.Access.log c.leftmost.new.acc) _ _ (Opened r c.args.key s c.in_ok-lesser.lesser c.in_ok-greater.greater) (λ m. p ≡ leftmost r m r.cells (right_at r i)) (opened g o) (opened-writes g o) (opened-good g o) (opened-words g o) four.finds in
+    let least = shows-then (g.A.Access.good c.args.acc.now) (g.A.Access.words c.args.acc.now) (g.A.Access.log c.args.acc.now)
+    (g.A.Access.log c.read-2.new.self) (g.A.Access.log c.leftmost.new.acc) _ _
+    (Opened r c.args.key s c.in_ok-lesser.lesser c.in_ok-greater.greater) (λ m. p ≡ leftmost r m r.cells (right_at r i)) (opened g o)
+    (opened-writes g o) (opened-good g o) (opened-words g o) four.finds in
     let y = p.next - 1 in
     let a = c.in_ok-after.after in
     let b = four.inside in
@@ -175,16 +195,27 @@ returns-clause-well g c =
     let q4 = c.in_ok-after.ensures in
     let q5 = c.in_ok-splice-3.ensures in
     let q6 = c.in_ok-write.ensures in
-    removal-keeps _ _ _ _ _ _ _ _ _ (small-key g o) c.requires.within.0 c.requires.well (returns-clause-reply g c) (same-trans _ _ _ (opened-good g o) (same-trans _ _ _ q3.good (same-trans _ _ _ q4.good (same-trans _ _ _ q5.good q6.good)))) (q6.words ∙ (q5.words ∙ (q4.words ∙ (q3.words ∙ opened-words g o))))
+    removal-keeps _ _ _ _ _ _ _ _ _ (small-key g o) c.requires.within.0 c.requires.well (returns-clause-reply g c)
+    (same-trans _ _ _ (opened-good g o) (same-trans _ _ _ q3.good (same-trans _ _ _ q4.good (same-trans _ _ _ q5.good q6.good))))
+    (q6.words ∙ (q5.words ∙ (q4.words ∙ (q3.words ∙ opened-words g o))))
 
 pub returns-in_err-after-clause-keeps : goal.returns-in_err-after-clause-keeps
 returns-in_err-after-clause-keeps g c = g.met.A.Access.keeps_trans _ _ _ (opened-keeps g (goal.at.returns-in_err-after-clause-keeps g c).In_ok-greater) (g.met.A.Access.keeps_trans _ _ _ c.in_ok-least.ensures.keeps c.in_err-after.ensures.keeps)
 
 pub returns-in_err-splice-3-clause-keeps : goal.returns-in_err-splice-3-clause-keeps
-returns-in_err-splice-3-clause-keeps g c = g.met.A.Access.keeps_trans _ _ _ (opened-keeps g (goal.at.returns-in_err-splice-3-clause-keeps g c).In_ok-greater) (g.met.A.Access.keeps_trans _ _ _ c.in_ok-least.ensures.keeps (g.met.A.Access.keeps_trans _ _ _ c.in_ok-after.ensures.keeps c.in_err-splice-3.ensures.keeps))
+returns-in_err-splice-3-clause-keeps g c =
+    g.met.A.Access.keeps_trans _ _ _ (opened-keeps g (goal.at.returns-in_err-splice-3-clause-keeps g c).In_ok-greater)
+    (g.met.A.Access.keeps_trans _ _ _ c.in_ok-least.ensures.keeps
+    (g.met.A.Access.keeps_trans _ _ _ c.in_ok-after.ensures.keeps c.in_err-splice-3.ensures.keeps))
 
 pub returns-in_err-write-clause-keeps : goal.returns-in_err-write-clause-keeps
-returns-in_err-write-clause-keeps g c = g.met.A.Access.keeps_trans _ _ _ (opened-keeps g (goal.at.returns-in_err-write-clause-keeps g c).In_ok-greater) (g.met.A.Access.keeps_trans _ _ _ c.in_ok-least.ensures.keeps (g.met.A.Access.keeps_trans _ _ _ c.in_ok-after.ensures.keeps (g.met.A.Access.keeps_trans _ _ _ c.in_ok-splice-3.ensures.keeps c.in_err-write.ensures.keeps)))
+returns-in_err-write-clause-keeps g c =
+    g.met.A.Access.keeps_trans _ _ _ (opened-keeps g (goal.at.returns-in_err-write-clause-keeps g c).In_ok-greater)
+    (g.met.A.Access.keeps_trans _ _ _ c.in_ok-least.ensures.keeps (g.met.A.Access.keeps_trans _ _ _ c.in_ok-after.ensures.keeps
+    (g.met.A.Access.keeps_trans _ _ _ c.in_ok-splice-3.ensures.keeps c.in_err-write.ensures.keeps)))
 
 pub returns-clause-keeps : goal.returns-clause-keeps
-returns-clause-keeps g c = g.met.A.Access.keeps_trans _ _ _ (opened-keeps g (goal.at.returns-clause-keeps g c).In_ok-greater) (g.met.A.Access.keeps_trans _ _ _ c.in_ok-least.ensures.keeps (g.met.A.Access.keeps_trans _ _ _ c.in_ok-after.ensures.keeps (g.met.A.Access.keeps_trans _ _ _ c.in_ok-splice-3.ensures.keeps c.in_ok-write.ensures.keeps)))
+returns-clause-keeps g c =
+    g.met.A.Access.keeps_trans _ _ _ (opened-keeps g (goal.at.returns-clause-keeps g c).In_ok-greater)
+    (g.met.A.Access.keeps_trans _ _ _ c.in_ok-least.ensures.keeps (g.met.A.Access.keeps_trans _ _ _ c.in_ok-after.ensures.keeps
+    (g.met.A.Access.keeps_trans _ _ _ c.in_ok-splice-3.ensures.keeps c.in_ok-write.ensures.keeps)))
