@@ -5,15 +5,12 @@ ghost use Rattle.std.specs.Prelude.{◌≡◌, ◌<◌};
 use std::alloc::Global;
 use std::sync::Wait;
 use std::test::Fail;
-use stm_tx::{ALGORITHMS, Access, AnyMem, Config, Stop};
-use tx_atomic::transaction::Transaction;
-use tx_logs::write_log::WriteLog;
+use stm_tx::{ALGORITHMS, AnyMem, Config, Stop};
 use tx_parts::nesting::Nesting;
 use tx_parts::or_else::OrElse;
 use tx_parts::part::Part;
 use tx_parts::then::Then;
 use tx_parts::whole::{Awaited, Whole};
-use tx_parts::wholly::{PartOutcome, wholly};
 use tx_start::caller::Caller;
 use tx_start::job::Job;
 use tx_start::memory::with_memory;
@@ -406,83 +403,6 @@ fn a_part_is_awaited(rt: HostRuntime) -> Result<(), Fail> {
         for answer in came.answers.iter() {
             assert!(rt; answer.value);
         }
-    }
-    Ok(())
-}
-
-/// Lends one log, which has room for two words, to a part that writes two words, and then to one that writes three.
-#[derive(Drop)]
-struct LendsTwice {
-    alloc: Global,
-}
-
-impl Transaction<AnyMem> for LendsTwice {
-    ghost use Rattle.std.specs.Prelude.{◌<◌};
-
-    type Output = bool;
-
-    ghost precondition = { λ it rule words. 2 < words };
-
-    ghost postcondition = { λ it rule words came log. Unit {0} };
-
-    fn run<A: Access>(&self, rule: &AnyMem, memory: &mut A) -> Result<bool, Stop> {
-        memory.read(0)?;
-        let Ok(mut room) = WriteLog::new(self.alloc, 2) else {
-            return Ok(false);
-        };
-        let two = Then {
-            first: Put { at: 0, amount: 1 },
-            second: Put { at: 1, amount: 2 },
-        };
-        let three = Then {
-            first: two,
-            second: Put { at: 2, amount: 3 },
-        };
-        let first = wholly(&two, rule, memory, &mut room)?;
-        let left = room.count();
-        let second = wholly(&three, rule, memory, &mut room)?;
-        // the log shows the words that there was room for, as they would have been
-        Ok(
-            matches!(first, PartOutcome::Done(_))
-                && left == 0
-                && matches!(second, PartOutcome::NoRoom { limit: 2 })
-                && room.count() == 2
-                && room.find(0) == Some(2)
-                && room.find(1) == Some(4),
-        )
-    }
-}
-
-/// The caller runs it once.
-#[derive(Drop)]
-struct Lend {
-    alloc: Global,
-}
-
-impl<R: Wait> Job<R, AnyMem> for Lend {
-    ghost use Rattle.std.specs.Prelude.{◌<◌};
-
-    type Output = bool;
-
-    ghost precondition = { λ job rule words. 2 < words };
-
-    ghost postcondition = { λ job rule words caller answer before after. Unit {0} };
-
-    fn work(&self, caller: &mut Caller<'_, R, AnyMem>) -> bool {
-        caller.run(&LendsTwice { alloc: self.alloc }) == Some(true)
-    }
-}
-
-#[test]
-fn a_lent_log_serves_twice_and_shows_want_of_room(rt: HostRuntime) -> Result<(), Fail> {
-    let job = Lend { alloc: rt.alloc() };
-    for alg in ALGORITHMS {
-        let came = with_memory(&rt, rt.alloc(), sizes(3, 1), alg, AnyMem, &job)?;
-        assert!(rt; came.answers[0].value);
-        // the second part left nothing
-        assert_eq!(rt; came.words.get(0).copied(), Some(1));
-        assert_eq!(rt; came.words.get(1).copied(), Some(2));
-        assert_eq!(rt; came.words.get(2).copied(), Some(0));
     }
     Ok(())
 }
