@@ -46,9 +46,11 @@ pub fn sample<K: MemRule>(
     stm: &Stm<K>,
     a: usize,
     r: usize,
+    at: usize,
 ) -> Result<Option<u64>, Read>
     requires stm { IsOf desc.old stm.now }
     requires record { r ≡ a % stm.now.config.records }
+    requires at { at ≡ offset stm.now.config (Record r) }
     requires running { IsRunning (known desc.old) }
     requires algorithm { (known desc.old).alg ≡ OrecEager }
     requires revocable { (known desc.old).granted ≡ false }
@@ -73,7 +75,7 @@ pub fn sample<K: MemRule>(
     if desc.local.locks.find(r).is_some() {
         return Ok(None);
     }
-    match sample_valid(&mut desc.seat, &mut desc.local, stm, desc.number, a, r) {
+    match sample_valid(&mut desc.seat, &mut desc.local, stm, desc.number, a, r, at) {
         Ok(word) => Ok(Some(word)),
         Err(cause) => {
             let caller = desc.number;
@@ -111,6 +113,7 @@ pub fn confirm<K: MemRule>(
     stm: &Stm<K>,
     a: usize,
     r: usize,
+    at: usize,
     place: usize,
     word: u64,
     x: u64,
@@ -121,6 +124,7 @@ pub fn confirm<K: MemRule>(
     requires revocable { (known desc.old).granted ≡ false }
     requires fresh { IsNew a (known desc.old) }
     requires record { r ≡ a % stm.now.config.records }
+    requires at { at ≡ offset stm.now.config (Record r) }
     requires loaded { IsLoaded stm.now.config a word x desc.old.view }
     requires place { HasPlace a place (known desc.old) }
     requires inside { a < stm.now.config.words }
@@ -131,7 +135,7 @@ pub fn confirm<K: MemRule>(
     ensures steps { AddsAtMost (4 + 2 * (known desc.old).writes_limit) (known desc.old)
         (known desc.new) }
 {
-    let after = records::confirm(stm, &mut desc.seat, desc.number, a, r);
+    let after = records::confirm(stm, &mut desc.seat, desc.number, a, r, at);
     if after != word {
         let caller = desc.number;
         abort(&mut desc.seat, &mut desc.local, stm, caller);

@@ -43,7 +43,8 @@ pub(crate) fn take_record<K: MemRule>(
     if clock >= CLOCK_LIMIT {
         return Err(Write::ClockFull { clock });
     }
-    let word = match sample_valid(seat, local, stm, caller, a, index) {
+    let at = stm.record_place(index);
+    let word = match sample_valid(seat, local, stm, caller, a, index, at) {
         Ok(word) => word,
         Err(cause) => return Err(Write::Conflict(cause)),
     };

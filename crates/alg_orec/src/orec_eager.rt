@@ -148,10 +148,11 @@ fn first_read<K: MemRule>(desc: &mut Desc<K>, stm: &Stm<K>, a: usize, place: usi
         (known desc.new) }
 {
     let r = record_of(stm.config.records, a);
-    match sample(desc, stm, a, r) {
+    let at = stm.record_place(r);
+    match sample(desc, stm, a, r, at) {
         Ok(Some(word)) => {
             let x = load(desc, stm, a);
-            confirm(desc, stm, a, r, place, word, x)
+            confirm(desc, stm, a, r, at, place, word, x)
         }
         Ok(None) => read_held(desc, stm, a, place),
         Err(refusal) => refusal,

@@ -188,9 +188,10 @@ fn load_valid<K: MemRule>(
     ensures steps { TakesAtMost (4 + local.old.reads.len) (view_of seat.old) (view_of seat.new) }
 {
     let r = record_of(stm.config.records, a);
-    let word = sample_valid(seat, local, stm, caller, a, r)?;
+    let at = stm.record_place(r);
+    let word = sample_valid(seat, local, stm, caller, a, r, at)?;
     let x = load(stm, seat, caller, a);
-    let after = reading::confirm(stm, seat, caller, r);
+    let after = reading::confirm(stm, seat, caller, r, at);
     if after != word {
         return Err(Cause::Moved {
             index: r,

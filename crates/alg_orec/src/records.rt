@@ -54,9 +54,11 @@ pub(crate) fn sample<K: MemRule>(
     caller: usize,
     a: usize,
     r: usize,
+    at: usize,
 ) -> u64
     requires seat { IsSeatOf stm.now caller seat.old }
     requires record { r ≡ a % stm.now.config.records }
+    requires at { at ≡ offset stm.now.config (Record r) }
     requires some { 0 < stm.now.config.records }
     requires view { CanOrecSample (home_of stm.now.config) (a % stm.now.config.records) a
         (view_of seat.old) }
@@ -65,7 +67,7 @@ pub(crate) fn sample<K: MemRule>(
         (FindsRecord stm.now.config caller (a % stm.now.config.records)) seat.old.me.0 result
         seat.new.me.0 }
 {
-    reading::sample(stm, seat, caller, r, a)
+    reading::sample(stm, seat, caller, r, at, a)
 }
 
 /// Loads record `r`, that of the word at `a`, again, after the word: where it is as sampled, the word is read. Answers the record's word.
@@ -76,9 +78,11 @@ pub(crate) fn confirm<K: MemRule>(
     caller: usize,
     a: usize,
     r: usize,
+    at: usize,
 ) -> u64
     requires seat { IsSeatOf stm.now caller seat.old }
     requires record { r ≡ a % stm.now.config.records }
+    requires at { at ≡ offset stm.now.config (Record r) }
     requires some { 0 < stm.now.config.records }
     requires view { CanOrecConfirm (home_of stm.now.config) stm.now.config.words
         (a % stm.now.config.records) (view_of seat.old) }
@@ -87,7 +91,7 @@ pub(crate) fn confirm<K: MemRule>(
         (FindsAgain (good_of K.good stm.now.config stm.now.rule) stm.now.config caller
         (a % stm.now.config.records)) seat.old.me.0 result seat.new.me.0 }
 {
-    reading::confirm(stm, seat, caller, r)
+    reading::confirm(stm, seat, caller, r, at)
 }
 
 /// Loads the record of a read at `b`, to validate it: it passes where it is free at a version of at most the start.

@@ -22,17 +22,19 @@ pub(crate) fn sample_valid<K: MemRule>(
     caller: usize,
     a: usize,
     r: usize,
+    at: usize,
 ) -> Result<u64, Cause>
     requires seat { IsSeatOf stm.now caller seat.old }
     requires caller { caller < stm.now.config.callers }
     requires record { r ≡ a % stm.now.config.records }
+    requires at { at ≡ offset stm.now.config (Record r) }
     requires view { CanLoadValid stm.now.config a local.old (view_of seat.old) }
     ensures same { MovesView seat.old seat.new }
     ensures samples { Samples (good_of K.good stm.now.config stm.now.rule) stm.now.config caller a
         result local.old (view_of seat.old) local.new (view_of seat.new) }
     ensures steps { TakesAtMost (2 + local.old.reads.len) (view_of seat.old) (view_of seat.new) }
 {
-    let word = sample(stm, seat, caller, a, r);
+    let word = sample(stm, seat, caller, a, r, at);
     if is_seen(word, local.start) {
         return Ok(word);
     }

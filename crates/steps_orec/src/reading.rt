@@ -1,4 +1,6 @@
 //! The steps by which an attempt of OrecLazy or OrecEager begins, reads and validates.
+ghost use Rattle.rule_base.specs.declared.layout.At.TheVariants.{Record};
+ghost use Rattle.rule_base.specs.Places.{offset};
 ghost use Rattle.rule_base.specs.Ranks.{home_of};
 ghost use Rattle.rule_base.specs.StepKinds.{Nothing};
 ghost use Rattle.rule_orec.specs.OrecSteps.{orec_begin, CanOrecBegin, orec_sample, CanOrecSample, orec_load, CanOrecLoad, orec_confirm, CanOrecConfirm, HasOpen, orec_clock, orec_clock_all, CanOrecClock, orec_pass, CanOrecPass, orec_last, CanOrecLast};
@@ -26,22 +28,25 @@ pub fn begin<K: MemRule>(stm: &Stm<K>, seat: &mut Token<K>, caller: usize) -> u6
     stm.load_as::<Brand, usize>(seat, At::Clock, &caller)
 }
 
-/// Loads record `r`, that of address `a`, before the word: a free one is sampled. Answers its word.
+/// Loads record `r`, that of address `a`, before the word: a free one is sampled. `at` is its index in the table. Answers
+/// its word.
 pub fn sample<K: MemRule>(
     stm: &Stm<K>,
     seat: &mut Token<K>,
     caller: usize,
     r: usize,
+    at: usize,
     a: usize,
 ) -> u64
     requires seat { IsSeatOf stm.now caller seat.old }
     requires place { r < stm.now.config.records }
+    requires at { at ≡ offset stm.now.config (Record r) }
     requires view { CanOrecSample (home_of stm.now.config) r a (view_of seat.old) }
     ensures same { IsSameSeat seat.old seat.new }
     ensures step { SeatTells (orec_sample r a) (FindsRecord stm.now.config caller r) seat.old.me.0
         result seat.new.me.0 }
 {
-    stm.load_as::<Brand, (usize, usize)>(seat, At::Record(r), &(caller, a))
+    stm.load_at::<Brand, (usize, usize, usize)>(seat, at, &(caller, r, a))
 }
 
 /// Loads the heap word at `a`, whose record was sampled, and answers it.
@@ -56,10 +61,18 @@ pub fn load<K: MemRule>(stm: &Stm<K>, seat: &mut Token<K>, caller: usize, a: usi
     stm.load_as::<Brand, usize>(seat, At::Heap(a), &caller)
 }
 
-/// Loads record `r` again, after the word: where it is as sampled, the word is read. Answers the record's word.
-pub fn confirm<K: MemRule>(stm: &Stm<K>, seat: &mut Token<K>, caller: usize, r: usize) -> u64
+/// Loads record `r`, whose index in the table is `at`, again, after the word: where it is as sampled, the word is read.
+/// Answers the record's word.
+pub fn confirm<K: MemRule>(
+    stm: &Stm<K>,
+    seat: &mut Token<K>,
+    caller: usize,
+    r: usize,
+    at: usize,
+) -> u64
     requires seat { IsSeatOf stm.now caller seat.old }
     requires place { r < stm.now.config.records }
+    requires at { at ≡ offset stm.now.config (Record r) }
     requires view { CanOrecConfirm (home_of stm.now.config) stm.now.config.words r
         (view_of seat.old) }
     ensures same { IsSameSeat seat.old seat.new }
@@ -67,7 +80,7 @@ pub fn confirm<K: MemRule>(stm: &Stm<K>, seat: &mut Token<K>, caller: usize, r: 
         (FindsAgain (good_of K.good stm.now.config stm.now.rule) stm.now.config caller r)
         seat.old.me.0 result seat.new.me.0 }
 {
-    stm.load_as::<Brand, usize>(seat, At::Record(r), &caller)
+    stm.load_at::<Brand, (usize, usize)>(seat, at, &(caller, r))
 }
 
 /// Loads the clock, up to which the reads are to be validated, and answers it. A read of a record that the attempt

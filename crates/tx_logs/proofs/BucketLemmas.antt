@@ -1,5 +1,5 @@
 -- Searches and changes of an index.
-use Rattle.std.proofs.Common.{ℕ, zero, suc, ◌≡◌, ◌≢◌, ◌<◌, ◌≤◌, ◌+◌, ◌-◌, ◌*◌, ◌/◌, ◌%◌, ◌⊎◌, inl, inr, List, [], ◌∷◌, ◌++◌, length, get_or, set, take, drop, Bool, true, false, refl, sym, ap, ◌∙◌, subst, arith, length-append, length-drop}
+use Rattle.std.proofs.Common.{ℕ, zero, suc, ◌≡◌, ◌≢◌, ◌<◌, ◌≤◌, ◌+◌, ◌-◌, ◌*◌, ◌%◌, ◌⊎◌, inl, inr, List, [], ◌∷◌, ◌++◌, length, get_or, set, take, drop, Bool, true, false, refl, sym, ap, ◌∙◌, subst, arith, length-append, length-drop}
 use Rattle.std.specs.Prelude.{nat_lt, Option, Some, None, MatchOption, ◌==◌, if◌then◌else◌}
 use Rattle.std.specs.List.{sum_by}
 use Rattle.std.proofs.lemmas.Bool.{cases_lt, cases_order}
@@ -39,15 +39,8 @@ wrapped-below m x h = elim (cases_lt x m) [
 
 pub home-below : (homes : Homes) (buckets a : ℕ) → 0 < buckets → home_of homes buckets a < buckets
 home-below Mixed buckets a some =
-    let part : a * 11400714819323198485 % 18446744073709551616 / 4294967296 < 4294967296 = omega arith in
-    by (nat_lt a buckets) refl (scaled (a * 11400714819323198485 % 18446744073709551616 / 4294967296) part)
-  where
-    scaled : (x : ℕ) → x < 4294967296 → x * buckets / 4294967296 < buckets
-    scaled x l = (div-lt_iff_lt-mul (omega arith)).1 (let h : x * buckets < 4294967296 * buckets = mul-lt-mul_of_pos_right l some in omega arith)
-
-    by : (t : Bool) → nat_lt a buckets ≡ t → {n : ℕ} → n < buckets → (if t then a else n) < buckets
-    by true e l = grind (arith, nat_tests)
-    by false e l = l
+    let part : a % 4294967296 * 1339872799 % 4294967296 < 4294967296 = omega arith in
+    (div-lt_iff_lt-mul (omega arith)).1 (let h : a % 4294967296 * 1339872799 % 4294967296 * buckets < 4294967296 * buckets = mul-lt-mul_of_pos_right part some in omega arith)
 home-below Modulo buckets a some = mod_below a buckets some
 
 -- a list whose first d buckets are taken has d taken buckets

@@ -7,9 +7,9 @@ use Rattle.tx_logs.specs.declared.index.Lookup.{Lookup}
 use Rattle.tx_logs.specs.declared.index.Homes.{Homes}
 use Rattle.tx_logs.specs.declared.index.Homes.TheVariants.{Mixed, Modulo}
 
--- The bucket at which the lookup of address a begins. Mixed: an address below the number of buckets is its own; of others the upper 32 bits of a product modulo 2^64 are scaled to that number.
+-- The bucket at which the lookup of address a begins. Mixed: a product modulo 2^32, scaled to the number of buckets.
 abbrev pub home_of : Homes → ℕ → ℕ → ℕ
-home_of Mixed buckets a = if nat_lt a buckets then a else a * 11400714819323198485 % 18446744073709551616 / 4294967296 * buckets / 4294967296
+home_of Mixed buckets a = a % 4294967296 * 1339872799 % 4294967296 * buckets / 4294967296
 home_of Modulo buckets a = a % buckets
 
 -- Number x where the first bucket comes again after the last; x is below twice their number.

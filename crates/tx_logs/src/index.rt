@@ -5,8 +5,9 @@ ghost use Rattle.std.specs.Prelude.{◌≡◌, ◌<◌, ◌≤◌, ◌++◌, ◌
 ghost use Rattle.stm_model.specs.Memories.{item_at, Once};
 ghost use Rattle.tx_logs.specs.Buckets.{IsIndex, IsLookup, blank, home_of};
 
-/// An odd number near 2^64 divided by the golden ratio: of its multiples, those of small numbers lie farthest apart.
-const GOLDEN: usize = 11400714819323198485;
+/// An odd number, found by search: modulo 2^32 its multiples lie far apart, and so do those of its products with powers of
+/// two. So neither addresses in a row nor those in strides meet: a row shorter than the index has no two of one home.
+const SPREAD: u32 = 1339872799;
 
 /// A bucket, and the item that it names while it is taken.
 #[derive(Clone, Copy, Drop, Debug, PartialEq, Eq)]
@@ -31,13 +32,13 @@ pub struct Lookup {
 /// Where the lookups in an index begin.
 #[derive(Clone, Copy, Drop, Debug, PartialEq, Eq)]
 pub enum Homes {
-    /// By the high bits of a product with the address: addresses whose low bits agree come to lie apart.
+    /// By the high bits of a product with the address: rows and strides of addresses come to lie apart.
     Mixed,
     /// At the bucket whose number is the address modulo the number of buckets.
     Modulo,
 }
 
-/// The number of the bucket at which the lookup of `a` begins: an address below the number of buckets is its own home.
+/// The number of the bucket at which the lookup of `a` begins.
 #[inline(always)]
 pub fn home(homes: Homes, buckets: usize, a: usize) -> usize
     requires some { 0 < buckets }
@@ -45,11 +46,8 @@ pub fn home(homes: Homes, buckets: usize, a: usize) -> usize
     ensures is { result ≡ home_of homes buckets a }
     ensures within { result < buckets }
 {
-    if a < buckets {
-        return a;
-    }
     match homes {
-        Homes::Mixed => a.wrapping_mul(GOLDEN) / 4294967296 * buckets / 4294967296,
+        Homes::Mixed => ((a % 4294967296) as u32).wrapping_mul(SPREAD) as usize * buckets / 4294967296,
         Homes::Modulo => a % buckets,
     }
 }

@@ -180,10 +180,11 @@ impl IndexedLog {
         requires room { length self.old.items ≢ self.old.len }
         ensures { self.new ≡ record self.old { items = self.old.items ++ (a, v) ∷ [] } }
     {
+        let count = self.items.len();
+        self.items.push_reserved((a, v));
         let bucket = &mut self.index[place];
         bucket.mark = self.generation;
-        bucket.item = self.items.len() as u32;
-        self.items.push_reserved((a, v));
+        bucket.item = count as u32;
     }
 
     /// Makes the length the greater of its old one and `len`, 1 to 4,096. Where memory is refused the log is as before.
@@ -214,11 +215,10 @@ impl IndexedLog {
             { items = []; generation = next_generation self.old.generation; marks = [] } }
     {
         self.items.clear();
-        if self.generation == u32::MAX {
+        self.generation = self.generation.wrapping_add(1);
+        if self.generation == 0 {
             clear_marks(&mut self.index);
             self.generation = 1;
-        } else {
-            self.generation += 1;
         }
     }
 

@@ -285,12 +285,11 @@ impl ShortLog {
     {
         self.items.clear();
         self.seen = 0;
-        self.short = self.len.min(SHORT);
-        if self.generation == u32::MAX {
+        self.short = short_from(self.short, self.len);
+        self.generation = self.generation.wrapping_add(1);
+        if self.generation == 0 {
             clear_marks(&mut self.index);
             self.generation = 1;
-        } else {
-            self.generation += 1;
         }
     }
 
@@ -305,6 +304,17 @@ impl ShortLog {
         }
         self.clear();
     }
+}
+
+/// Up to so many items an emptied log of this length is short: as many as before, unless it was no longer short.
+#[inline(always)]
+fn short_from(short: usize, len: usize) -> usize
+    requires { (short ≤ 8) × (short ≤ len) }
+    ensures most { result ≤ 8 }
+    ensures within { result ≤ len }
+    ensures some { 1 ≤ len → 1 ≤ result }
+{
+    if short == 0 { len.min(SHORT) } else { short }
 }
 
 /// The bit of an address, by its last six bits.

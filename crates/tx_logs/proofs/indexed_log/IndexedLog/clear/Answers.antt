@@ -1,4 +1,4 @@
-use Rattle.std.proofs.Common.{◌≡◌, length, sym, ap, ◌∙◌, arith}
+use Rattle.std.proofs.Common.{◌≡◌, ◌+◌, ◌%◌, length, sym, ap, ◌∙◌, arith}
 use Rattle.tx_logs.proofs.BucketLemmas.{index-empty, raised, written-over}
 use Rattle.tx_logs.proofs.indexed_log.IndexedLog.clear.Goals as goal
 
@@ -11,7 +11,8 @@ invariant_of-self c =
     let none = index-empty 1 c.clear_marks.new.index (λ x l. omega (arith, c.clear_marks.ensures.marks x l)) in
     rw (c.clear.ensures.items, c.clear.ensures.capacity, whole) (none, size ∙ i.1, omega arith, i.3, i.4, omega arith, i.6)
 
-pub invariant_of-self-else-self : goal.invariant_of-self-else-self
-invariant_of-self-else-self c =
+pub invariant_of-self-else-self-eq0 : goal.invariant_of-self-else-self-eq0
+invariant_of-self-else-self-eq0 c =
     let i = c.self.invariant in
-    rw c.clear.ensures.items (raised _ _ _ i.0, i.1, omega arith, i.3, i.4, omega arith, rw c.clear.ensures.capacity i.6)
+    let next : (c.self.inside.generation + 1) % 4294967296 ≡ c.self.inside.generation + 1 = omega (arith, c.if-self-eq0.false) in
+    rw (c.clear.ensures.items, next) (raised _ _ _ i.0, i.1, omega arith, i.3, i.4, omega arith, rw c.clear.ensures.capacity i.6)

@@ -22,7 +22,7 @@ invariant_of-self c =
     let room : length xs < c.self.inside.len =
     (let full = ap (λ (l : LogState). length l.items) c.self.view_is in
     let most = ap (λ (l : LogState). l.len) c.self.view_is in omega (arith, full, most, c.requires.room, i.2)) in
-    let count : c.len.result ≡ length xs = c.len.ensures ∙ c.self.inside.items.ok.0 in
+    let count : c.len-count.result ≡ length xs = c.len-count.ensures ∙ c.self.inside.items.ok.0 in
     let more = place-taken c.self.inside.generation xs bs c.args.a c.args.place i.0 is c.args.v new in
     rw (c.push_reserved.ensures.items, c.push_reserved.ensures.capacity, count, length-set bs c.args.place (record { mark = c.self.inside.generation; item = length xs }))
     (more, i.1, omega (arith, length-append xs ((c.args.a, c.args.v) ∷ [])), i.3, i.4, i.5, i.6)
