@@ -2,7 +2,8 @@
 //! the record is confirmed.
 ghost use Rattle.tx_answers.specs.Counting.{AddsAtMost};
 ghost use Rattle.std.specs.Prelude.{◌≡◌, ℕ, ◌<◌, None, false, [], ◌∷◌, ◌+◌, ◌*◌, ◌%◌, MatchResult};
-ghost use Rattle.rule_base.specs.declared.layout.At.TheVariants.{Heap};
+ghost use Rattle.rule_base.specs.declared.layout.At.TheVariants.{Heap, Record};
+ghost use Rattle.rule_base.specs.Places.{offset};
 ghost use Rattle.stm_model.specs.Memories.{item_at};
 ghost use Rattle.stm_model.specs.declared.alg.Alg.TheVariants.{OrecEager};
 ghost use Rattle.stm_rule.specs.Callers.{IsOf, IsSameCaller};

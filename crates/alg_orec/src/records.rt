@@ -1,6 +1,8 @@
 //! The record of a word, and the steps on it by the word's address.
 ghost use Rattle.std.specs.Prelude.{◌≡◌, ◌<◌, ◌≤◌, ◌%◌};
 ghost use Rattle.stm_model.specs.Memories.{item_at};
+ghost use Rattle.rule_base.specs.declared.layout.At.TheVariants.{Record};
+ghost use Rattle.rule_base.specs.Places.{offset};
 ghost use Rattle.rule_base.specs.Ranks.{home_of};
 ghost use Rattle.rule_orec.specs.OrecSteps.{orec_sample, CanOrecSample, orec_confirm, CanOrecConfirm, orec_pass, CanOrecPass, orec_last, CanOrecLast};
 ghost use Rattle.steps_orec.specs.RecordFindings.{FindsRecord, FindsAgain, FindsRead, FindsLast};

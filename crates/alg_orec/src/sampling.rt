@@ -1,5 +1,7 @@
 //! The record of a word, loaded before the word is read, and by OrecEager before it takes the record.
 ghost use Rattle.std.specs.Prelude.{◌≡◌, ◌<◌, ◌+◌, ◌%◌};
+ghost use Rattle.rule_base.specs.declared.layout.At.TheVariants.{Record};
+ghost use Rattle.rule_base.specs.Places.{offset};
 ghost use Rattle.stm_rule.specs.Callers.{IsSeatOf};
 ghost use Rattle.stm_rule.specs.Counting.{TakesAtMost};
 ghost use Rattle.stm_rule.specs.Kept.{MovesView, good_of, view_of};

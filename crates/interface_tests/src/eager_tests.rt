@@ -53,7 +53,8 @@ fn reads_around_a_cancelled_write<K: MemRule>(
         return None;
     };
     let record = 2 % stm.config.records;
-    let Ok(Some(word)) = sample(reader, stm, 2, record) else {
+    let at = stm.record_place(record);
+    let Ok(Some(word)) = sample(reader, stm, 2, record, at) else {
         return None;
     };
     let Write::Done = write(writer, stm, 2, 9) else {
@@ -64,7 +65,7 @@ fn reads_around_a_cancelled_write<K: MemRule>(
         return None;
     };
     let place = read_place(reader, stm, 2);
-    let Read::Conflict(cause) = confirm(reader, stm, 2, record, place, word, x) else {
+    let Read::Conflict(cause) = confirm(reader, stm, 2, record, at, place, word, x) else {
         return None;
     };
     let Begin::Begun(Alg::OrecEager) = try_begin(reader, stm) else {

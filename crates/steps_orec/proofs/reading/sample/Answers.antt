@@ -7,9 +7,12 @@ use Rattle.steps_orec.specs.RecordFindingLaws.{samples_beside}
 use Rattle.stm_rule.specs.Kinds.Allowing.{law_of}
 use Rattle.steps_orec.proofs.reading.sample.Goals as goal
 
-pub load_as-requires-clause-law : goal.load_as-requires-clause-law
-load_as-requires-clause-law g c =
+pub load_at-requires-clause-law : goal.load_at-requires-clause-law
+load_at-requires-clause-law g c =
     let f = c.args.stm.now.config in
     let m = good_of g.K.MemRule.good f c.args.stm.now.rule in
     let n = c.args.caller in
     law_of (Invariant m f) (orec_sample c.args.r c.args.a) (FindsRecord f n c.args.r) n (CanOrecSample (home_of f) c.args.r c.args.a) c.args.seat.now.me.0.view (samples_beside m f n c.args.r c.args.a) c.requires.view
+
+pub load_at-requires-clause-place : goal.load_at-requires-clause-place
+load_at-requires-clause-place g c = (c.requires.at, c.requires.place)

@@ -1,8 +1,7 @@
 use Rattle.rule_orec.specs.OrecRuns.OrecStep.{orec_samples}
 use Rattle.stm_rule.specs.Runs.CoreRuns.CoreStep.{of_orec}
 use Rattle.steps_orec.specs.RecordFindings.{FindsRecord}
-use Rattle.steps_orec.specs.Picking.{record_of}
 use Rattle.steps_orec.proofs.reading.sample.Given as goal
 
-abbrev pub ghosts-load_as : goal.ghosts-load_as
-ghosts-load_as g a = record { step = of_orec (orec_samples (record_of a.at) a.said.now.1); shows = FindsRecord a.self.now.config a.said.now.0 (record_of a.at); caller = a.said.now.0 }
+abbrev pub ghosts-load_at : goal.ghosts-load_at
+ghosts-load_at g a = record { step = of_orec (orec_samples a.said.now.1 a.said.now.2); shows = FindsRecord a.self.now.config a.said.now.0 a.said.now.1; caller = a.said.now.0 }
