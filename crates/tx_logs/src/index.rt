@@ -47,7 +47,8 @@ pub fn home(homes: Homes, buckets: usize, a: usize) -> usize
     ensures within { result < buckets }
 {
     match homes {
-        Homes::Mixed => ((a % 4294967296) as u32).wrapping_mul(SPREAD) as usize * buckets / 4294967296,
+        Homes::Mixed => ((a % 4294967296) as u32).wrapping_mul(SPREAD) as usize * buckets
+            / 4294967296,
         Homes::Modulo => a % buckets,
     }
 }
