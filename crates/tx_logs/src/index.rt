@@ -6,7 +6,7 @@ ghost use Rattle.stm_model.specs.Memories.{item_at, Once};
 ghost use Rattle.tx_logs.specs.Buckets.{IsIndex, IsLookup, blank, home_of};
 
 /// An odd number, found by search: modulo 2^32 its multiples lie far apart, and so do those of its products with powers of
-/// two. So neither addresses in a row nor those in strides meet: a row shorter than the index has no two of one home.
+/// two. So few of the addresses of a row meet, or of rows a power of two apart.
 const SPREAD: u32 = 1339872799;
 
 /// A bucket, and the item that it names while it is taken.
