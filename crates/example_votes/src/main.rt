@@ -37,7 +37,8 @@ impl Transaction<AnyMem> for Vote {
     }
 }
 
-/// What each caller does on its thread: it counts a thousand votes. Answers how many it counted.
+/// What each caller does on its thread: it counts a thousand votes, from another candidate on than the others. Answers how
+/// many it counted.
 #[derive(Drop)]
 struct Count {
     poll: Poll,
@@ -52,9 +53,10 @@ impl<R: Wait> Job<R, AnyMem> for Count {
     ghost precondition = { λ job rule words. PlacesFit job.poll.votes words × PlaceFits job.poll.all words × (job.poll.votes.count ≡ 5) };
 
     fn work(&self, caller: &mut Caller<'_, R, AnyMem>) -> usize {
+        let number = caller.number();
         let vote = |round: usize| Vote {
             poll: self.poll,
-            candidate: round % 7 % 5,
+            candidate: (number + round) % 7 % 5,
         };
         caller.repeat(1_000, &vote)
     }

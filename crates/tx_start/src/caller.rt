@@ -33,9 +33,11 @@ impl<'a, R: Wait, K: MemRule> Caller<'a, R, K> {
     ghost use Rattle.tx_atomic.specs.Tallies.{CommitsRise, CommitsStay};
     ghost use Rattle.tx_start.specs.Repeats.{MadeAll, Answered, Rounds, raised};
 
-    /// The caller's number, from 0 on.
+    /// The caller's number, from 0 on: one of the memory's, of which there are 32 at most.
     pub fn number(&self) -> usize
-        ensures { result ≡ number self.now.desc }
+        ensures is { result ≡ number self.now.desc }
+        ensures one { result < self.now.stm.now.config.callers }
+        ensures low { result < 32 }
     {
         self.desc.number
     }

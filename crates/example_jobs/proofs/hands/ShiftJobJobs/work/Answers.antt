@@ -45,7 +45,7 @@ returns-then-number-self-clause-postcondition g c =
     let did : HasDone q s.config.words (range_with_len (first_job plan n) gave) ts a b = subst
     (λ l. HasDone q s.config.words (range_with_len (first_job plan n) gave) l a b) (sym c.new-took.ensures.items)
     c.give_all-gave.ensures.gave in
-    subst (λ k. (gave ≤ quota plan k) × HasDone q s.config.words (range_with_len (first_job plan k) gave) ts a b) c.number-number.ensures (own, did)
+    subst (λ k. (gave ≤ quota plan k) × HasDone q s.config.words (range_with_len (first_job plan k) gave) ts a b) c.number-number.ensures.is (own, did)
 
 pub returns-else-number-self-clause-postcondition : goal.returns-else-number-self-clause-postcondition
 returns-else-number-self-clause-postcondition g c = ((omega arith), c.take_share-took.ensures.took)

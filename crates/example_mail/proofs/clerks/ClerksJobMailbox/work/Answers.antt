@@ -19,7 +19,7 @@ returns-then-number-lt2-clause-postcondition g c =
     let none : receipts c.new-received.result.items ≡ [] = ap receipts c.new-received.ensures.items in
     let all : posts (n * 300) k ++ receipts c.new-received.result.items ≡ posts (n * 300) k = ap (λ ds. posts (n * 300) k ++ ds) none ∙ append-nil (posts (n * 300) k) in
     let did = subst (λ ds. HasDone s.rule s.config.words ds a b) (sym all) c.post_all-posted.ensures.posted in
-    subst (λ (i : ℕ). (k ≤ quota i) × HasDone s.rule s.config.words (posts (i * 300) k ++ receipts c.new-received.result.items) a b) c.number-number.ensures (own, did)
+    subst (λ (i : ℕ). (k ≤ quota i) × HasDone s.rule s.config.words (posts (i * 300) k ++ receipts c.new-received.result.items) a b) c.number-number.ensures.is (own, did)
 
 pub returns-else-number-lt2-clause-postcondition : goal.returns-else-number-lt2-clause-postcondition
 returns-else-number-lt2-clause-postcondition g c = ((omega arith), c.receive_all-received.ensures.received)
