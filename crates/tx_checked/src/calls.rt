@@ -186,7 +186,8 @@ impl CheckedCaller {
                 Ok(Ok(()))
             }
             Err(refusal) => {
-                self.phase = Errand::Switch(alg).phase_after(refusal);
+                self.phase = CallerPhase::after(refusal);
+                self.errand = Errand::Switch(alg);
                 self.reach = 0;
                 self.refusal = Some(refusal);
                 self.counts.refuse(refusal);
