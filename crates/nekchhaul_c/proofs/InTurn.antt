@@ -57,7 +57,7 @@ in-attempt a words fence phases.Idle v h e = absurd (let no : Some wrong.NoAttem
 in-attempt a words fence phases.Running v h e = (h.1 refl).0.0
 in-attempt a words fence phases.Beside v h e = (h.2 refl).0
 in-attempt a words fence phases.Committing v h e = absurd (let no : Some wrong.Committing ≡ None = e in cc)
-in-attempt a words fence (phases.Closing x) v h e = absurd (let no : Some wrong.Closing ≡ None = e in cc)
+in-attempt a words fence phases.Closing v h e = absurd (let no : Some wrong.Closing ≡ None = e in cc)
 
 pub served-on : (acts_as : Alg → Bool → Alg × Bool) (a x : ℕ) (k o : CheckedCaller) → IsServed acts_as (known_to k) → ReadTells a (Ok (Value x)) k o → IsServed acts_as (known_to o)
 served-on acts_as a x k o served h =

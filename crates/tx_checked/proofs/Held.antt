@@ -15,5 +15,5 @@ idle-in_phase v h = (
   λ e. absurd (let no : Idle ≡ Running = e in cc),
   λ e. absurd (let no : Idle ≡ Beside = e in cc),
   λ e. absurd (let no : Idle ≡ Committing = e in cc),
-  λ x e. absurd (let no : Idle ≡ Closing x = e in cc),
+  λ e. absurd (let no : Idle ≡ Closing = e in cc),
 )

@@ -36,6 +36,7 @@ pub record IsUntouched (m n : CheckedCaller) : Type 0 where
   pub note_exchange : n.note_exchange ≡ m.note_exchange
   pub desc : n.desc ≡ m.desc
   pub phase : n.phase ≡ m.phase
+  pub errand : n.errand ≡ m.errand
   pub range : n.range ≡ m.range
   pub refusal : n.refusal ≡ m.refusal
   pub counts : n.counts ≡ m.counts

@@ -7,7 +7,7 @@ use Rattle.tx_checked.specs.declared.errand.Errand.TheVariants.{End}
 use Rattle.tx_checked.specs.declared.checked_caller.CheckedCaller.{CheckedCaller}
 use Rattle.tx_checked.specs.declared.refusal.Refusal.{Refusal}
 use Rattle.tx_checked.specs.declared.phase.CallerPhase.TheVariants.{Idle}
-use Rattle.tx_checked.specs.Errands.{is_closing, phase_after}
+use Rattle.tx_checked.specs.Errands.{is_closing}
 use Rattle.tx_checked.specs.CheckedCallers.{config_of, known_to, number_of}
 use Rattle.tx_checked.specs.Ranges.{GrowsBeside, IsLeft}
 use Rattle.tx_checked.specs.Phases.{Any}
@@ -30,4 +30,4 @@ pub record EndsAs (m n : CheckedCaller) (old ws : List ℕ) : Type 0 where
 
 abbrev pub HasEnded : CheckedCaller → CheckedCaller → List ℕ → List ℕ → Result (Unit {0}) Refusal → Type 0
 HasEnded m n old ws (Ok r) = EndsAs m n old ws
-HasEnded m n old ws (Err e) = IsLeft e (phase_after End e) m n × IsTakeRefused (config_of m) (number_of m) (is_closing m.phase) 0 (config_of m).words e (known_to m) (known_to n) × (ws ≡ old)
+HasEnded m n old ws (Err e) = IsLeft End e m n × IsTakeRefused (config_of m) (number_of m) (is_closing m.phase) 0 (config_of m).words e (known_to m) (known_to n) × (ws ≡ old)

@@ -3,8 +3,6 @@ use Rattle.std.specs.Prelude.{Bool, true, false, ◌==◌, ◌&&◌}
 use Rattle.stm_model.specs.Algorithms.{alg_number}
 use Rattle.tx_checked.specs.declared.errand.Errand.{Errand}
 use Rattle.tx_checked.specs.declared.errand.Errand.TheVariants.{Switch, Take, Give, End}
-use Rattle.tx_checked.specs.declared.refusal.Refusal.{Refusal}
-use Rattle.tx_checked.specs.declared.refusal.Refusal.TheVariants as refusals
 use Rattle.tx_checked.specs.declared.phase.CallerPhase.{CallerPhase}
 use Rattle.tx_checked.specs.declared.phase.CallerPhase.TheVariants.{Idle, Running, Beside, Committing, Closing}
 
@@ -32,9 +30,4 @@ is_closing Idle = false
 is_closing Running = false
 is_closing Beside = false
 is_closing Committing = false
-is_closing (Closing errand) = true
-
--- where a caller stands whose call was refused so: only at Busy it keeps the gate closed
-abbrev pub phase_after : Errand → Refusal → CallerPhase
-phase_after errand (refusals.Busy caller status) = Closing errand
-phase_after errand refusal = Idle
+is_closing Closing = true

@@ -19,7 +19,7 @@ meeting to from = or_else (outside to) (outside from)
 abbrev pub HasLearned : CheckedCaller → CheckedCaller → Unit {0} → Type 0
 HasLearned m n r =
     (note : Handle AnyMem) × IsOf note (arc_value m.stm) × (note.who.role ≡ Note) × Learns m.desc.view note.view n.desc.view × (n.desc.own ≡ m.desc.own) × TakesAtMost 2 m.desc.view n.desc.view
-    × (n.phase ≡ m.phase) × (n.range ≡ m.range) × (n.refusal ≡ m.refusal) × (n.counts ≡ m.counts)
+    × (n.phase ≡ m.phase) × (n.errand ≡ m.errand) × (n.range ≡ m.range) × (n.refusal ≡ m.refusal) × (n.counts ≡ m.counts)
 
 -- as of each call, but that one that fits may be of strangers; then nothing has changed
 abbrev pub TellsSameMemory : Option Misuse → (Unit {0} → Type 0) → CheckedCaller → CheckedCaller → Result (Unit {0}) Misuse → Type 0
@@ -32,6 +32,7 @@ pub record HasTold (m n : CheckedCaller) : Type 0 where
   pub note_exchange : n.note_exchange ≡ m.note_exchange
   pub desc : n.desc ≡ having_told m.desc
   pub phase : n.phase ≡ m.phase
+  pub errand : n.errand ≡ m.errand
   pub range : n.range ≡ m.range
   pub refusal : n.refusal ≡ m.refusal
   pub counts : n.counts ≡ m.counts

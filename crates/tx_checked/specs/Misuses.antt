@@ -24,36 +24,36 @@ outside_at Idle = None
 outside_at Running = Some wrong.InAttempt
 outside_at Beside = Some wrong.InAttempt
 outside_at Committing = Some wrong.InAttempt
-outside_at (Closing errand) = Some wrong.Closing
+outside_at Closing = Some wrong.Closing
 
--- who has closed the gate for a call may make that call again
-abbrev pub errand_at : Errand → CallerPhase → Option Misuse
-errand_at errand Idle = None
-errand_at errand Running = Some wrong.InAttempt
-errand_at errand Beside = Some wrong.InAttempt
-errand_at errand Committing = Some wrong.InAttempt
-errand_at errand (Closing other) = if same_errand errand other then None else Some wrong.Closing
+-- who has closed the gate for a call may make that call again: of `asked`, where the caller has this errand
+abbrev pub errand_at : Errand → Errand → CallerPhase → Option Misuse
+errand_at asked errand Idle = None
+errand_at asked errand Running = Some wrong.InAttempt
+errand_at asked errand Beside = Some wrong.InAttempt
+errand_at asked errand Committing = Some wrong.InAttempt
+errand_at asked errand Closing = if same_errand asked errand then None else Some wrong.Closing
 
 abbrev pub closing_at : CallerPhase → Option Misuse
 closing_at Idle = Some wrong.NotClosing
 closing_at Running = Some wrong.InAttempt
 closing_at Beside = Some wrong.InAttempt
 closing_at Committing = Some wrong.InAttempt
-closing_at (Closing errand) = None
+closing_at Closing = None
 
 abbrev pub inside_at : CallerPhase → Option Misuse
 inside_at Idle = Some wrong.NoAttempt
 inside_at Running = None
 inside_at Beside = None
 inside_at Committing = None
-inside_at (Closing errand) = Some wrong.Closing
+inside_at Closing = Some wrong.Closing
 
 abbrev pub running_at : CallerPhase → Option Misuse
 running_at Idle = Some wrong.NoAttempt
 running_at Running = None
 running_at Beside = None
 running_at Committing = Some wrong.Committing
-running_at (Closing errand) = Some wrong.Closing
+running_at Closing = Some wrong.Closing
 
 -- words is how many there are, and fence what was out as the attempt began
 abbrev pub access_at : ℕ → ℕ → ℕ → CallerPhase → Option Misuse
@@ -61,7 +61,7 @@ access_at a words fence Idle = Some wrong.NoAttempt
 access_at a words fence Running = if ltb a words then None else Some wrong.Address
 access_at a words fence Beside = if ltb a words then (if fenced fence a then Some wrong.Fenced else None) else Some wrong.Address
 access_at a words fence Committing = Some wrong.Committing
-access_at a words fence (Closing errand) = Some wrong.Closing
+access_at a words fence Closing = Some wrong.Closing
 
 -- of a call for a caller in no attempt that hasn't closed the gate; for one in an attempt; for one in an attempt that isn't in the middle of its commit; and of a read or a write of a
 abbrev pub outside : CheckedCaller → Option Misuse
@@ -69,7 +69,7 @@ outside m = outside_at m.phase
 
 -- of a call that must be alone with the memory; and of the one that gives such a call up
 abbrev pub doing : Errand → CheckedCaller → Option Misuse
-doing errand m = errand_at errand m.phase
+doing asked m = errand_at asked m.errand m.phase
 
 abbrev pub reopening : CheckedCaller → Option Misuse
 reopening m = closing_at m.phase

@@ -4,10 +4,11 @@ use Rattle.rule_base.specs.Encodings.{fenced}
 use Rattle.tx_answers.specs.Answers.{HoldsClosed}
 use Rattle.tx_answers.specs.Fences.{is_within}
 use Rattle.tx_answers.specs.CallerState.{CallerState, Fenced, IsIdle, IsRunning}
-use Rattle.tx_checked.specs.declared.errand.Errand.{Errand}
 use Rattle.tx_checked.specs.declared.checked_caller.Range.{Range}
 use Rattle.tx_checked.specs.declared.phase.CallerPhase.{CallerPhase}
 use Rattle.tx_checked.specs.declared.phase.CallerPhase.TheVariants.{Idle, Running, Beside, Committing, Closing}
+use Rattle.tx_checked.specs.declared.refusal.Refusal.{Refusal}
+use Rattle.tx_checked.specs.declared.refusal.Refusal.TheVariants as refusals
 
 -- every memory is good
 abbrev pub Any : List ℕ → Type 0
@@ -15,7 +16,7 @@ Any memory = Unit {0}
 
 -- only an attempt that is `Beside` a range may have to leave words alone
 abbrev pub IsInPhase : CallerPhase → CallerState → Type 0
-IsInPhase s v = (s ≡ Idle → IsIdle v) × (s ≡ Running → IsRunning v × (v.fence ≡ 0)) × (s ≡ Beside → IsRunning v) × (s ≡ Committing → v.running ≡ true) × ((e : Errand) → s ≡ Closing e → HoldsClosed v)
+IsInPhase s v = (s ≡ Idle → IsIdle v) × (s ≡ Running → IsRunning v × (v.fence ≡ 0)) × (s ≡ Beside → IsRunning v) × (s ≡ Committing → v.running ≡ true) × (s ≡ Closing → HoldsClosed v)
 
 -- of so many words how many can be read and written without another look
 abbrev pub reach_at : CallerPhase → ℕ → ℕ
@@ -23,7 +24,12 @@ reach_at Idle words = 0
 reach_at Running words = words
 reach_at Beside words = 0
 reach_at Committing words = 0
-reach_at (Closing errand) words = 0
+reach_at Closing words = 0
+
+-- where a caller stands whose errand was refused so: only at Busy it keeps the gate closed
+abbrev pub phase_after : Refusal → CallerPhase
+phase_after (refusals.Busy caller status) = Closing
+phase_after refusal = Idle
 
 -- what is written down of a caller's range is true
 abbrev pub IsRangeOf : Range → ℕ → Fenced → Type 0

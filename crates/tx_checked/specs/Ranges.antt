@@ -12,16 +12,16 @@ use Rattle.tx_answers.specs.Fences.{ReadsDirect, WritesDirect, is_within}
 use Rattle.tx_answers.specs.CallerState.{CallerState, Grows, no_log, zeros}
 use Rattle.tx_checked.specs.Alone.{IsHeldUp, IsTakeRefused, FindsFullAt}
 use Rattle.tx_checked.specs.Counting.{after_refusal}
+use Rattle.tx_checked.specs.declared.errand.Errand.{Errand}
 use Rattle.tx_checked.specs.declared.errand.Errand.TheVariants as errands
 use Rattle.tx_checked.specs.declared.checked_caller.CheckedCaller.{CheckedCaller}
 use Rattle.tx_checked.specs.declared.checked_caller.Range.{Range}
 use Rattle.tx_checked.specs.declared.refusal.Refusal.{Refusal}
 use Rattle.tx_checked.specs.declared.refusal.Refusal.TheVariants as refusals
-use Rattle.tx_checked.specs.declared.phase.CallerPhase.{CallerPhase}
 use Rattle.tx_checked.specs.declared.phase.CallerPhase.TheVariants.{Idle}
-use Rattle.tx_checked.specs.Errands.{is_closing, phase_after}
+use Rattle.tx_checked.specs.Errands.{is_closing}
 use Rattle.tx_checked.specs.CheckedCallers.{config_of, known_to, number_of}
-use Rattle.tx_checked.specs.Phases.{Any}
+use Rattle.tx_checked.specs.Phases.{Any, phase_after}
 
 -- it knows all that it knew, but of its range
 abbrev pub GrowsBeside : CallerState → CallerState → Type 0
@@ -53,13 +53,14 @@ GivesBack c n (gives.Committed time) v w = GivesAt c n time v w
 GivesBack c n gives.Unchanged v w = (w.made ≡ v.made) × (is_empty v.fenced.log.writes ≡ true)
 GivesBack c n (gives.ClockFull clock) v w = (w.made ≡ v.made) × (w.fenced ≡ v.fenced) × (CLOCK_LIMIT ≤ clock)
 
--- nothing was taken, given or installed, for what is written down, and it stands so
-pub record IsLeft (e : Refusal) (s : CallerPhase) (m n : CheckedCaller) : Type 0 where
+-- the call of that errand was refused so: nothing was taken, given or installed, for what is written down
+pub record IsLeft (asked : Errand) (e : Refusal) (m n : CheckedCaller) : Type 0 where
   pub grew : Grows (known_to m) (known_to n)
   pub made : (known_to n).made ≡ (known_to m).made
   pub rises : (known_to n).rises ≡ (known_to m).rises
   pub installs : (known_to n).installs ≡ (known_to m).installs
-  pub phase : n.phase ≡ s
+  pub phase : n.phase ≡ phase_after e
+  pub errand : n.errand ≡ asked
   pub range : n.range ≡ m.range
   pub refusal : n.refusal ≡ Some e
   pub counts : n.counts ≡ after_refusal e m.counts
@@ -69,7 +70,7 @@ HasTaken from count m n (Ok r) =
     TakesOut (config_of m) from count (known_to m) (known_to n) × GrowsBeside (known_to m) (known_to n)
     × ((known_to n).made ≡ (known_to m).made) × (n.phase ≡ Idle) × (n.range ≡ Some (record { from = from; count = count }))
     × (n.refusal ≡ m.refusal) × (n.counts ≡ m.counts)
-HasTaken from count m n (Err e) = IsLeft e (phase_after (errands.Take from count) e) m n × IsTakeRefused (config_of m) (number_of m) (is_closing m.phase) from count e (known_to m) (known_to n)
+HasTaken from count m n (Err e) = IsLeft (errands.Take from count) e m n × IsTakeRefused (config_of m) (number_of m) (is_closing m.phase) from count e (known_to m) (known_to n)
 
 abbrev pub range_after : Give → Option Range → Option Range
 range_after (gives.Committed time) r = None
@@ -86,7 +87,7 @@ HasGiven m n (Ok r) =
     GivesBack (config_of m) (number_of m) r (known_to m) (known_to n)
     × FindsFullAt (config_of m) (number_of m) (is_closing m.phase) r (known_to m) (known_to n) × GrowsBeside (known_to m) (known_to n)
     × (n.phase ≡ Idle) × (n.range ≡ range_after r m.range) × (n.refusal ≡ give_refusal r m.refusal) × (n.counts ≡ m.counts)
-HasGiven m n (Err e) = IsLeft e (phase_after errands.Give e) m n × IsHeldUp (config_of m) (number_of m) (is_closing m.phase) e (known_to m) (known_to n)
+HasGiven m n (Err e) = IsLeft errands.Give e m n × IsHeldUp (config_of m) (number_of m) (is_closing m.phase) e (known_to m) (known_to n)
 
 abbrev pub HasReadDirect : ℕ → CheckedCaller → CheckedCaller → ℕ → Type 0
 HasReadDirect a m n x = ReadsDirect Any (config_of m) (number_of m) a x (known_to m) (known_to n) × (n.range ≡ m.range) × (n.refusal ≡ m.refusal) × (n.counts ≡ m.counts)

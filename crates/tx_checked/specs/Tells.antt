@@ -30,7 +30,7 @@ use Rattle.tx_checked.specs.declared.misuse.Misuse.{Misuse}
 use Rattle.tx_checked.specs.declared.refusal.Refusal.{Refusal}
 use Rattle.tx_checked.specs.declared.refusal.Refusal.TheVariants as refusals
 use Rattle.tx_checked.specs.declared.phase.CallerPhase.TheVariants.{Idle}
-use Rattle.tx_checked.specs.Errands.{is_closing, phase_after}
+use Rattle.tx_checked.specs.Errands.{is_closing}
 use Rattle.tx_checked.specs.CheckedCallers.{IsSameCheckedCaller, config_of, known_to, number_of}
 use Rattle.tx_checked.specs.Ranges.{IsLeft}
 use Rattle.tx_checked.specs.Phases.{Any}
@@ -106,7 +106,7 @@ pub record Switches (alg : Alg) (v w : CallerState) : Type 0 where
 
 abbrev pub HasSwitched : Alg → CheckedCaller → CheckedCaller → Result (Unit {0}) Refusal → Type 0
 HasSwitched alg m n (Ok r) = Switches alg (known_to m) (known_to n) × (n.phase ≡ Idle) × (n.range ≡ m.range) × (n.refusal ≡ m.refusal) × (n.counts ≡ m.counts)
-HasSwitched alg m n (Err e) = IsLeft e (phase_after (Switch alg) e) m n × IsHeldUp (config_of m) (number_of m) (is_closing m.phase) e (known_to m) (known_to n)
+HasSwitched alg m n (Err e) = IsLeft (Switch alg) e m n × IsHeldUp (config_of m) (number_of m) (is_closing m.phase) e (known_to m) (known_to n)
 
 -- the gate is open again, and nothing else has changed
 abbrev pub HasReopened : CheckedCaller → CheckedCaller → Unit {0} → Type 0

@@ -32,13 +32,14 @@ impl CheckedCaller {
         ensures { Tells (outside self.old) (HasBegun self.old self.new) self.old self.new result }
     {
         self.is_outside()?;
-        match calls::try_begin(&mut self.desc, &self.stm) {
+        let stm: &Stm<AnyMem> = &self.stm;
+        match calls::try_begin(&mut self.desc, stm) {
             Begin::Begun(alg) => {
                 self.counts.begun = self.counts.begun.wrapping_add(1);
                 match fence_seen(&self.desc) {
                     None => {
                         self.phase = CallerPhase::Running;
-                        self.reach = self.stm.config.words;
+                        self.reach = stm.config.words;
                     }
                     Some(_) => {
                         self.phase = CallerPhase::Beside;
@@ -186,7 +187,8 @@ impl CheckedCaller {
                 Ok(Ok(()))
             }
             Err(refusal) => {
-                self.phase = Errand::Switch(alg).phase_after(refusal);
+                self.phase = CallerPhase::after(refusal);
+                self.errand = Errand::Switch(alg);
                 self.reach = 0;
                 self.refusal = Some(refusal);
                 self.counts.refuse(refusal);

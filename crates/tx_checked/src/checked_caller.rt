@@ -6,6 +6,7 @@ ghost use Rattle.stm_tx.specs.Descs.{known};
 ghost use Rattle.tx_checked.specs.Phases.{IsInPhase, HasRange, reach_at};
 
 use crate::counts::Counts;
+use crate::errand::Errand;
 use crate::note_exchange::NoteExchange;
 use crate::phase::CallerPhase;
 use crate::refusal::Refusal;
@@ -32,6 +33,8 @@ pub struct CheckedCaller {
     pub phase: CallerPhase,
     /// The number of words while it stands `Running`, else 0: a word below is read and written without another look.
     pub reach: usize,
+    /// What it has closed the gate for, while it stands `Closing`.
+    pub errand: Errand,
     pub range: Option<Range>,
     /// What came in the way last.
     pub refusal: Option<Refusal>,

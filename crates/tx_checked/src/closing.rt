@@ -69,7 +69,8 @@ impl CheckedCaller {
                 Ok(Ok(()))
             }
             Err(refusal) => {
-                self.phase = Errand::End.phase_after(refusal);
+                self.phase = CallerPhase::after(refusal);
+                self.errand = Errand::End;
                 self.reach = 0;
                 self.refusal = Some(refusal);
                 self.counts.refuse(refusal);

@@ -1,9 +1,7 @@
 //! What a caller closes the gate for.
 ghost use Rattle.std.specs.Prelude.{◌≡◌};
-ghost use Rattle.tx_checked.specs.Errands.{same_errand, phase_after};
+ghost use Rattle.tx_checked.specs.Errands.{same_errand};
 
-use crate::phase::CallerPhase;
-use crate::refusal::Refusal;
 use stm_model::alg::Alg;
 
 /// A call that must be alone with the memory, with its arguments.
@@ -44,24 +42,6 @@ impl Errand {
                 Errand::End => true,
                 Errand::Switch(_) | Errand::Take { .. } | Errand::Give => false,
             },
-        }
-    }
-
-    /// Where a caller stands whose call was refused so: at Busy it keeps the gate.
-    pub(crate) fn phase_after(self, refusal: Refusal) -> CallerPhase
-        ensures { result ≡ phase_after self refusal }
-    {
-        match refusal {
-            Refusal::Busy { .. } => CallerPhase::Closing(self),
-            Refusal::Conflict(_)
-            | Refusal::GateClosed { .. }
-            | Refusal::Held { .. }
-            | Refusal::Again { .. }
-            | Refusal::LogFull { .. }
-            | Refusal::ClockFull { .. }
-            | Refusal::Irrevocable
-            | Refusal::Deep { .. }
-            | Refusal::RangeTaken { .. } => CallerPhase::Idle,
         }
     }
 }

@@ -8,6 +8,7 @@ ghost use Rattle.tx_checked.specs.Ready.{AreFresh, AreNew, IsUnused, IsOpenError
 
 use crate::checked_caller::CheckedCaller;
 use crate::counts::Counts;
+use crate::errand::Errand;
 use crate::note_exchange::NoteExchange;
 use crate::phase::CallerPhase;
 use std::alloc::Global;
@@ -110,6 +111,7 @@ fn enlist(
             desc,
             phase: CallerPhase::Idle,
             reach: 0,
+            errand: Errand::End,
             range: None,
             refusal: None,
             counts: Counts::none(),

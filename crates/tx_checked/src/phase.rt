@@ -1,7 +1,10 @@
 //! Where a caller stands.
-use crate::errand::Errand;
+ghost use Rattle.std.specs.Prelude.{◌≡◌};
+ghost use Rattle.tx_checked.specs.Phases.{phase_after};
 
-/// Where a caller stands between two calls. Those in an attempt come first, so that one comparison tells them.
+use crate::refusal::Refusal;
+
+/// Where a caller stands between two calls.
 #[derive(Clone, Copy, Drop, Debug, PartialEq, Eq)]
 pub enum CallerPhase {
     /// In an attempt that may read and write everywhere.
@@ -12,7 +15,27 @@ pub enum CallerPhase {
     Committing,
     /// In no attempt.
     Idle,
-    /// In no attempt, with the gate closed for this call, which answered `Busy`: no attempt of others begins until the
+    /// In no attempt, with the gate closed for its errand, which answered `Busy`: no attempt of others begins until the
     /// call is done or given up.
-    Closing(Errand),
+    Closing,
+}
+
+impl CallerPhase {
+    /// Where a caller stands whose errand was refused so: at Busy it keeps the gate.
+    pub(crate) fn after(refusal: Refusal) -> CallerPhase
+        ensures { result ≡ phase_after refusal }
+    {
+        match refusal {
+            Refusal::Busy { .. } => CallerPhase::Closing,
+            Refusal::Conflict(_)
+            | Refusal::GateClosed { .. }
+            | Refusal::Held { .. }
+            | Refusal::Again { .. }
+            | Refusal::LogFull { .. }
+            | Refusal::ClockFull { .. }
+            | Refusal::Irrevocable
+            | Refusal::Deep { .. }
+            | Refusal::RangeTaken { .. } => CallerPhase::Idle,
+        }
+    }
 }

@@ -81,7 +81,8 @@ impl CheckedCaller {
                 Ok(Ok(()))
             }
             Err(refusal) => {
-                self.phase = errand.phase_after(refusal);
+                self.phase = CallerPhase::after(refusal);
+                self.errand = errand;
                 self.reach = 0;
                 self.refusal = Some(refusal);
                 self.counts.refuse(refusal);
@@ -197,7 +198,8 @@ impl CheckedCaller {
                 Ok(Ok(Give::ClockFull { clock }))
             }
             Err(refusal) => {
-                self.phase = Errand::Give.phase_after(refusal);
+                self.phase = CallerPhase::after(refusal);
+                self.errand = Errand::Give;
                 self.reach = 0;
                 self.refusal = Some(refusal);
                 self.counts.refuse(refusal);

@@ -13,7 +13,9 @@ use crate::checked_caller::CheckedCaller;
 use crate::errand::Errand;
 use crate::misuse::Misuse;
 use crate::phase::CallerPhase;
+use stm_tx::calls;
 use stm_tx::fencing::spares;
+use tx_answers::answers::TxState;
 
 impl CheckedCaller {
     /// Whether it is in no attempt.
@@ -27,23 +29,20 @@ impl CheckedCaller {
             CallerPhase::Running
             | CallerPhase::Beside
             | CallerPhase::Committing
-            | CallerPhase::Closing(_) => { Err(self.not_outside()) }
+            | CallerPhase::Closing => { Err(self.not_outside()) }
         }
     }
 
-    /// What is wrong where it isn't idle. Apart, so that the calls that fit look once.
+    /// What is wrong where it isn't idle. Apart, and by its state, so that of a call that fits the phase is only compared.
     #[cold]
     #[inline(never)]
     fn not_outside(&self) -> Misuse
         requires busy { self.now.phase ≢ Idle }
         ensures { outside self.now ≡ Some result }
     {
-        match self.phase {
-            CallerPhase::Idle
-            | CallerPhase::Running
-            | CallerPhase::Beside
-            | CallerPhase::Committing => Misuse::InAttempt,
-            CallerPhase::Closing(_) => Misuse::Closing,
+        match calls::state(&self.desc) {
+            TxState::Running(_) | TxState::Committing(_) => Misuse::InAttempt,
+            TxState::Idle | TxState::Closing(_) => Misuse::Closing,
         }
     }
 
@@ -61,8 +60,8 @@ impl CheckedCaller {
             CallerPhase::Running | CallerPhase::Beside | CallerPhase::Committing => Err(
                 Misuse::InAttempt,
             ),
-            CallerPhase::Closing(other) => {
-                if errand.is_same(other) {
+            CallerPhase::Closing => {
+                if errand.is_same(self.errand) {
                     Ok(true)
                 } else {
                     Err(Misuse::Closing)
@@ -82,7 +81,7 @@ impl CheckedCaller {
             CallerPhase::Running | CallerPhase::Beside | CallerPhase::Committing => Err(
                 Misuse::InAttempt,
             ),
-            CallerPhase::Closing(_) => Ok(()),
+            CallerPhase::Closing => Ok(()),
         }
     }
 
@@ -100,10 +99,10 @@ impl CheckedCaller {
         ensures fits { OnOk result (inside self.now ≡ None) }
         ensures wrong { IfErr result (λ e. inside self.now ≡ Some e) }
     {
-        match self.phase {
-            CallerPhase::Idle => Err(Misuse::NoAttempt),
-            CallerPhase::Running | CallerPhase::Beside | CallerPhase::Committing => Ok(()),
-            CallerPhase::Closing(_) => Err(Misuse::Closing),
+        match calls::state(&self.desc) {
+            TxState::Idle => Err(Misuse::NoAttempt),
+            TxState::Running(_) | TxState::Committing(_) => Ok(()),
+            TxState::Closing(_) => Err(Misuse::Closing),
         }
     }
 
@@ -117,7 +116,7 @@ impl CheckedCaller {
             CallerPhase::Idle => Err(Misuse::NoAttempt),
             CallerPhase::Running | CallerPhase::Beside => Ok(()),
             CallerPhase::Committing => Err(Misuse::Committing),
-            CallerPhase::Closing(_) => Err(Misuse::Closing),
+            CallerPhase::Closing => Err(Misuse::Closing),
         }
     }
 
@@ -135,7 +134,7 @@ impl CheckedCaller {
         match self.phase {
             CallerPhase::Idle => Err(Misuse::NoAttempt),
             CallerPhase::Committing => Err(Misuse::Committing),
-            CallerPhase::Closing(_) => Err(Misuse::Closing),
+            CallerPhase::Closing => Err(Misuse::Closing),
             CallerPhase::Running => Err(Misuse::Address),
             CallerPhase::Beside => {
                 if a >= self.stm.config.words {
