@@ -1,5 +1,5 @@
 //! Some words read or written one after the other, for transactions that read what they need and then write.
-ghost use Rattle.std.specs.Prelude.{◌≡◌, ◌<◌, ◌≤◌, [], ◌∷◌, None, Some, IfOk, OnOk, IfErr};
+ghost use Rattle.std.specs.Prelude.{◌≡◌, ◌<◌, ◌≤◌, [], ◌∷◌, ◌%◌, ◌^◌, sum, None, Some, IfOk, OnOk, IfErr};
 ghost use Rattle.stm_model.specs.Logs.{SameMemories};
 ghost use Rattle.tx_effects.specs.Accesses.{ExplainedFor};
 ghost use Rattle.tx_effects.specs.FreshLaws.{nothing};
@@ -96,7 +96,26 @@ pub fn read_sum<A: Access>(memory: &mut A, range: Range<usize>) -> Result<u64, S
     Ok(sum)
 }
 
-/// Writes two words, each an address and its value.
+/// Writes one word, an address and its value.
+///
+/// # Errors
+/// The Stop of the access.
+pub fn write_one<A: Access>(memory: &mut A, word: (usize, u64)) -> Result<(), Stop>
+    requires going { A.stopped memory.old ≡ None }
+    requires within { word.0 < A.words memory.old }
+    ensures wrote { OnOk result (AllWritten (A.log memory.old) (word ∷ []) (A.log memory.new)) }
+    ensures explained { OnOk result (ExplainedFor A.Access memory.new) }
+    ensures goes { OnOk result (A.stopped memory.new ≡ None) }
+    ensures stops { IfErr result (λ s. A.stopped memory.new ≡ Some s) }
+    ensures good { SameMemories (A.good memory.old) (A.good memory.new) }
+    ensures words { A.words memory.new ≡ A.words memory.old }
+    ensures keeps { A.keeps memory.old memory.new }
+{
+    memory.write(word.0, word.1)?;
+    Ok(())
+}
+
+/// Writes two words, as `write_one` one.
 ///
 /// # Errors
 /// The Stop of the access.
@@ -116,7 +135,7 @@ pub fn write_two<A: Access>(memory: &mut A, a: (usize, u64), b: (usize, u64)) ->
     Ok(())
 }
 
-/// Writes three words, as `write_two` two.
+/// Writes three words, as `write_one` one.
 ///
 /// # Errors
 /// The Stop of the access.
@@ -142,4 +161,15 @@ pub fn write_three<A: Access>(
     memory.write(b.0, b.1)?;
     memory.write(c.0, c.1)?;
     Ok(())
+}
+
+/// The sum of these words, modulo 2^64: of a closed memory's, say.
+pub fn sum_of(words: &[u64]) -> u64
+    ensures { result ≡ sum words.now % 2 ^ 64 }
+{
+    let mut total: u64 = 0;
+    for word in words {
+        total = total.wrapping_add(*word);
+    }
+    total
 }

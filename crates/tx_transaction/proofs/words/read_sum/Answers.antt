@@ -1,6 +1,6 @@
 use Rattle.std.proofs.Common.{ℕ, ◌≡◌, ◌∙◌, refl, arith, subst}
 use Rattle.tx_effects.specs.EffectLaws.{same-trans}
-use Rattle.tx_transaction.specs.WordLaws.{HasSum, only-read, placed, sum-more, sum-known}
+use Rattle.tx_transaction.specs.WordLaws.{HasSum, only-read, sum-more, sum-known}
 use Rattle.tx_transaction.proofs.words.read_sum.Goals as goal
 
 pub loop-a-preserved : goal.loop-a-preserved
@@ -13,7 +13,7 @@ loop-a-preserved g c =
       good = same-trans _ _ _ was.good one.good;
       keeps = g.met.A.Access.keeps_trans _ _ _ was.keeps one.keeps;
       explained = λ some. one.explained;
-      read = sum-more _ _ _ _ _ _ _ _ was.read (let low = c.loop-a-test.true in let within = c.requires.within in omega arith) one.value _ refl;
+      read = sum-more _ was.read (let low = c.loop-a-test.true in let within = c.requires.within in omega arith) one.value refl;
     }
 
 pub returns-clause-known : goal.returns-clause-known
@@ -24,7 +24,7 @@ returns-clause-known g c fresh =
     let upto = c.loop-a.auto.a-end in
     let is : c.loop-a.a ≡ c.args.range.end = omega arith in
     subst (λ (end : ℕ). HasSum (g.A.Access.good c.args.memory.now) (g.A.Access.words c.args.memory.now) c.args.range.start end c.loop-a.sum) is
-    (sum-known _ _ _ _ _ _ _ _ _ all.read (omega arith) all.good all.words (all.explained (omega arith)) fresh)
+    (sum-known all.read all.good all.words (all.explained (omega arith)) fresh)
 
 pub returns-clause-writes : goal.returns-clause-writes
-returns-clause-writes g c = let read = c.loop-a.invariant.read in only-read _ _ (placed c.args.range.start read.found) _ read.read
+returns-clause-writes g c = only-read c.loop-a.invariant.read.read

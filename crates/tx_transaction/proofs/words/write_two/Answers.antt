@@ -2,4 +2,4 @@ use Rattle.std.proofs.Common.{refl}
 use Rattle.tx_transaction.proofs.words.write_two.Goals as goal
 
 pub returns-clause-wrote : goal.returns-clause-wrote
-returns-clause-wrote g c = (_, c.in_ok-write.ensures.value, (_, c.in_ok-write-2.ensures.value, refl))
+returns-clause-wrote g c = record { each = (_, c.in_ok-write.ensures.value, (_, c.in_ok-write-2.ensures.value, refl)) }
