@@ -26,6 +26,8 @@ pub struct Chains {
 impl Chains {
     /// The first link of the key's chain that names no cell of a lesser key. Two reads a cell at most, and
     /// one.
+    // in line, so that the access stays in registers from one read to the next
+    #[inline(always)]
     fn find<A: Access>(&self, acc: &mut A, key: u32) -> Result<Position, Stop>
         requires going { A.stopped acc.old ≡ None }
         requires within { ChainsFit self.now (A.words acc.old) }
@@ -69,6 +71,7 @@ impl Chains {
     ///
     /// # Errors
     /// The Stop of the access; it is never `ClockFull`.
+    #[inline(always)]
     pub fn contains<A: Access>(&self, acc: &mut A, key: u32) -> Result<bool, Stop>
         requires going { A.stopped acc.old ≡ None }
         requires within { ChainsFit self.now (A.words acc.old) }

@@ -43,6 +43,7 @@ impl Hash {
     ///
     /// # Errors
     /// The Stop of the access; it is never `ClockFull`.
+    #[inline(always)]
     pub fn contains<A: Access>(&self, acc: &mut A, key: u32) -> Result<bool, Stop>
         requires going { A.stopped acc.old ≡ None }
         requires within { ChainsFit (hash_of self.now) (A.words acc.old) }

@@ -39,6 +39,7 @@ impl List {
     ///
     /// # Errors
     /// The Stop of the access; it is never `ClockFull`.
+    #[inline(always)]
     pub fn contains<A: Access>(&self, acc: &mut A, key: u32) -> Result<bool, Stop>
         requires going { A.stopped acc.old ≡ None }
         requires within { ChainsFit (list_of self.now) (A.words acc.old) }
