@@ -10,7 +10,7 @@ ghost use Rattle.tx_atomic.specs.Tries.{Ran};
 
 use crate::attempts::attempt;
 use crate::observer::Observer;
-use crate::pace::{Pacing, Refused};
+use crate::pace::Pacing;
 use crate::tally::Ended;
 use std::sync::Wait;
 use stm_model::rule::MemRule;
@@ -51,20 +51,23 @@ pub fn atomically<R: Wait, K: MemRule, T: Transaction<K>, O: Observer>(
     ensures gave_up { IfNone result (Ran (K.good stm.now.rule) stm.now.config (number desc.old)
         (Some ClockFull) (known desc.old) (known desc.new) pace.old.tally pace.new.tally) }
 {
+    // most transactions commit at once: the first attempt stands before the loop, and is asked for nothing
+    if let Ok(output) = attempt(rt, desc, stm, pace, transaction, false) {
+        pace.get_on();
+        return Some(output);
+    }
     let mut failed: u32 = 0;
     for _ in rt.forever() {
-        match attempt(rt, desc, stm, pace, transaction, failed >= MOST_FAILED) {
-            Ok(output) => {
-                pace.get_on();
-                return Some(output);
+        match pace.last {
+            Ended::ClockFull => return None,
+            ended => {
+                pace.wait(ended);
+                failed = failed_next(failed, ended);
             }
-            Err(Refused) => match pace.last {
-                Ended::ClockFull => return None,
-                ended => {
-                    pace.wait(ended);
-                    failed = failed_next(failed, ended);
-                }
-            },
+        }
+        if let Ok(output) = attempt(rt, desc, stm, pace, transaction, failed >= MOST_FAILED) {
+            pace.get_on();
+            return Some(output);
         }
     }
     unreachable!()

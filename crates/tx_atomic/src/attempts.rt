@@ -64,6 +64,7 @@ pub fn attempt<R: Wait, K: MemRule, T: Transaction<K>, O: Observer>(
 }
 
 /// Begins, and asks to be irrevocable where `irrevocable` says so.
+#[inline(always)]
 fn open<R: Wait, K: MemRule, O: Observer>(
     rt: &R,
     desc: &mut Desc<K>,
@@ -124,8 +125,7 @@ fn begin<K: MemRule, O: Observer>(
     match try_begin(desc, stm) {
         Begin::Begun(_) => {
             if fence_seen(desc).is_some() {
-                turn_back(desc, stm);
-                return Err(pace.refuse(Ended::Fenced, None));
+                return Err(turn_back(desc, stm, pace));
             }
             Ok(())
         }
@@ -135,10 +135,14 @@ fn begin<K: MemRule, O: Observer>(
     }
 }
 
-/// Ends an attempt that has done nothing, whatever its algorithm. Kept out of line so the hot commit can be inlined, and
-/// without an answer so that no attempt makes room for it.
+/// Ends an attempt that has done nothing, whatever its algorithm: a range is out of the transactions. Kept out of line so the
+/// hot commit can be inlined, and without that one's answer so that no attempt makes room for it.
 #[cold]
-fn turn_back<K: MemRule>(desc: &mut Desc<K>, stm: &Stm<K>)
+fn turn_back<K: MemRule, O: Observer>(
+    desc: &mut Desc<K>,
+    stm: &Stm<K>,
+    pace: &mut Pacing<O>,
+) -> Refused
     requires stm { IsOf desc.old stm.now }
     requires running { (known desc.old).running ≡ true }
     requires keeps { KeepsRule (K.good stm.now.rule) stm.now.config (number desc.old)
@@ -147,8 +151,11 @@ fn turn_back<K: MemRule>(desc: &mut Desc<K>, stm: &Stm<K>)
     ensures commits { (answer : Commit)
         × Commits (K.good stm.now.rule) stm.now.config (number desc.old) answer (known desc.old)
         (known desc.new) }
+    ensures tally { pace.new.tally ≡ pace.old.tally }
+    ensures last { pace.new.last ≡ Ended.Fenced }
 {
     commit(desc, stm);
+    pace.refuse(Ended::Fenced, None)
 }
 
 /// Asks to be irrevocable until that is granted, or the attempt is over. While another is in an attempt it waits

@@ -1,85 +1,125 @@
-use Rattle.std.proofs.Common.{rules, refl, leb, subst}
+use Rattle.std.proofs.Common.{ℕ, ◌≡◌, ◌≢◌, false, List, rules, refl, leb, sym, subst}
+use Rattle.stm_model.specs.declared.config.Config.{Config}
+use Rattle.tx_answers.specs.CallerState.{CallerState, Grows}
 use Rattle.tx_answers.specs.CallerStateLaws.{carries-refl, grows-trans}
 use Rattle.stm_tx.specs.Descs.{known, number}
 use Rattle.tx_atomic.specs.Attempts.{TookEffect}
 use Rattle.tx_atomic.specs.AttemptLaws.{same-number, took-since}
 use Rattle.std.specs.Prelude.{Some, None}
+use Rattle.tx_atomic.specs.declared.tally.Ended.{Ended}
 use Rattle.tx_atomic.specs.declared.tally.Ended.TheVariants.{ClockFull}
-use Rattle.tx_atomic.specs.Tries.{Tried}
+use Rattle.tx_atomic.specs.declared.tally.Tally.{Tally}
+use Rattle.tx_atomic.specs.Tallies.{noted, failed_next}
+use Rattle.tx_atomic.specs.Tries.{Failing, Tried}
 use Rattle.tx_atomic.specs.TryLaws.{failing-none, failing-more, ran, tried-full, full-earlier}
 use Rattle.tx_atomic.proofs.atomically.atomically.Goals as goal
-
-pub loop-init : goal.loop-init
-loop-init g c =
-    let stm = c.args.stm.now in
-    let grew = (carries-refl (known c.args.desc.now)).grows in
-    let failing = failing-none (g.K.MemRule.good stm.rule) stm.config (number c.args.desc.now) (known c.args.desc.now) c.args.pace.now.tally in
-    search (rules, grew, failing)
-
-pub loop-preserved : goal.loop-preserved
-loop-preserved g c =
-    let grew = grows-trans (known c.args.desc.now) (known c.loop.desc) (known c.attempt.new.desc) c.loop.invariant.grew c.attempt.ensures.grew in
-    let stm = c.args.stm.now in
-    let good = g.K.MemRule.good stm.rule in
-    let v = known c.loop.desc in
-    let w = known c.attempt.new.desc in
-    let inv = c.loop.invariant in
-    let ended = c.attempt.new.pace.last in
-    let tried = subst (λ n. Tried good stm.config n (leb 16 c.loop.failed) (Some ended) v w c.loop.pace.tally c.attempt.new.pace.tally) (same-number c.args.desc.now c.loop.desc inv.same) c.in-Err.ensures.tried in
-    let failing = failing-more good stm.config (number c.args.desc.now) c.loop.failed (leb 16 c.loop.failed) ended (known c.args.desc.now) v
-    w c.args.pace.now.tally c.loop.pace.tally c.attempt.new.pace.tally c.in_default.not-ClockFull refl inv.failing tried in
-    search (rules, grew, failing)
 
 pub returns-in-Ok-clause-ran : goal.returns-in-Ok-clause-ran
 returns-in-Ok-clause-ran g c =
     let stm = c.args.stm.now in
     let good = g.K.MemRule.good stm.rule in
+    let n = number c.args.desc.now in
+    let u = known c.args.desc.now in
+    let s = c.args.pace.now.tally in
+    let ran = ran good stm.config n 0 false None u u (known c.attempt.new.desc) s s c.attempt.new.pace.tally refl (failing-none good stm.config n u s) c.in-Ok.ensures.tried in
+    search (rules, ran)
+
+pub loop-init : goal.loop-init
+loop-init g c =
+    let stm = c.args.stm.now in
+    let good = g.K.MemRule.good stm.rule in
+    let n = number c.args.desc.now in
+    let u = known c.args.desc.now in
+    let s = c.args.pace.now.tally in
+    let failing : (v : CallerState) × (r : Tally) × Grows u v × Failing good stm.config n 0 u v s r
+    × Tried good stm.config n (leb 16 0) (Some c.attempt.new.pace.last) v (known c.attempt.new.desc) r c.attempt.new.pace.tally =
+    (u, s, (carries-refl u).grows, failing-none good stm.config n u s, c.in_default.ensures.tried) in
+    search (rules, failing)
+
+-- the attempts that failed, with the last of them counted
+counted : (good : List ℕ → Type 0) (config : Config) (n failed failed' : ℕ) (e : Ended) (u w : CallerState) (s t t' : Tally) → e ≢ ClockFull
+    → failed' ≡ failed_next failed e → t' ≡ noted e t
+    → (v : CallerState) × (r : Tally) × Grows u v × Failing good config n failed u v s r × Tried good config n (leb 16 failed) (Some e) v w r t
+    → Failing good config n failed' u w s t'
+counted good config n failed failed' e u w s t t' apart next noted' h =
+    subst (λ (f : ℕ). Failing good config n f u w s t') (sym next)
+    (subst (λ (q : Tally). Failing good config n (failed_next failed e) u w s q) (sym noted')
+    (failing-more good config n failed (leb 16 failed) e u h.0 w s h.1 t apart refl h.3 h.4))
+
+pub loop-preserved : goal.loop-preserved
+loop-preserved g c =
+    let stm = c.args.stm.now in
+    let good = g.K.MemRule.good stm.rule in
+    let n = number c.args.desc.now in
+    let u = known c.args.desc.now in
     let v = known c.loop.desc in
-    let w = known c.attempt.new.desc in
+    let w = known c.attempt-in-loop.new.desc in
+    let s = c.args.pace.now.tally in
+    let r = c.wait.new.self.tally in
     let inv = c.loop.invariant in
-    let tried = subst (λ n. Tried good stm.config n (leb 16 c.loop.failed) None v w c.loop.pace.tally c.attempt.new.pace.tally) (same-number c.args.desc.now c.loop.desc inv.same) c.in-Ok.ensures.tried in
-    let ran = ran good stm.config (number c.args.desc.now) c.loop.failed (leb 16 c.loop.failed) None (known c.args.desc.now) v w c.args.pace.now.tally c.loop.pace.tally c.attempt.new.pace.tally refl inv.failing tried in
+    let failed = c.failed_next.result in
+    let last = c.attempt-in-loop.new.pace.last in
+    let grew = grows-trans u v w inv.grew c.attempt-in-loop.ensures.grew in
+    let before = counted good stm.config n c.loop.failed failed c.loop.pace.last u v s c.loop.pace.tally r c.in_default-last.not-ClockFull c.failed_next.ensures c.wait.ensures.noted inv.failing in
+    let tried = subst (λ m. Tried good stm.config m (leb 16 failed) (Some last) v w r c.attempt-in-loop.new.pace.tally) (same-number c.args.desc.now c.loop.desc inv.same) c.in_default-attempt.ensures.tried in
+    let failing : (x : CallerState) × (q : Tally) × Grows u x × Failing good stm.config n failed u x s q
+    × Tried good stm.config n (leb 16 failed) (Some last) x w q c.attempt-in-loop.new.pace.tally =
+    (v, r, inv.grew, before, tried) in
+    search (rules, grew, failing)
+
+pub returns-in-Ok-attempt-clause-ran : goal.returns-in-Ok-attempt-clause-ran
+returns-in-Ok-attempt-clause-ran g c =
+    let stm = c.args.stm.now in
+    let good = g.K.MemRule.good stm.rule in
+    let n = number c.args.desc.now in
+    let u = known c.args.desc.now in
+    let v = known c.loop.desc in
+    let w = known c.attempt-in-loop.new.desc in
+    let s = c.args.pace.now.tally in
+    let r = c.wait.new.self.tally in
+    let t = c.attempt-in-loop.new.pace.tally in
+    let inv = c.loop.invariant in
+    let failed = c.failed_next.result in
+    let before = counted good stm.config n c.loop.failed failed c.loop.pace.last u v s c.loop.pace.tally r c.in_default-last.not-ClockFull c.failed_next.ensures c.wait.ensures.noted inv.failing in
+    let tried = subst (λ m. Tried good stm.config m (leb 16 failed) None v w r t) (same-number c.args.desc.now c.loop.desc inv.same) c.in-Ok-attempt.ensures.tried in
+    let ran = ran good stm.config n failed (leb 16 failed) None u v w s r t refl before tried in
     search (rules, ran)
 
 pub returns-in-ClockFull-clause-gave_up : goal.returns-in-ClockFull-clause-gave_up
 returns-in-ClockFull-clause-gave_up g c =
     let stm = c.args.stm.now in
     let good = g.K.MemRule.good stm.rule in
-    let v = known c.loop.desc in
-    let w = known c.attempt.new.desc in
-    let inv = c.loop.invariant in
-    let here = subst (λ e. Tried good stm.config (number c.loop.desc) (leb 16 c.loop.failed) (Some e) v w c.loop.pace.tally c.attempt.new.pace.tally) c.in-ClockFull.is c.in-Err.ensures.tried in
-    let tried = subst (λ n. Tried good stm.config n (leb 16 c.loop.failed) (Some ClockFull) v w c.loop.pace.tally c.attempt.new.pace.tally) (same-number c.args.desc.now c.loop.desc inv.same) here in
-    let ran = ran good stm.config (number c.args.desc.now) c.loop.failed (leb 16 c.loop.failed) (Some ClockFull) (known c.args.desc.now) v w
-    c.args.pace.now.tally c.loop.pace.tally c.attempt.new.pace.tally refl inv.failing tried in
+    let n = number c.args.desc.now in
+    let w = known c.loop.desc in
+    let h = c.loop.invariant.failing in
+    let tried = subst (λ e. Tried good stm.config n (leb 16 c.loop.failed) (Some e) h.0 w h.1 c.loop.pace.tally) c.in-ClockFull.is h.4 in
+    let ran = ran good stm.config n c.loop.failed (leb 16 c.loop.failed) (Some ClockFull) (known c.args.desc.now) h.0 w
+    c.args.pace.now.tally h.1 c.loop.pace.tally refl h.3 tried in
     search (rules, ran)
 
 pub returns-in-ClockFull-clause-full : goal.returns-in-ClockFull-clause-full
 returns-in-ClockFull-clause-full g c =
     let stm = c.args.stm.now in
     let good = g.K.MemRule.good stm.rule in
-    let v = known c.loop.desc in
-    let w = known c.attempt.new.desc in
-    let here = subst (λ e. Tried good stm.config (number c.loop.desc) (leb 16 c.loop.failed) (Some e) v w c.loop.pace.tally c.attempt.new.pace.tally) c.in-ClockFull.is c.in-Err.ensures.tried in
-    let found = tried-full good stm.config (number c.loop.desc) (leb 16 c.loop.failed) c.loop.pace.tally c.attempt.new.pace.tally v w here in
-    (found.0, full-earlier found.0 (known c.args.desc.now) v w c.loop.invariant.grew found.1)
+    let n = number c.args.desc.now in
+    let w = known c.loop.desc in
+    let h = c.loop.invariant.failing in
+    let tried = subst (λ e. Tried good stm.config n (leb 16 c.loop.failed) (Some e) h.0 w h.1 c.loop.pace.tally) c.in-ClockFull.is h.4 in
+    let found = tried-full good stm.config n (leb 16 c.loop.failed) h.1 c.loop.pace.tally h.0 w tried in
+    (found.0, full-earlier found.0 (known c.args.desc.now) h.0 w h.2 found.1)
 
-pub returns-in-Ok-clause-grew : goal.returns-in-Ok-clause-grew
-returns-in-Ok-clause-grew g c =
-    grows-trans (known c.args.desc.now) (known c.loop.desc) (known c.attempt.new.desc) c.loop.invariant.grew c.attempt.ensures.grew
+pub returns-in-Ok-attempt-clause-grew : goal.returns-in-Ok-attempt-clause-grew
+returns-in-Ok-attempt-clause-grew g c =
+    grows-trans (known c.args.desc.now) (known c.loop.desc) (known c.attempt-in-loop.new.desc) c.loop.invariant.grew c.attempt-in-loop.ensures.grew
 
-pub returns-in-ClockFull-clause-grew : goal.returns-in-ClockFull-clause-grew
-returns-in-ClockFull-clause-grew g c =
-    grows-trans (known c.args.desc.now) (known c.loop.desc) (known c.attempt.new.desc) c.loop.invariant.grew c.attempt.ensures.grew
-
-pub returns-in-Ok-clause-took : goal.returns-in-Ok-clause-took
-returns-in-Ok-clause-took g c =
+pub returns-in-Ok-attempt-clause-took : goal.returns-in-Ok-attempt-clause-took
+returns-in-Ok-attempt-clause-took g c =
     let stm = c.args.stm.now in
     let good = g.K.MemRule.good stm.rule in
     let inv = c.loop.invariant in
     let u = known c.args.desc.now in
     let v = known c.loop.desc in
-    let w = known c.attempt.new.desc in
-    let postcondition = g.T.Transaction.postcondition c.args.transaction.now stm.rule stm.config.words c.in-Ok.output in
-    let now = subst (λ n. TookEffect good stm.config n postcondition v.front v w) (same-number c.args.desc.now c.loop.desc inv.same) c.in-Ok.ensures.took in
+    let w = known c.attempt-in-loop.new.desc in
+    let postcondition = g.T.Transaction.postcondition c.args.transaction.now stm.rule stm.config.words c.in-Ok-attempt.output in
+    let now = subst (λ n. TookEffect good stm.config n postcondition v.front v w) (same-number c.args.desc.now c.loop.desc inv.same) c.in-Ok-attempt.ensures.took in
     took-since good stm.config (number c.args.desc.now) postcondition v.front u.front u v w inv.made inv.grew inv.grew.front_rose now

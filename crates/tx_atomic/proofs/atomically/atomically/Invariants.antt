@@ -1,10 +1,13 @@
-use Rattle.std.proofs.Common.{◌≡◌}
+use Rattle.std.proofs.Common.{ℕ, ◌≡◌, leb}
+use Rattle.std.specs.Prelude.{Some}
 use Rattle.stm_rule.specs.Callers.{IsSameCaller}
-use Rattle.tx_answers.specs.CallerState.{Grows, IsIdle}
+use Rattle.tx_answers.specs.CallerState.{CallerState, Grows, IsIdle}
 use Rattle.stm_tx.specs.Descs.{known, number}
-use Rattle.tx_atomic.specs.Tries.{Failing}
+use Rattle.tx_atomic.specs.declared.tally.Tally.{Tally}
+use Rattle.tx_atomic.specs.Tries.{Failing, Tried}
 use Rattle.tx_atomic.proofs.atomically.atomically.Given as goal
 
+-- the last attempt failed too, and isn't counted yet
 abbrev pub invariant-loop : goal.invariant-loop
 invariant-loop g l = record {
   next : (goal.iterator-loop g).can_next l.iterator';
@@ -15,5 +18,7 @@ invariant-loop g l = record {
   made : (known l.desc).made ≡ (known l.fn.desc).made;
   installs : (known l.desc).installs ≡ (known l.fn.desc).installs;
   commits : l.pace.tally.commits ≡ l.fn.pace.tally.commits;
-  failing : Failing (g.K.MemRule.good l.fn.stm.rule) l.fn.stm.config (number l.fn.desc) l.failed (known l.fn.desc) (known l.desc) l.fn.pace.tally l.pace.tally;
+  failing : (v : CallerState) × (s : Tally) × Grows (known l.fn.desc) v
+      × Failing (g.K.MemRule.good l.fn.stm.rule) l.fn.stm.config (number l.fn.desc) l.failed (known l.fn.desc) v l.fn.pace.tally s
+      × Tried (g.K.MemRule.good l.fn.stm.rule) l.fn.stm.config (number l.fn.desc) (leb 16 l.failed) (Some l.pace.last) v (known l.desc) s l.pace.tally;
 }

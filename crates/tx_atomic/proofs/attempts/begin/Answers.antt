@@ -35,7 +35,7 @@ returns-then-is_some-clause-refused g c =
     c.try_begin.ensures.begins (seen v some)
     (commits-grow good stm.config (number c.try_begin.new.desc) c.turn_back.ensures.commits.0 v v w (carries-refl v).grows
     c.turn_back.ensures.commits.1) in
-    subst (λ (e : Ended). EndsBegin good stm.config (number c.args.desc.now) e (known c.args.desc.now) w) (sym c.refuse.ensures.last) refused
+    subst (λ (e : Ended). EndsBegin good stm.config (number c.args.desc.now) e (known c.args.desc.now) w) (sym c.turn_back.ensures.last) refused
 
 pub returns-in-Closed-clause-refused : goal.returns-in-Closed-clause-refused
 returns-in-Closed-clause-refused g c =
@@ -43,7 +43,7 @@ returns-in-Closed-clause-refused g c =
     let good = g.K.MemRule.good stm.rule in
     let w = known c.try_begin.new.desc in
     let refused = begin-closed good stm.config (number c.args.desc.now) c.try_begin.result _ (known c.args.desc.now) w c.in-Closed.is c.try_begin.ensures.begins in
-    subst (λ (e : Ended). EndsBegin good stm.config (number c.args.desc.now) e (known c.args.desc.now) w) (sym c.refuse-in-Closed.ensures.last) refused
+    subst (λ (e : Ended). EndsBegin good stm.config (number c.args.desc.now) e (known c.args.desc.now) w) (sym c.refuse.ensures.last) refused
 
 pub returns-in-Held-clause-refused : goal.returns-in-Held-clause-refused
 returns-in-Held-clause-refused g c =
