@@ -18,4 +18,5 @@ opened_in m = if leb 1 (slice_index m 8) then unchanged false m else changed tru
 
 -- the amount goes from one account to another, where the first has as much
 abbrev pub moved_in : Transfer → List ℕ → Effect Bool
-moved_in it m = if leb it.amount (slice_index m it.from) then changed true (written m ((it.from, slice_index m it.from - it.amount) ∷ (it.to, slice_index m it.to + it.amount) ∷ [])) else unchanged false m
+moved_in it m =
+    if leb it.amount (slice_index m it.from) then changed true (written m ((it.from, slice_index m it.from - it.amount) ∷ (it.to, slice_index m it.to + it.amount) ∷ [])) else unchanged false m

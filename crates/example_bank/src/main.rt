@@ -8,6 +8,7 @@ ghost use Rattle.example_bank.specs.Banks.{IsBalanced, IsPaid};
 mod bank;
 
 use crate::bank::{Audit, Bank, Open, Transfer};
+use nekchhaul::words::sum_of;
 use nekchhaul::{ALGORITHMS, Alg, Caller, Job, NewError, sizes, with_memory};
 use std::alloc::Global;
 use std::process::ExitCode;
@@ -85,11 +86,7 @@ fn total_of(words: &[u64]) -> u64
     requires count { length words.now ≡ 9 }
     ensures { result ≡ slice_index words.now 8 }
 {
-    let mut total: u64 = 0;
-    for account in 0..8 {
-        total = total.wrapping_add(words[account]);
-    }
-    total
+    sum_of(&words[..8])
 }
 
 fn main(rt: HostRuntime) -> ExitCode {

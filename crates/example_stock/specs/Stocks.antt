@@ -23,7 +23,11 @@ filled Reserve amount stock reserved = if leb amount (stock - reserved) then (st
 filled Release amount stock reserved = if leb amount reserved then (stock, reserved - amount) else (stock, reserved)
 filled Sell amount stock reserved = if leb amount reserved then (stock - amount, reserved - amount) else (stock, reserved)
 
+-- so much of an item is left in stock, and reserved; the rest was sold
+abbrev pub left_in : ℕ → ℕ × ℕ → List ℕ → List ℕ
+left_in item left m = written m ((16 + item, left.0) ∷ (32 + item, left.1) ∷ (48 + item, slice_index m item - left.0) ∷ [])
+
 abbrev pub filled_in : Fill → List ℕ → Effect (ℕ × ℕ)
 filled_in it m =
     let left = filled it.order it.amount (slice_index m (16 + it.item)) (slice_index m (32 + it.item)) in
-    changed left (written m ((16 + it.item, left.0) ∷ (32 + it.item, left.1) ∷ (48 + it.item, slice_index m it.item - left.0) ∷ []))
+    changed left (left_in it.item left m)

@@ -1,4 +1,4 @@
-//! Tests of the structures over a plain memory: tx_places, tx_layout, tx_queue, tx_sums, tx_regions.
+//! Tests over a plain memory: tx_places, tx_layout, tx_queue, tx_sums, tx_regions, the words of tx_transaction.
 #![tactic(auto)]
 
 #[cfg(test)]
@@ -11,3 +11,5 @@ mod tx_queue_tests;
 mod tx_regions_tests;
 #[cfg(test)]
 mod tx_sums_tests;
+#[cfg(test)]
+mod tx_transaction_tests;

@@ -9,6 +9,7 @@ ghost use Rattle.token_bucket.specs.Buckets.{IsFair};
 mod bucket;
 
 use crate::bucket::{Limiter, Wish};
+use nekchhaul::words::sum_of;
 use nekchhaul::{Alg, Caller, ClosedMemory, Job, NewError, sizes, with_memory};
 use std::alloc::Global;
 use std::process::ExitCode;
@@ -75,11 +76,7 @@ fn handed_out(words: &[u64]) -> u64
     requires count { length words.now ≡ 33 }
     ensures { result ≡ slice_index words.now 32 }
 {
-    let mut sum: u64 = 0;
-    for client in 0..16 {
-        sum = sum.wrapping_add(words[client]);
-    }
-    sum
+    sum_of(&words[..16])
 }
 
 fn main(rt: HostRuntime) -> ExitCode {

@@ -5,9 +5,11 @@ use Rattle.nekchhaul.specs.StoryLaws.{by-stories}
 use Rattle.token_bucket.proofs.run.Goals as goal
 
 pub with_memory-requires-clause-good : goal.with_memory-requires-clause-good
-with_memory-requires-clause-good g c κs within = rw c.sizes.ensures.words ((λ client lt. let e = zero-at 33 (16 + client) in omega arith), refl)
+with_memory-requires-clause-good g c κs within =
+    rw c.sizes.ensures.words ((λ client lt. let e = zero-at 33 (16 + client) in omega arith), refl)
 
 pub returns-clause-installs : goal.returns-clause-installs
 returns-clause-installs g c =
     by-stories _ _ _ _ c.with_memory.ensures.answers c.with_memory.ensures.stories _
-    (λ came story. let s = (story 0 (let four = c.sizes.ensures.callers in omega arith)).1 in s.installed ∙ (s.told refl ∙ ap (λ l. l ++ Tml ∷ []) s.begun))
+    (λ came story. let s = (story 0 (let four = c.sizes.ensures.callers in omega arith)).1 in
+    s.installed ∙ (s.told refl ∙ ap (λ l. l ++ Tml ∷ []) s.begun))
