@@ -1,11 +1,9 @@
--- What a job needs of its memory.
-use Rattle.std.specs.Prelude.{ℕ, ◌<◌, ◌≤◌}
+-- What a transaction on a set needs of its memory.
+use Rattle.std.specs.Prelude.{ℕ}
 use Rattle.tx_cells.specs.Chains.{ChainsFit}
 use Rattle.tx_cells.specs.Structures.{list_of, hash_of}
 use Rattle.tx_regions.specs.declared.region.Region.{Region}
 use Rattle.tx_regions.specs.declared.region.Region.TheVariants.{Counter as OfCounter, List as OfList, Hash as OfHash, Tree as OfTree, Queue as OfQueue, SumMap as OfSumMap}
-use Rattle.perf_core.specs.declared.jobs.Job.{Job}
-use Rattle.perf_core.specs.declared.jobs.Job.TheVariants.{Store, Move, Sum, Add, Contains, Insert, Remove}
 
 -- a memory of so many words has room for the region's structure
 abbrev pub RegionFits : Region → ℕ → Type 0
@@ -15,13 +13,3 @@ RegionFits (OfHash h) words = ChainsFit (hash_of h) words
 RegionFits (OfTree t) words = Unit {0}
 RegionFits (OfQueue q) words = Unit {0}
 RegionFits (OfSumMap r) words = Unit {0}
-
--- and has the accounts of the job
-abbrev pub JobFits : ℕ → Job → Type 0
-JobFits words (Store account value) = account < words
-JobFits words (Move from to amount) = (from < words) × (to < words)
-JobFits words (Sum accounts) = accounts ≤ words
-JobFits words (Add account) = account < words
-JobFits words (Contains key) = Unit {0}
-JobFits words (Insert key) = Unit {0}
-JobFits words (Remove key) = Unit {0}

@@ -6,7 +6,7 @@ ghost use Rattle.stm_tx.specs.Descs.{known};
 ghost use Rattle.perf_core.specs.WorkRegions.{FitsWorkRegion};
 
 use crate::conflicts::Conflicts;
-use crate::drawing::{Bank, Count, Draw, Hash, List, Sum};
+use crate::drawing::{Bank, Count, Draw, Hash, List, Total};
 use crate::looks::Looks;
 use crate::plan::{Plan, Workload};
 use crate::work_counts::WorkCounts;
@@ -15,7 +15,6 @@ use rand_core::SeedableRng;
 use rand_pcg::Pcg32;
 use std::sync::Wait;
 use stm_tx::{Alg, Desc, Stm};
-use tx_atomic::atomically::atomically;
 use tx_atomic::pace::Pacing;
 use tx_atomic::switching::switch_to;
 
@@ -93,7 +92,7 @@ impl Caller {
             Workload::Hash => self.commit_drawn::<R, Hash>(rt, stm),
             Workload::List => self.commit_drawn::<R, List>(rt, stm),
             Workload::Count => self.commit_drawn::<R, Count>(rt, stm),
-            Workload::Sum => self.commit_drawn::<R, Sum>(rt, stm),
+            Workload::Sum => self.commit_drawn::<R, Total>(rt, stm),
         }
     }
 
@@ -106,8 +105,7 @@ impl Caller {
         ensures idle { IsIdle (known self.new.desc) }
     {
         for _ in 0..self.share {
-            let job = D::draw(&mut self.draws);
-            match atomically(rt, &mut self.desc, stm, &mut self.pace, &job) {
+            match D::commit(&mut self.draws, rt, &mut self.desc, stm, &mut self.pace) {
                 Some(came) => self.work_counts.note(came),
                 None => return,
             }

@@ -1,107 +1,181 @@
-//! Transactions drawn by chance, by the workload. Code that is generic in that asks once what is to be drawn, and not for each
-//! transaction.
-ghost use Rattle.std.specs.Prelude.{◌<◌};
-ghost use Rattle.perf_core.specs.Jobs.{JobFits};
+//! Transactions drawn by chance, by the workload.
+ghost use Rattle.std.specs.Prelude.{◌≡◌, ◌<◌, ◌≤◌};
+ghost use Rattle.stm_rule.specs.Callers.{IsOf, IsSameCaller};
+ghost use Rattle.tx_answers.specs.CallerState.{IsIdle};
+ghost use Rattle.stm_tx.specs.Descs.{known};
+ghost use Rattle.perf_core.specs.WorkRegions.{FitsWorkRegion};
 
-use crate::jobs::Job;
+use crate::conflicts::Conflicts;
+use crate::jobs::{Add, Contains, Insert, Move, Remove, Sum};
 use crate::plan::{ACCOUNTS, KEYS};
+use crate::work_counts::Came;
+use crate::work_region::WorkRegion;
 use rand_core::utils::NextWord;
 use rand_pcg::Pcg32;
+use std::sync::Wait;
+use stm_tx::{Desc, Stm};
+use tx_atomic::atomically::atomically;
+use tx_atomic::pace::Pacing;
 
-/// How the transactions of a workload are drawn.
+/// The transactions of a workload. Code that is generic in that asks once which workload it is, and not for each transaction;
+/// and each kind of transaction is compiled on its own.
 pub trait Draw {
-    /// The next transaction.
-    fn draw(draws: &mut Pcg32) -> Job
-        ensures { JobFits ACCOUNTS result };
+    /// Draws a transaction, and commits it. None where the clock was found at its limit.
+    fn commit<R: Wait>(
+        draws: &mut Pcg32,
+        rt: &R,
+        desc: &mut Desc<WorkRegion>,
+        stm: &Stm<WorkRegion>,
+        pace: &mut Pacing<Conflicts>,
+    ) -> Option<Came>
+        requires stm { IsOf desc.old stm.now }
+        requires idle { IsIdle (known desc.old) }
+        requires work_region { FitsWorkRegion stm.now }
+        ensures same { IsSameCaller desc.old desc.new }
+        ensures idle { IsIdle (known desc.new) };
 }
 
 /// Moves between two accounts, and once in 256 the sum of all.
 pub struct Bank;
 
-/// Lookups, insertions and removals in a hash set.
+/// Lookups, insertions and removals in a hash set: of a hundred 90, 5 and 5.
 pub struct Hash;
 
-/// The same in a sorted list.
+/// The same in a sorted list: of a hundred 80, 10 and 10.
 pub struct List;
 
 /// Each adds to one word.
 pub struct Count;
 
 /// Each is the sum of all accounts.
-pub struct Sum;
+pub struct Total;
 
 impl Draw for Bank {
-    #[inline]
-    fn draw(draws: &mut Pcg32) -> Job {
-        if draws.next_word() % 256 == 0 {
-            return sum_of_all();
+    #[inline(always)]
+    fn commit<R: Wait>(
+        draws: &mut Pcg32,
+        rt: &R,
+        desc: &mut Desc<WorkRegion>,
+        stm: &Stm<WorkRegion>,
+        pace: &mut Pacing<Conflicts>,
+    ) -> Option<Came> {
+        // one word says all: the lowest 8 bits what, 12 how much, and 10 and 10 above them from where and where to
+        let word = draws.next_word();
+        if word % 256 == 255 {
+            return sum_all(rt, desc, stm, pace);
         }
-        Job::Move {
-            from: account(draws),
-            to: account(draws),
-            amount: draws.next_word() % 100,
-        }
+        let job = Move {
+            from: word / 4_096 % ACCOUNTS as u32,
+            to: word / 4_194_304 % ACCOUNTS as u32,
+            amount: word % 4_096 * 100 / 4_096,
+        };
+        atomically(rt, desc, stm, pace, &job)?;
+        Some(Came::Done)
     }
 }
 
 impl Draw for Hash {
-    #[inline]
-    fn draw(draws: &mut Pcg32) -> Job {
-        let number = draws.next_word() % 100;
-        on_set(draws, number, 5)
+    #[inline(always)]
+    fn commit<R: Wait>(
+        draws: &mut Pcg32,
+        rt: &R,
+        desc: &mut Desc<WorkRegion>,
+        stm: &Stm<WorkRegion>,
+        pace: &mut Pacing<Conflicts>,
+    ) -> Option<Came> {
+        on_set(draws, 5, rt, desc, stm, pace)
     }
 }
 
 impl Draw for List {
-    #[inline]
-    fn draw(draws: &mut Pcg32) -> Job {
-        let number = draws.next_word() % 100;
-        on_set(draws, number, 10)
+    #[inline(always)]
+    fn commit<R: Wait>(
+        draws: &mut Pcg32,
+        rt: &R,
+        desc: &mut Desc<WorkRegion>,
+        stm: &Stm<WorkRegion>,
+        pace: &mut Pacing<Conflicts>,
+    ) -> Option<Came> {
+        on_set(draws, 10, rt, desc, stm, pace)
     }
 }
 
 impl Draw for Count {
-    #[inline]
-    fn draw(draws: &mut Pcg32) -> Job {
-        // a number is drawn for it as for each other
+    #[inline(always)]
+    fn commit<R: Wait>(
+        draws: &mut Pcg32,
+        rt: &R,
+        desc: &mut Desc<WorkRegion>,
+        stm: &Stm<WorkRegion>,
+        pace: &mut Pacing<Conflicts>,
+    ) -> Option<Came> {
+        // a word is drawn for it as for each other
         let _ = draws.next_word();
-        Job::Add { account: 0 }
+        atomically(rt, desc, stm, pace, &Add { account: 0 })?;
+        Some(Came::Done)
     }
 }
 
-impl Draw for Sum {
-    #[inline]
-    fn draw(draws: &mut Pcg32) -> Job {
+impl Draw for Total {
+    #[inline(always)]
+    fn commit<R: Wait>(
+        draws: &mut Pcg32,
+        rt: &R,
+        desc: &mut Desc<WorkRegion>,
+        stm: &Stm<WorkRegion>,
+        pace: &mut Pacing<Conflicts>,
+    ) -> Option<Came> {
         let _ = draws.next_word();
-        sum_of_all()
+        sum_all(rt, desc, stm, pace)
     }
 }
 
-fn sum_of_all() -> Job
-    ensures { JobFits ACCOUNTS result }
+fn sum_all<R: Wait>(
+    rt: &R,
+    desc: &mut Desc<WorkRegion>,
+    stm: &Stm<WorkRegion>,
+    pace: &mut Pacing<Conflicts>,
+) -> Option<Came>
+    requires stm { IsOf desc.old stm.now }
+    requires idle { IsIdle (known desc.old) }
+    requires work_region { FitsWorkRegion stm.now }
+    ensures same { IsSameCaller desc.old desc.new }
+    ensures idle { IsIdle (known desc.new) }
 {
-    Job::Sum {
+    let job = Sum {
         accounts: ACCOUNTS as u32,
+    };
+    if atomically(rt, desc, stm, pace, &job)? {
+        Some(Came::Done)
+    } else {
+        Some(Came::Wrong)
     }
 }
 
-/// One of the accounts.
-fn account(draws: &mut Pcg32) -> u32
-    ensures { result < ACCOUNTS }
+/// An insertion or a removal of a key in `each` of a hundred cases, else a lookup.
+#[inline(always)]
+fn on_set<R: Wait>(
+    draws: &mut Pcg32,
+    each: u32,
+    rt: &R,
+    desc: &mut Desc<WorkRegion>,
+    stm: &Stm<WorkRegion>,
+    pace: &mut Pacing<Conflicts>,
+) -> Option<Came>
+    requires stm { IsOf desc.old stm.now }
+    requires idle { IsIdle (known desc.old) }
+    requires work_region { FitsWorkRegion stm.now }
+    ensures same { IsSameCaller desc.old desc.new }
+    ensures idle { IsIdle (known desc.new) }
 {
-    draws.next_word() % ACCOUNTS as u32
-}
-
-/// An insertion or a removal of a key in `each` of a hundred cases, by a number below a hundred; else a lookup.
-fn on_set(draws: &mut Pcg32, number: u32, each: u32) -> Job
-    ensures { JobFits ACCOUNTS result }
-{
+    let number = draws.next_word() % 100;
     let key = draws.next_word() % KEYS;
     if number < each {
-        Job::Insert(key)
+        atomically(rt, desc, stm, pace, &Insert { key })
     } else if number / 2 < each {
-        Job::Remove(key)
+        atomically(rt, desc, stm, pace, &Remove { key })
     } else {
-        Job::Contains(key)
+        atomically(rt, desc, stm, pace, &Contains { key })?;
+        Some(Came::Done)
     }
 }

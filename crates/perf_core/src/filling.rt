@@ -6,7 +6,7 @@ ghost use Rattle.stm_tx.specs.Descs.{known};
 ghost use Rattle.perf_core.specs.WorkRegions.{FitsWorkRegion};
 
 use crate::conflicts::Conflicts;
-use crate::jobs::Job;
+use crate::jobs::{Insert, Store};
 use crate::plan::{ACCOUNTS, BALANCE, KEYS, Workload};
 use crate::work_region::WorkRegion;
 use std::alloc::Global;
@@ -51,7 +51,7 @@ fn fill_accounts<R: Wait>(
     ensures idle { IsIdle (known desc.new) }
 {
     for account in 0..ACCOUNTS as u32 {
-        let job = Job::Store {
+        let job = Store {
             account,
             value: BALANCE as u32,
         };
@@ -73,7 +73,9 @@ fn fill_set<R: Wait>(
     ensures idle { IsIdle (known desc.new) }
 {
     for i in 0..KEYS / 2 {
-        let job = Job::Insert(KEYS - 2 - 2 * i);
+        let job = Insert {
+            key: KEYS - 2 - 2 * i,
+        };
         atomically(rt, desc, stm, pace, &job);
     }
 }

@@ -1,6 +1,14 @@
 //! What the transactions that committed came to.
 
-use crate::jobs::Came;
+/// What a transaction came to.
+#[derive(Clone, Copy, Drop, Debug, PartialEq, Eq)]
+pub enum Came {
+    Done,
+    Inserted,
+    Removed,
+    /// The accounts had together something else than they began with.
+    Wrong,
+}
 
 /// What transactions came to. A count stands still at 2^64 - 1.
 #[derive(Clone, Copy, Drop, Debug, PartialEq, Eq)]

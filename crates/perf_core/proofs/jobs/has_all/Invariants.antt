@@ -1,6 +1,6 @@
 use Rattle.std.proofs.Common.{◌≡◌, None}
 use Rattle.stm_model.specs.Logs.{SameMemories}
-use Rattle.perf_core.proofs.jobs.sum.Given as goal
+use Rattle.perf_core.proofs.jobs.has_all.Given as goal
 
 abbrev pub invariant-loop-account : goal.invariant-loop-account
 invariant-loop-account g l = record {
