@@ -57,10 +57,10 @@ loop-preserved g c =
     let s = c.args.pace.now.tally in
     let r = c.wait.new.self.tally in
     let inv = c.loop.invariant in
-    let failed = c.failed_next.result in
+    let failed = c.failed_next-failed.result in
     let last = c.attempt-in-loop.new.pace.last in
     let grew = grows-trans u v w inv.grew c.attempt-in-loop.ensures.grew in
-    let before = counted good stm.config n c.loop.failed failed c.loop.pace.last u v s c.loop.pace.tally r c.in_default-last.not-ClockFull c.failed_next.ensures c.wait.ensures.noted inv.failing in
+    let before = counted good stm.config n c.loop.failed failed c.loop.pace.last u v s c.loop.pace.tally r c.in_default-last.not-ClockFull c.failed_next-failed.ensures c.wait.ensures.noted inv.failing in
     let tried = subst (λ m. Tried good stm.config m (leb 16 failed) (Some last) v w r c.attempt-in-loop.new.pace.tally) (same-number c.args.desc.now c.loop.desc inv.same) c.in_default-attempt.ensures.tried in
     let failing : (x : CallerState) × (q : Tally) × Grows u x × Failing good stm.config n failed u x s q
     × Tried good stm.config n (leb 16 failed) (Some last) x w q c.attempt-in-loop.new.pace.tally =
@@ -79,8 +79,8 @@ returns-in-Ok-attempt-clause-ran g c =
     let r = c.wait.new.self.tally in
     let t = c.attempt-in-loop.new.pace.tally in
     let inv = c.loop.invariant in
-    let failed = c.failed_next.result in
-    let before = counted good stm.config n c.loop.failed failed c.loop.pace.last u v s c.loop.pace.tally r c.in_default-last.not-ClockFull c.failed_next.ensures c.wait.ensures.noted inv.failing in
+    let failed = c.failed_next-failed.result in
+    let before = counted good stm.config n c.loop.failed failed c.loop.pace.last u v s c.loop.pace.tally r c.in_default-last.not-ClockFull c.failed_next-failed.ensures c.wait.ensures.noted inv.failing in
     let tried = subst (λ m. Tried good stm.config m (leb 16 failed) None v w r t) (same-number c.args.desc.now c.loop.desc inv.same) c.in-Ok-attempt.ensures.tried in
     let ran = ran good stm.config n failed (leb 16 failed) None u v w s r t refl before tried in
     search (rules, ran)

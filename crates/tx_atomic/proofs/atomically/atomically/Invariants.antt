@@ -1,4 +1,4 @@
-use Rattle.std.proofs.Common.{ℕ, ◌≡◌, leb}
+use Rattle.std.proofs.Common.{◌≡◌, leb}
 use Rattle.std.specs.Prelude.{Some}
 use Rattle.stm_rule.specs.Callers.{IsSameCaller}
 use Rattle.tx_answers.specs.CallerState.{CallerState, Grows, IsIdle}
