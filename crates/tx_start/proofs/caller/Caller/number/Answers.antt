@@ -1,8 +1,14 @@
-use Rattle.std.proofs.Common.{ℕ, ◌<◌, subst, arith}
+use Rattle.std.proofs.Common.{◌<◌, ◌≤◌, ◌∙◌, ap, subst, arith}
+use Rattle.stm_model.specs.declared.config.Config.{Config}
+use Rattle.stm_rule.specs.Callers.{Handle}
 use Rattle.tx_start.proofs.caller.Caller.number.Goals as goal
 
 pub returns-clause-one : goal.returns-clause-one
-returns-clause-one g c = ?
+returns-clause-one g c =
+    subst (λ (f : Config). c.self-desc.inside.number < f.callers) (ap (λ (h : Handle g.row.K.Denot). h.who.config) c.self-desc.view_is ∙ c.args.self.now.own.config) c.self-desc.invariant.0.low
 
 pub returns-clause-low : goal.returns-clause-low
-returns-clause-low g c = ?
+returns-clause-low g c =
+    let one = returns-clause-one g c in
+    let most = c.args.self.now.stm.now.ranges.callers.1 in
+    omega arith
