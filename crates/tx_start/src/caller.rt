@@ -1,8 +1,8 @@
 //! A caller of a memory, between its transactions.
-ghost use Rattle.std.specs.Prelude.{◌≡◌};
+ghost use Rattle.std.specs.Prelude.{◌≡◌, ◌<◌};
 ghost use Rattle.stm_rule.specs.Callers.{IsOf};
 ghost use Rattle.tx_answers.specs.CallerState.{IsIdle};
-ghost use Rattle.stm_tx.specs.Descs.{known};
+ghost use Rattle.stm_tx.specs.Descs.{known, number};
 
 use std::sync::Wait;
 use stm_tx::{Alg, Desc, MemRule, Stm};
@@ -39,7 +39,7 @@ impl<'a, R: Wait, K: MemRule> Caller<'a, R, K> {
         ensures one { result < self.now.stm.now.config.callers }
         ensures low { result < 32 }
     {
-        self.desc.number
+        number_of(&self.desc, self.stm)
     }
 
     /// Runs a transaction until it commits, and answers what it does. None where the clock was found at its limit.
@@ -165,4 +165,15 @@ impl<'a, R: Wait, K: MemRule> Caller<'a, R, K> {
         }
         rounds
     }
+}
+
+/// The number of a descriptor of this memory.
+fn number_of<K: MemRule>(desc: &Desc<K>, stm: &Stm<K>) -> usize
+    requires { IsOf desc.now stm.now }
+    ensures is { result ≡ number desc.now }
+    ensures one { result < stm.now.config.callers }
+    ensures low { result < 32 }
+{
+    let _ = stm;
+    desc.number
 }
