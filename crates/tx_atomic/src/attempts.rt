@@ -242,7 +242,7 @@ fn run<R: Wait, K: MemRule, T: Transaction<K>, O: Observer>(
     ensures unrefused { OnErr result (is_irrevocable (known desc.old) ≡ false) }
 {
     if irrevocable {
-        return run_by(AnyAlgorithm, rt, desc, stm, pace, transaction);
+        return run_irrevocable(rt, desc, stm, pace, transaction);
     }
     match algorithm(desc) {
         Alg::Cgl => run_by(Only::<Cgl>::new(), rt, desc, stm, pace, transaction),
@@ -252,6 +252,41 @@ fn run<R: Wait, K: MemRule, T: Transaction<K>, O: Observer>(
         Alg::OrecEager => run_by(Only::<OrecEager>::new(), rt, desc, stm, pace, transaction),
         Alg::RingSw => run_by(Only::<RingSw>::new(), rt, desc, stm, pace, transaction),
     }
+}
+
+/// The same of an attempt that was asked to be irrevocable. Apart, since it seldom runs and has the code of all algorithms at
+/// each access: with that `run` would grow too large to stand in line.
+#[cold]
+#[inline(never)]
+fn run_irrevocable<R: Wait, K: MemRule, T: Transaction<K>, O: Observer>(
+    rt: &R,
+    desc: &mut Desc<K>,
+    stm: &Stm<K>,
+    pace: &mut Pacing<O>,
+    transaction: &T,
+) -> Result<T::Output, Refused>
+    requires stm { IsOf desc.old stm.now }
+    requires fresh { IsFresh (known desc.old) }
+    requires precondition { T.precondition transaction.now stm.now.rule stm.now.config.words }
+    ensures same { IsSameCaller desc.old desc.new }
+    ensures idle { IsIdle (known desc.new) }
+    ensures grew { Grows (known desc.old) (known desc.new) }
+    ensures uncounted { CommitsStay pace.old.tally pace.new.tally }
+    ensures took { IfOk result (λ r.
+        TookEffect (K.good stm.now.rule) stm.now.config (number desc.old)
+        (T.postcondition transaction.now stm.now.rule stm.now.config.words r) (known desc.old).start
+        (known desc.old) (known desc.new)) }
+    ensures none { OnErr result ((known desc.new).made ≡ (known desc.old).made) }
+    ensures installs { (known desc.new).installs ≡ (known desc.old).installs }
+    ensures runs { MatchResult result
+        (λ r.
+        Runs (K.good stm.now.rule) stm.now.config (number desc.old) None (known desc.old)
+        (known desc.new) pace.old.tally pace.new.tally) (λ e.
+        Runs (K.good stm.now.rule) stm.now.config (number desc.old) (Some pace.new.last)
+        (known desc.old) (known desc.new) pace.old.tally pace.new.tally) }
+    ensures unrefused { OnErr result (is_irrevocable (known desc.old) ≡ false) }
+{
+    run_by(AnyAlgorithm, rt, desc, stm, pace, transaction)
 }
 
 /// The same by these calls.
