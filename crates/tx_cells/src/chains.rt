@@ -1,7 +1,7 @@
 //! Sorted chains of cells in one pool, over any access.
-ghost use Rattle.std.specs.Prelude.{◌≡◌, ◌<◌, ◌≤◌, None, Some, IfOk, OnOk, IfErr};
-ghost use Rattle.stm_model.specs.Logs.{SameMemories, IsReadStop};
-ghost use Rattle.tx_effects.specs.Accesses.{DoesFor, ExplainedFor, HoldsFor, ShowsFor};
+ghost use Rattle.std.specs.Prelude.{◌≡◌, ◌<◌, ◌≤◌, None, IfOk, OnOk, IfErr};
+ghost use Rattle.stm_model.specs.Logs.{IsReadStop};
+ghost use Rattle.tx_effects.specs.Accesses.{DoesFor, HoldsFor, LeadsOn, ShowsFor};
 ghost use Rattle.tx_cells.specs.Chains.{ChainsFit, IsChains, head_of, find, contained_in, inserted_in, removed_in, counted_in};
 
 use stm_model::access::Access;
@@ -37,13 +37,8 @@ impl Chains {
         ensures inside { IfOk result (λ s.
             (s.link < A.words acc.old) × (s.next ≤ self.now.cells) × (s.next ≡ 0 → s.tag ≡ 0)) }
         ensures writes { OnOk result ((A.log acc.new).writes ≡ (A.log acc.old).writes) }
-        ensures explained { OnOk result (ExplainedFor A.Access acc.new) }
-        ensures goes { OnOk result (A.stopped acc.new ≡ None) }
-        ensures stops { IfErr result (λ s. A.stopped acc.new ≡ Some s) }
         ensures cause { IfErr result IsReadStop }
-        ensures good { SameMemories (A.good acc.old) (A.good acc.new) }
-        ensures words { A.words acc.new ≡ A.words acc.old }
-        ensures keeps { A.keeps acc.old acc.new }
+        ensures frame { LeadsOn A.Access acc.old acc.new result }
     {
         let cells = self.at + self.heads;
         let mut link = self.at + key as usize % self.heads;
@@ -78,13 +73,8 @@ impl Chains {
         requires well { HoldsFor A.Access acc.old (IsChains self.now) }
         ensures reply { IfOk result (DoesFor A.Access acc.old acc.new (contained_in self.now key)) }
         ensures well { OnOk result (HoldsFor A.Access acc.new (IsChains self.now)) }
-        ensures explained { OnOk result (ExplainedFor A.Access acc.new) }
         ensures cause { IfErr result IsReadStop }
-        ensures goes { OnOk result (A.stopped acc.new ≡ None) }
-        ensures stops { IfErr result (λ s. A.stopped acc.new ≡ Some s) }
-        ensures good { SameMemories (A.good acc.old) (A.good acc.new) }
-        ensures words { A.words acc.new ≡ A.words acc.old }
-        ensures keeps { A.keeps acc.old acc.new }
+        ensures frame { LeadsOn A.Access acc.old acc.new result }
     {
         let position = self.find(acc, key)?;
         Ok(position.tag == key as u64 + 1)
@@ -101,12 +91,7 @@ impl Chains {
         requires well { HoldsFor A.Access acc.old (IsChains self.now) }
         ensures reply { IfOk result (DoesFor A.Access acc.old acc.new (inserted_in self.now key)) }
         ensures well { OnOk result (HoldsFor A.Access acc.new (IsChains self.now)) }
-        ensures explained { OnOk result (ExplainedFor A.Access acc.new) }
-        ensures goes { OnOk result (A.stopped acc.new ≡ None) }
-        ensures stops { IfErr result (λ s. A.stopped acc.new ≡ Some s) }
-        ensures good { SameMemories (A.good acc.old) (A.good acc.new) }
-        ensures words { A.words acc.new ≡ A.words acc.old }
-        ensures keeps { A.keeps acc.old acc.new }
+        ensures frame { LeadsOn A.Access acc.old acc.new result }
     {
         let position = self.find(acc, key)?;
         let tag = key as u64 + 1;
@@ -141,12 +126,7 @@ impl Chains {
         requires well { HoldsFor A.Access acc.old (IsChains self.now) }
         ensures reply { IfOk result (DoesFor A.Access acc.old acc.new (removed_in self.now key)) }
         ensures well { OnOk result (HoldsFor A.Access acc.new (IsChains self.now)) }
-        ensures explained { OnOk result (ExplainedFor A.Access acc.new) }
-        ensures goes { OnOk result (A.stopped acc.new ≡ None) }
-        ensures stops { IfErr result (λ s. A.stopped acc.new ≡ Some s) }
-        ensures good { SameMemories (A.good acc.old) (A.good acc.new) }
-        ensures words { A.words acc.new ≡ A.words acc.old }
-        ensures keeps { A.keeps acc.old acc.new }
+        ensures frame { LeadsOn A.Access acc.old acc.new result }
     {
         let position = self.find(acc, key)?;
         if position.tag != key as u64 + 1 {
@@ -171,13 +151,8 @@ impl Chains {
         requires well { HoldsFor A.Access acc.old (IsChains self.now) }
         ensures reply { IfOk result (DoesFor A.Access acc.old acc.new (counted_in self.now)) }
         ensures well { OnOk result (HoldsFor A.Access acc.new (IsChains self.now)) }
-        ensures explained { OnOk result (ExplainedFor A.Access acc.new) }
         ensures cause { IfErr result IsReadStop }
-        ensures goes { OnOk result (A.stopped acc.new ≡ None) }
-        ensures stops { IfErr result (λ s. A.stopped acc.new ≡ Some s) }
-        ensures good { SameMemories (A.good acc.old) (A.good acc.new) }
-        ensures words { A.words acc.new ≡ A.words acc.old }
-        ensures keeps { A.keeps acc.old acc.new }
+        ensures frame { LeadsOn A.Access acc.old acc.new result }
     {
         let mut count: u64 = 0;
         let mut next = acc.read(self.at)?;

@@ -1,7 +1,7 @@
 //! A counter in stripes, over any access.
-ghost use Rattle.std.specs.Prelude.{◌≡◌, ◌<◌, ◌+◌, ◌^◌, None, Some, IfOk, OnOk, IfErr};
-ghost use Rattle.stm_model.specs.Logs.{SameMemories, IsReadStop};
-ghost use Rattle.tx_effects.specs.Accesses.{DoesFor, ExplainedFor};
+ghost use Rattle.std.specs.Prelude.{◌≡◌, ◌<◌, ◌+◌, ◌^◌, None, IfOk, IfErr};
+ghost use Rattle.stm_model.specs.Logs.{IsReadStop};
+ghost use Rattle.tx_effects.specs.Accesses.{DoesFor, LeadsOn};
 ghost use Rattle.tx_cells.specs.Counters.{StripesFit, added_in, total_in};
 
 use stm_model::access::Access;
@@ -34,12 +34,7 @@ impl Counter {
         ensures reply { IfOk result
             (DoesFor A.Access acc.old acc.new (added_in self.now stripe amount)) }
         ensures range { IfOk result (λ r. r < 2 ^ 64) }
-        ensures explained { OnOk result (ExplainedFor A.Access acc.new) }
-        ensures goes { OnOk result (A.stopped acc.new ≡ None) }
-        ensures stops { IfErr result (λ s. A.stopped acc.new ≡ Some s) }
-        ensures good { SameMemories (A.good acc.old) (A.good acc.new) }
-        ensures words { A.words acc.new ≡ A.words acc.old }
-        ensures keeps { A.keeps acc.old acc.new }
+        ensures frame { LeadsOn A.Access acc.old acc.new result }
     {
         let address = self.at + stripe;
         let found = acc.read(address)?;
@@ -58,13 +53,8 @@ impl Counter {
         requires some { 0 < self.now.stripes }
         ensures reply { IfOk result (DoesFor A.Access acc.old acc.new (total_in self.now)) }
         ensures range { IfOk result (λ r. r < 2 ^ 64) }
-        ensures explained { OnOk result (ExplainedFor A.Access acc.new) }
-        ensures goes { OnOk result (A.stopped acc.new ≡ None) }
-        ensures stops { IfErr result (λ s. A.stopped acc.new ≡ Some s) }
         ensures cause { IfErr result IsReadStop }
-        ensures good { SameMemories (A.good acc.old) (A.good acc.new) }
-        ensures words { A.words acc.new ≡ A.words acc.old }
-        ensures keeps { A.keeps acc.old acc.new }
+        ensures frame { LeadsOn A.Access acc.old acc.new result }
     {
         let mut total: u64 = 0;
         for stripe in 0..self.stripes {

@@ -1,7 +1,7 @@
 //! A sorted list of keys, over any access.
-ghost use Rattle.std.specs.Prelude.{◌≡◌, ◌<◌, None, Some, IfOk, OnOk, IfErr};
-ghost use Rattle.stm_model.specs.Logs.{SameMemories, IsReadStop};
-ghost use Rattle.tx_effects.specs.Accesses.{DoesFor, ExplainedFor, HoldsFor};
+ghost use Rattle.std.specs.Prelude.{◌≡◌, ◌<◌, None, IfOk, OnOk, IfErr};
+ghost use Rattle.stm_model.specs.Logs.{IsReadStop};
+ghost use Rattle.tx_effects.specs.Accesses.{DoesFor, HoldsFor, LeadsOn};
 ghost use Rattle.tx_cells.specs.Chains.{ChainsFit, IsChains, contained_in, inserted_in, removed_in, counted_in};
 ghost use Rattle.tx_cells.specs.Structures.{list_of};
 
@@ -47,13 +47,8 @@ impl List {
         ensures reply { IfOk result
             (DoesFor A.Access acc.old acc.new (contained_in (list_of self.now) key)) }
         ensures well { OnOk result (HoldsFor A.Access acc.new (IsChains (list_of self.now))) }
-        ensures explained { OnOk result (ExplainedFor A.Access acc.new) }
         ensures cause { IfErr result IsReadStop }
-        ensures goes { OnOk result (A.stopped acc.new ≡ None) }
-        ensures stops { IfErr result (λ s. A.stopped acc.new ≡ Some s) }
-        ensures good { SameMemories (A.good acc.old) (A.good acc.new) }
-        ensures words { A.words acc.new ≡ A.words acc.old }
-        ensures keeps { A.keeps acc.old acc.new }
+        ensures frame { LeadsOn A.Access acc.old acc.new result }
     {
         self.chains().contains(acc, key)
     }
@@ -70,12 +65,7 @@ impl List {
         ensures reply { IfOk result
             (DoesFor A.Access acc.old acc.new (inserted_in (list_of self.now) key)) }
         ensures well { OnOk result (HoldsFor A.Access acc.new (IsChains (list_of self.now))) }
-        ensures explained { OnOk result (ExplainedFor A.Access acc.new) }
-        ensures goes { OnOk result (A.stopped acc.new ≡ None) }
-        ensures stops { IfErr result (λ s. A.stopped acc.new ≡ Some s) }
-        ensures good { SameMemories (A.good acc.old) (A.good acc.new) }
-        ensures words { A.words acc.new ≡ A.words acc.old }
-        ensures keeps { A.keeps acc.old acc.new }
+        ensures frame { LeadsOn A.Access acc.old acc.new result }
     {
         self.chains().insert(acc, key)
     }
@@ -92,12 +82,7 @@ impl List {
         ensures reply { IfOk result
             (DoesFor A.Access acc.old acc.new (removed_in (list_of self.now) key)) }
         ensures well { OnOk result (HoldsFor A.Access acc.new (IsChains (list_of self.now))) }
-        ensures explained { OnOk result (ExplainedFor A.Access acc.new) }
-        ensures goes { OnOk result (A.stopped acc.new ≡ None) }
-        ensures stops { IfErr result (λ s. A.stopped acc.new ≡ Some s) }
-        ensures good { SameMemories (A.good acc.old) (A.good acc.new) }
-        ensures words { A.words acc.new ≡ A.words acc.old }
-        ensures keeps { A.keeps acc.old acc.new }
+        ensures frame { LeadsOn A.Access acc.old acc.new result }
     {
         self.chains().remove(acc, key)
     }
@@ -113,13 +98,8 @@ impl List {
         ensures reply { IfOk result
             (DoesFor A.Access acc.old acc.new (counted_in (list_of self.now))) }
         ensures well { OnOk result (HoldsFor A.Access acc.new (IsChains (list_of self.now))) }
-        ensures explained { OnOk result (ExplainedFor A.Access acc.new) }
         ensures cause { IfErr result IsReadStop }
-        ensures goes { OnOk result (A.stopped acc.new ≡ None) }
-        ensures stops { IfErr result (λ s. A.stopped acc.new ≡ Some s) }
-        ensures good { SameMemories (A.good acc.old) (A.good acc.new) }
-        ensures words { A.words acc.new ≡ A.words acc.old }
-        ensures keeps { A.keeps acc.old acc.new }
+        ensures frame { LeadsOn A.Access acc.old acc.new result }
     {
         self.chains().len(acc)
     }

@@ -1,7 +1,8 @@
 -- The same over an access: its good memories and words, and its log before and after a call.
-use Rattle.std.specs.Prelude.{ℕ, ◌≡◌, List}
+use Rattle.std.specs.Prelude.{ℕ, ◌≡◌, List, None, Some, Result, OnOk, IfErr}
 use Rattle.stm_model.specs.declared.access.Access.{Ghosts}
-use Rattle.stm_model.specs.Logs.{IsExplained}
+use Rattle.stm_model.specs.declared.stop.Stop.{Stop}
+use Rattle.stm_model.specs.Logs.{IsExplained, SameMemories}
 use Rattle.tx_effects.specs.Effects.{Effect, DoesOver, Under, Shows}
 
 -- a good memory explains what it has read
@@ -19,3 +20,13 @@ DoesFor access s t effect reply = DoesOver (access.good s) (access.words s) effe
 -- its reads from s to t show that the value is this one of what it sees
 abbrev pub ShowsFor : {S A : Type 0} → Ghosts S → S → S → (List ℕ → A) → A → Type 0
 ShowsFor access s t value v = Shows (access.good s) (access.words s) (access.log s) (access.log t) (λ m. v ≡ value m)
+
+-- THE FRAME of a call over an access, from s to t with this result: an Ok leaves an attempt that goes on and that a good
+-- memory explains, an Err is what stopped it; which memories are good, their length, and what the access keeps stay
+pub record LeadsOn {S R : Type 0} (access : Ghosts S) (s t : S) (result : Result R Stop) : Type 0 where
+  pub explained : OnOk result (ExplainedFor access t)
+  pub goes : OnOk result (access.stopped t ≡ None)
+  pub stops : IfErr result (λ e. access.stopped t ≡ Some e)
+  pub good : SameMemories (access.good s) (access.good t)
+  pub words : access.words t ≡ access.words s
+  pub keeps : access.keeps s t

@@ -1,7 +1,7 @@
 //! The free one among cells of words, over any access.
-ghost use Rattle.std.specs.Prelude.{◌≡◌, ◌<◌, None, Some, IfOk, OnOk, IfErr, IfSome};
-ghost use Rattle.stm_model.specs.Logs.{SameMemories, IsReadStop};
-ghost use Rattle.tx_effects.specs.Accesses.{ExplainedFor, ShowsFor};
+ghost use Rattle.std.specs.Prelude.{◌≡◌, ◌<◌, None, IfOk, OnOk, IfErr, IfSome};
+ghost use Rattle.stm_model.specs.Logs.{IsReadStop};
+ghost use Rattle.tx_effects.specs.Accesses.{ExplainedFor, LeadsOn, ShowsFor};
 ghost use Rattle.tx_effects.specs.Keys.{free_from};
 ghost use Rattle.tx_effects.specs.Tags.{CellsFit, tag};
 
@@ -30,13 +30,8 @@ impl Cells {
             (ShowsFor A.Access acc.old acc.new (λ m. free_from (tag self.now m) 0 self.now.count)) }
         ensures inside { IfOk result (λ o. IfSome o (λ c. c < self.now.count)) }
         ensures writes { OnOk result ((A.log acc.new).writes ≡ (A.log acc.old).writes) }
-        ensures explained { OnOk result (ExplainedFor A.Access acc.new) }
-        ensures goes { OnOk result (A.stopped acc.new ≡ None) }
-        ensures stops { IfErr result (λ s. A.stopped acc.new ≡ Some s) }
         ensures cause { IfErr result IsReadStop }
-        ensures good { SameMemories (A.good acc.old) (A.good acc.new) }
-        ensures words { A.words acc.new ≡ A.words acc.old }
-        ensures keeps { A.keeps acc.old acc.new }
+        ensures frame { LeadsOn A.Access acc.old acc.new result }
     {
         for cell in 0..self.count {
             let tag = acc.read(self.first + self.width * cell)?;

@@ -1,6 +1,7 @@
 //! A place for a value, which is one word.
-ghost use Rattle.std.specs.Prelude.{◌≡◌, ◌<◌, ℕ, None, Some, IfOk, OnOk, IfErr, length, slice_index};
-ghost use Rattle.stm_model.specs.Logs.{Reads, Writes, SameMemories, IsExplained, IsReadStop};
+ghost use Rattle.std.specs.Prelude.{◌≡◌, ◌<◌, ℕ, None, IfOk, OnOk, IfErr, length, slice_index};
+ghost use Rattle.stm_model.specs.Logs.{Reads, Writes, IsReadStop};
+ghost use Rattle.tx_effects.specs.Accesses.{LeadsOn};
 ghost use Rattle.tx_places.specs.Codes.{Stands, Updates};
 
 use crate::word::Word;
@@ -36,14 +37,8 @@ impl<T: Word> Place<T> {
         ensures value { IfOk result (λ v.
             (word : ℕ) × Reads (A.log memory.old) self.now.at word (A.log memory.new)
             × Stands T.fits T.code word v) }
-        ensures explained { OnOk result
-            (IsExplained (A.good memory.new) (A.words memory.new) (A.log memory.new)) }
-        ensures goes { OnOk result (A.stopped memory.new ≡ None) }
-        ensures stops { IfErr result (λ s. A.stopped memory.new ≡ Some s) }
         ensures cause { IfErr result IsReadStop }
-        ensures good { SameMemories (A.good memory.old) (A.good memory.new) }
-        ensures words { A.words memory.new ≡ A.words memory.old }
-        ensures keeps { A.keeps memory.old memory.new }
+        ensures frame { LeadsOn A.Access memory.old memory.new result }
     {
         let word = memory.read(self.at)?;
         Ok(T::of_word(word))
@@ -59,13 +54,7 @@ impl<T: Word> Place<T> {
         ensures value { OnOk result
             (Writes (A.log memory.old) self.now.at (T.code value) (A.log memory.new)
             × T.fits value) }
-        ensures explained { OnOk result
-            (IsExplained (A.good memory.new) (A.words memory.new) (A.log memory.new)) }
-        ensures goes { OnOk result (A.stopped memory.new ≡ None) }
-        ensures stops { IfErr result (λ s. A.stopped memory.new ≡ Some s) }
-        ensures good { SameMemories (A.good memory.old) (A.good memory.new) }
-        ensures words { A.words memory.new ≡ A.words memory.old }
-        ensures keeps { A.keeps memory.old memory.new }
+        ensures frame { LeadsOn A.Access memory.old memory.new result }
     {
         memory.write(self.at, value.to_word())
     }
@@ -79,13 +68,7 @@ impl<T: Word> Place<T> {
         requires callable { F.IsAlwaysCallable by }
         ensures value { IfOk result (λ v.
             Updates T.fits T.code (F.post by) self.now.at (A.log memory.old) v (A.log memory.new)) }
-        ensures explained { OnOk result
-            (IsExplained (A.good memory.new) (A.words memory.new) (A.log memory.new)) }
-        ensures goes { OnOk result (A.stopped memory.new ≡ None) }
-        ensures stops { IfErr result (λ s. A.stopped memory.new ≡ Some s) }
-        ensures good { SameMemories (A.good memory.old) (A.good memory.new) }
-        ensures words { A.words memory.new ≡ A.words memory.old }
-        ensures keeps { A.keeps memory.old memory.new }
+        ensures frame { LeadsOn A.Access memory.old memory.new result }
     {
         let value = by(self.get(memory)?);
         self.set(memory, value)?;

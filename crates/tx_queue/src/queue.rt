@@ -1,7 +1,7 @@
 //! A queue in a ring of cells, over any access.
-ghost use Rattle.std.specs.Prelude.{◌≡◌, ◌<◌, ◌≤◌, ◌+◌, None, Some, IfOk, OnOk, IfErr};
-ghost use Rattle.stm_model.specs.Logs.{SameMemories, IsReadStop};
-ghost use Rattle.tx_effects.specs.Accesses.{DoesFor, ExplainedFor, HoldsFor};
+ghost use Rattle.std.specs.Prelude.{◌≡◌, ◌<◌, ◌≤◌, ◌+◌, None, IfOk, OnOk, IfErr};
+ghost use Rattle.stm_model.specs.Logs.{IsReadStop};
+ghost use Rattle.tx_effects.specs.Accesses.{DoesFor, HoldsFor, LeadsOn};
 ghost use Rattle.tx_queue.specs.Queues.{QueueFits, IsQueue, put_in, got_in, counted_in, wrapped};
 
 use stm_model::access::Access;
@@ -58,12 +58,7 @@ impl Queue {
         requires well { HoldsFor A.Access acc.old (IsQueue self.now) }
         ensures reply { IfOk result (DoesFor A.Access acc.old acc.new (put_in self.now value)) }
         ensures well { OnOk result (HoldsFor A.Access acc.new (IsQueue self.now)) }
-        ensures explained { OnOk result (ExplainedFor A.Access acc.new) }
-        ensures goes { OnOk result (A.stopped acc.new ≡ None) }
-        ensures stops { IfErr result (λ s. A.stopped acc.new ≡ Some s) }
-        ensures good { SameMemories (A.good acc.old) (A.good acc.new) }
-        ensures words { A.words acc.new ≡ A.words acc.old }
-        ensures keeps { A.keeps acc.old acc.new }
+        ensures frame { LeadsOn A.Access acc.old acc.new result }
     {
         let count = acc.read(self.at + 1)?;
         if self.cells as u64 <= count {
@@ -87,12 +82,7 @@ impl Queue {
         requires well { HoldsFor A.Access acc.old (IsQueue self.now) }
         ensures reply { IfOk result (DoesFor A.Access acc.old acc.new (got_in self.now)) }
         ensures well { OnOk result (HoldsFor A.Access acc.new (IsQueue self.now)) }
-        ensures explained { OnOk result (ExplainedFor A.Access acc.new) }
-        ensures goes { OnOk result (A.stopped acc.new ≡ None) }
-        ensures stops { IfErr result (λ s. A.stopped acc.new ≡ Some s) }
-        ensures good { SameMemories (A.good acc.old) (A.good acc.new) }
-        ensures words { A.words acc.new ≡ A.words acc.old }
-        ensures keeps { A.keeps acc.old acc.new }
+        ensures frame { LeadsOn A.Access acc.old acc.new result }
     {
         let count = acc.read(self.at + 1)?;
         if count == 0 {
@@ -119,13 +109,8 @@ impl Queue {
         requires well { HoldsFor A.Access acc.old (IsQueue self.now) }
         ensures reply { IfOk result (DoesFor A.Access acc.old acc.new (counted_in self.now)) }
         ensures well { OnOk result (HoldsFor A.Access acc.new (IsQueue self.now)) }
-        ensures explained { OnOk result (ExplainedFor A.Access acc.new) }
         ensures cause { IfErr result IsReadStop }
-        ensures goes { OnOk result (A.stopped acc.new ≡ None) }
-        ensures stops { IfErr result (λ s. A.stopped acc.new ≡ Some s) }
-        ensures good { SameMemories (A.good acc.old) (A.good acc.new) }
-        ensures words { A.words acc.new ≡ A.words acc.old }
-        ensures keeps { A.keeps acc.old acc.new }
+        ensures frame { LeadsOn A.Access acc.old acc.new result }
     {
         let count = acc.read(self.at + 1)?;
         Ok(count)

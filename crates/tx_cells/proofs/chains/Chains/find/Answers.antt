@@ -1,4 +1,4 @@
-use Rattle.std.proofs.Common.{◌≡◌, ◌<◌, ◌≤◌, ◌+◌, ◌-◌, ◌%◌, ◌∙◌, suc, refl, sym, ap, arith, inl}
+use Rattle.std.proofs.Common.{rules, ◌≡◌, ◌<◌, ◌≤◌, ◌+◌, ◌-◌, ◌%◌, ◌∙◌, suc, refl, sym, ap, arith, inl}
 use Rattle.std.proofs.Math.Nat.{mod-lt}
 use Rattle.stm_model.specs.Memories.{overlay}
 use Rattle.tx_effects.specs.EffectLaws.{shows-none, shows-read, shown, same-trans}
@@ -112,3 +112,6 @@ returns-clause-finds g c = λ m fine len ex.
     let t = c.loop-step-test.false in
     let q : r.cells - c.loop-step._step ≡ 0 = omega arith in
     (s.0, sym (s.1.on ∙ ap (λ n. find r (overlay m (g.A.Access.log c.args.acc.now).writes) c.args.key n c.loop-step.link) q))
+
+pub returns-in_err-next-2-clause-frame : goal.returns-in_err-next-2-clause-frame
+returns-in_err-next-2-clause-frame g c = search (rules, g.met.A.Access.keeps_trans)

@@ -53,6 +53,6 @@ returns-clause-well g c =
     let q4 = c.in_ok-write-3.ensures in
     under-after (g.A.Access.good c.args.acc.now) (g.A.Access.words c.args.acc.now) (g.A.Access.log c.args.acc.now) (removed_in r key) _ _ _
     true (IsChains r) (IsChains r) (returns-clause-reply g c) c.requires.well
-    (same-trans _ _ _ q0.good (same-trans _ _ _ q1.good (same-trans _ _ _ q2.good (same-trans _ _ _ q3.good (q4.good)))))
-    (q4.words ∙ (q3.words ∙ (q2.words ∙ (q1.words ∙ q0.words))))
+    (same-trans _ _ _ q0.frame.good (same-trans _ _ _ q1.good (same-trans _ _ _ q2.good (same-trans _ _ _ q3.good (q4.good)))))
+    (q4.words ∙ (q3.words ∙ (q2.words ∙ (q1.words ∙ q0.frame.words))))
     (λ m len w. removed-keeps r m key w c.requires.within.0 (omega arith))

@@ -1,4 +1,4 @@
-use Rattle.std.proofs.Common.{◌≡◌, ◌+◌, ◌%◌, ◌^◌, ◌∙◌, refl, arith}
+use Rattle.std.proofs.Common.{rules, ◌≡◌, ◌+◌, ◌%◌, ◌^◌, ◌∙◌, refl, arith}
 use Rattle.tx_effects.specs.EffectLaws.{shows-read, does-stay, same-trans}
 use Rattle.tx_cells.specs.Counters.{sum_from, total_in}
 use Rattle.tx_cells.proofs.CounterLaws.{sum-on}
@@ -33,5 +33,14 @@ returns-clause-reply g c =
     does-stay (g.A.Access.good c.args.acc.now) (g.A.Access.words c.args.acc.now) (g.A.Access.log c.args.acc.now) (total_in c.args.self.now) _ c.loop-stripe.total (λ m. Unit {0}) (λ m g len ex. tt) c.loop-stripe.invariant.writes
     (λ m. c.loop-stripe.total ≡ sum_from m at c.loop-stripe.stripe % 2 ^ 64) c.loop-stripe.invariant.shows (λ m p s. rw (s, q) refl)
 
-pub returns-clause-explained : goal.returns-clause-explained
-returns-clause-explained g c = c.loop-stripe.invariant.explained (let s = c.loop-stripe-test.false in let z = c.requires.some in omega arith)
+pub returns-clause-frame : goal.returns-clause-frame
+returns-clause-frame g c =
+    let inv = c.loop-stripe.invariant in
+    record {
+      explained = inv.explained (let s = c.loop-stripe-test.false in let z = c.requires.some in omega arith);
+      goes = inv.going;
+      stops = search rules;
+      good = inv.good;
+      words = inv.words;
+      keeps = inv.keeps;
+    }

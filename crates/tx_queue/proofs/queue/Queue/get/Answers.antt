@@ -68,16 +68,6 @@ write-requires-clause-within g c =
     (same-trans _ _ _ one.good two.good) (two.words ∙ one.words) two.explained in
     let w = c.requires.within.1 in let a = one.words in let b = two.words in let d = c.in_ok-found.ensures.words in omega arith
 
-pub returns-in_err-write-3-clause-keeps : goal.returns-in_err-write-3-clause-keeps
-returns-in_err-write-3-clause-keeps g c =
-    let t = g.met.A.Access.keeps_trans in
-    t _ _ _ c.in_ok-count.ensures.keeps (t _ _ _ c.in_ok-front.ensures.keeps (t _ _ _ c.in_ok-found.ensures.keeps (t _ _ _ c.in_ok-write.ensures.keeps (t _ _ _ c.in_ok-write-2.ensures.keeps c.in_err-write-3.ensures.keeps))))
-
-pub returns-clause-keeps : goal.returns-clause-keeps
-returns-clause-keeps g c =
-    let t = g.met.A.Access.keeps_trans in
-    t _ _ _ c.in_ok-count.ensures.keeps (t _ _ _ c.in_ok-front.ensures.keeps (t _ _ _ c.in_ok-found.ensures.keeps (t _ _ _ c.in_ok-write.ensures.keeps (t _ _ _ c.in_ok-write-2.ensures.keeps c.in_ok-write-3.ensures.keeps))))
-
 pub returns-clause-reply : goal.returns-clause-reply
 returns-clause-reply g c =
     let good = g.A.Access.good c.args.acc.now in
