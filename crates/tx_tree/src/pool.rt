@@ -1,7 +1,7 @@
 //! The walks through a binary search tree, whatever else its cells hold, over any access.
-ghost use Rattle.std.specs.Prelude.{◌≡◌, ◌<◌, ◌≤◌, ◌+◌, ◌^◌, None, Some, IfOk, OnOk, IfErr, ltb, if◌then◌else◌};
-ghost use Rattle.stm_model.specs.Logs.{SameMemories, IsReadStop};
-ghost use Rattle.tx_effects.specs.Accesses.{ExplainedFor, HoldsFor, ShowsFor};
+ghost use Rattle.std.specs.Prelude.{◌≡◌, ◌<◌, ◌≤◌, ◌+◌, ◌^◌, None, IfOk, OnOk, IfErr, ltb, if◌then◌else◌};
+ghost use Rattle.stm_model.specs.Logs.{IsReadStop};
+ghost use Rattle.tx_effects.specs.Accesses.{ExplainedFor, HoldsFor, LeadsOn, ShowsFor};
 ghost use Rattle.tx_tree.specs.Shapes.{PoolFits, IsShape, IsAt, position_of, leftmost};
 
 use stm_model::access::Access;
@@ -45,13 +45,8 @@ impl Pool {
         ensures inside { IfOk result (λ s.
             (s.link < A.words acc.old) × (s.next ≤ self.now.cells) × (s.next ≡ 0 → s.tag ≡ 0)) }
         ensures writes { OnOk result ((A.log acc.new).writes ≡ (A.log acc.old).writes) }
-        ensures explained { OnOk result (ExplainedFor A.Access acc.new) }
-        ensures goes { OnOk result (A.stopped acc.new ≡ None) }
-        ensures stops { IfErr result (λ s. A.stopped acc.new ≡ Some s) }
         ensures cause { IfErr result IsReadStop }
-        ensures good { SameMemories (A.good acc.old) (A.good acc.new) }
-        ensures words { A.words acc.new ≡ A.words acc.old }
-        ensures keeps { A.keeps acc.old acc.new }
+        ensures frame { LeadsOn A.Access acc.old acc.new result }
     {
         let mut link = self.at;
         let mut next = acc.read(link)?;
@@ -91,13 +86,8 @@ impl Pool {
             (ShowsFor A.Access acc.old acc.new (λ m. leftmost self.now m self.now.cells from)) }
         ensures inside { IfOk result (λ s. (s.link < A.words acc.old) × (s.next ≤ self.now.cells)) }
         ensures writes { OnOk result ((A.log acc.new).writes ≡ (A.log acc.old).writes) }
-        ensures explained { OnOk result (ExplainedFor A.Access acc.new) }
         ensures cause { IfErr result IsReadStop }
-        ensures goes { OnOk result (A.stopped acc.new ≡ None) }
-        ensures stops { IfErr result (λ s. A.stopped acc.new ≡ Some s) }
-        ensures good { SameMemories (A.good acc.old) (A.good acc.new) }
-        ensures words { A.words acc.new ≡ A.words acc.old }
-        ensures keeps { A.keeps acc.old acc.new }
+        ensures frame { LeadsOn A.Access acc.old acc.new result }
     {
         let mut link = from;
         let mut next = first;

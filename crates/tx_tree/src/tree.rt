@@ -1,8 +1,8 @@
 //! A set of keys in a plain binary search tree, over any access.
-ghost use Rattle.std.specs.Prelude.{◌≡◌, ◌<◌, None, Some, IfOk, OnOk, IfErr};
-ghost use Rattle.stm_model.specs.Logs.{SameMemories, IsReadStop};
+ghost use Rattle.std.specs.Prelude.{◌≡◌, ◌<◌, None, IfOk, OnOk, IfErr};
+ghost use Rattle.stm_model.specs.Logs.{IsReadStop};
 ghost use Rattle.tx_effects.specs.Effects.{Turns};
-ghost use Rattle.tx_effects.specs.Accesses.{DoesFor, ExplainedFor, HoldsFor};
+ghost use Rattle.tx_effects.specs.Accesses.{DoesFor, HoldsFor, LeadsOn};
 ghost use Rattle.tx_tree.specs.Trees.{TreeFits, IsTree, spliced, contained_in, inserted_in, removed_in, least_in};
 
 use crate::pool::Pool;
@@ -40,13 +40,8 @@ impl Tree {
         requires well { HoldsFor A.Access acc.old (IsTree self.now) }
         ensures reply { IfOk result (DoesFor A.Access acc.old acc.new (contained_in self.now key)) }
         ensures well { OnOk result (HoldsFor A.Access acc.new (IsTree self.now)) }
-        ensures explained { OnOk result (ExplainedFor A.Access acc.new) }
-        ensures goes { OnOk result (A.stopped acc.new ≡ None) }
-        ensures stops { IfErr result (λ s. A.stopped acc.new ≡ Some s) }
         ensures cause { IfErr result IsReadStop }
-        ensures good { SameMemories (A.good acc.old) (A.good acc.new) }
-        ensures words { A.words acc.new ≡ A.words acc.old }
-        ensures keeps { A.keeps acc.old acc.new }
+        ensures frame { LeadsOn A.Access acc.old acc.new result }
     {
         let pool = Pool {
             at: self.at,
@@ -68,12 +63,7 @@ impl Tree {
         requires well { HoldsFor A.Access acc.old (IsTree self.now) }
         ensures reply { IfOk result (DoesFor A.Access acc.old acc.new (inserted_in self.now key)) }
         ensures well { OnOk result (HoldsFor A.Access acc.new (IsTree self.now)) }
-        ensures explained { OnOk result (ExplainedFor A.Access acc.new) }
-        ensures goes { OnOk result (A.stopped acc.new ≡ None) }
-        ensures stops { IfErr result (λ s. A.stopped acc.new ≡ Some s) }
-        ensures good { SameMemories (A.good acc.old) (A.good acc.new) }
-        ensures words { A.words acc.new ≡ A.words acc.old }
-        ensures keeps { A.keeps acc.old acc.new }
+        ensures frame { LeadsOn A.Access acc.old acc.new result }
     {
         let pool = Pool {
             at: self.at,
@@ -113,12 +103,7 @@ impl Tree {
             × TreeFits self.now (A.words acc.old) }
         ensures turns { OnOk result
             (Turns (A.log acc.old) (A.log acc.new) (spliced self.now cell link word)) }
-        ensures explained { OnOk result (ExplainedFor A.Access acc.new) }
-        ensures goes { OnOk result (A.stopped acc.new ≡ None) }
-        ensures stops { IfErr result (λ s. A.stopped acc.new ≡ Some s) }
-        ensures good { SameMemories (A.good acc.old) (A.good acc.new) }
-        ensures words { A.words acc.new ≡ A.words acc.old }
-        ensures keeps { A.keeps acc.old acc.new }
+        ensures frame { LeadsOn A.Access acc.old acc.new result }
     {
         let address = self.at + 1 + 3 * cell;
         acc.write(link, word)?;
@@ -140,12 +125,7 @@ impl Tree {
         requires well { HoldsFor A.Access acc.old (IsTree self.now) }
         ensures reply { IfOk result (DoesFor A.Access acc.old acc.new (removed_in self.now key)) }
         ensures well { OnOk result (HoldsFor A.Access acc.new (IsTree self.now)) }
-        ensures explained { OnOk result (ExplainedFor A.Access acc.new) }
-        ensures goes { OnOk result (A.stopped acc.new ≡ None) }
-        ensures stops { IfErr result (λ s. A.stopped acc.new ≡ Some s) }
-        ensures good { SameMemories (A.good acc.old) (A.good acc.new) }
-        ensures words { A.words acc.new ≡ A.words acc.old }
-        ensures keeps { A.keeps acc.old acc.new }
+        ensures frame { LeadsOn A.Access acc.old acc.new result }
     {
         let pool = Pool {
             at: self.at,
@@ -189,13 +169,8 @@ impl Tree {
         requires well { HoldsFor A.Access acc.old (IsTree self.now) }
         ensures reply { IfOk result (DoesFor A.Access acc.old acc.new (least_in self.now)) }
         ensures well { OnOk result (HoldsFor A.Access acc.new (IsTree self.now)) }
-        ensures explained { OnOk result (ExplainedFor A.Access acc.new) }
         ensures cause { IfErr result IsReadStop }
-        ensures goes { OnOk result (A.stopped acc.new ≡ None) }
-        ensures stops { IfErr result (λ s. A.stopped acc.new ≡ Some s) }
-        ensures good { SameMemories (A.good acc.old) (A.good acc.new) }
-        ensures words { A.words acc.new ≡ A.words acc.old }
-        ensures keeps { A.keeps acc.old acc.new }
+        ensures frame { LeadsOn A.Access acc.old acc.new result }
     {
         let first = acc.read(self.at)?;
         let pool = Pool {

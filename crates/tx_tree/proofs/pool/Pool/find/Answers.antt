@@ -1,4 +1,4 @@
-use Rattle.std.proofs.Common.{◌≡◌, ◌<◌, ◌≤◌, ◌≢◌, ◌+◌, ◌-◌, ◌∙◌, suc, refl, sym, get_or, ap, arith, inl}
+use Rattle.std.proofs.Common.{rules, ◌≡◌, ◌<◌, ◌≤◌, ◌≢◌, ◌+◌, ◌-◌, ◌∙◌, suc, refl, sym, get_or, ap, arith, inl}
 use Rattle.stm_model.specs.Memories.{overlay}
 use Rattle.tx_effects.specs.EffectLaws.{shows-none, shows-read, shown, same-trans}
 use Rattle.tx_tree.specs.Shapes.{top}
@@ -117,3 +117,14 @@ returns-clause-finds g c = λ m fine len ex.
     let t = c.loop-step-test.false in
     let q : r.cells - c.loop-step._step ≡ 0 = omega arith in
     (s.0, sym (s.1.on ∙ ap (λ n. find r (overlay m (g.A.Access.log c.args.acc.now).writes) c.args.key n c.loop-step.link) q))
+
+pub returns-in_err-next-2-clause-frame : goal.returns-in_err-next-2-clause-frame
+returns-in_err-next-2-clause-frame g c =
+    record {
+      explained = search rules;
+      goes = search rules;
+      stops = search rules;
+      good = same-trans _ _ _ c.loop-step.invariant.good (same-trans _ _ _ c.in_ok-tag.ensures.good c.in_err-next-2.ensures.good);
+      words = c.in_err-next-2.ensures.words ∙ (c.in_ok-tag.ensures.words ∙ c.loop-step.invariant.words);
+      keeps = g.met.A.Access.keeps_trans _ _ _ c.loop-step.invariant.keeps (g.met.A.Access.keeps_trans _ _ _ c.in_ok-tag.ensures.keeps c.in_err-next-2.ensures.keeps);
+    }

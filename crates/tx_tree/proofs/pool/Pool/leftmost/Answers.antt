@@ -1,4 +1,4 @@
-use Rattle.std.proofs.Common.{◌≡◌, ◌<◌, ◌≤◌, ◌≢◌, ◌+◌, ◌-◌, ◌∙◌, suc, refl, sym, get_or, ap, arith}
+use Rattle.std.proofs.Common.{rules, ◌≡◌, ◌<◌, ◌≤◌, ◌≢◌, ◌+◌, ◌-◌, ◌∙◌, suc, refl, sym, get_or, ap, arith}
 use Rattle.stm_model.specs.Memories.{overlay}
 use Rattle.tx_effects.specs.EffectLaws.{shows-read, shown, same-trans}
 use Rattle.tx_tree.specs.ShapeOrder.{cell-end}
@@ -108,8 +108,35 @@ returns-clause-finds g c = λ m fine len ex.
     let q : r.cells - c.loop-step._step ≡ 0 = omega arith in
     (s.0, sym (s.1.on ∙ ap (λ n. leftmost r (overlay m (g.A.Access.log c.args.acc.now).writes) n c.loop-step.link) q))
 
-pub returns-in_err-tag-clause-keeps : goal.returns-in_err-tag-clause-keeps
-returns-in_err-tag-clause-keeps g c = g.met.A.Access.keeps_trans _ _ _ c.loop-step.invariant.keeps (g.met.A.Access.keeps_trans _ _ _ c.in_ok-left.ensures.keeps c.in_err-tag.ensures.keeps)
+pub returns-in_err-left-clause-frame : goal.returns-in_err-left-clause-frame
+returns-in_err-left-clause-frame g c =
+    record {
+      explained = search rules;
+      goes = search rules;
+      stops = search rules;
+      good = same-trans _ _ _ c.loop-step.invariant.good c.in_err-left.ensures.good;
+      words = c.in_err-left.ensures.words ∙ c.loop-step.invariant.words;
+      keeps = g.met.A.Access.keeps_trans _ _ _ c.loop-step.invariant.keeps c.in_err-left.ensures.keeps;
+    }
 
-pub returns-then-left-eq0-clause-keeps : goal.returns-then-left-eq0-clause-keeps
-returns-then-left-eq0-clause-keeps g c = g.met.A.Access.keeps_trans _ _ _ c.loop-step.invariant.keeps (g.met.A.Access.keeps_trans _ _ _ c.in_ok-left.ensures.keeps c.in_ok-tag.ensures.keeps)
+pub returns-in_err-tag-clause-frame : goal.returns-in_err-tag-clause-frame
+returns-in_err-tag-clause-frame g c =
+    record {
+      explained = search rules;
+      goes = search rules;
+      stops = search rules;
+      good = same-trans _ _ _ c.loop-step.invariant.good (same-trans _ _ _ c.in_ok-left.ensures.good c.in_err-tag.ensures.good);
+      words = c.in_err-tag.ensures.words ∙ (c.in_ok-left.ensures.words ∙ c.loop-step.invariant.words);
+      keeps = g.met.A.Access.keeps_trans _ _ _ c.loop-step.invariant.keeps (g.met.A.Access.keeps_trans _ _ _ c.in_ok-left.ensures.keeps c.in_err-tag.ensures.keeps);
+    }
+
+pub returns-then-left-eq0-clause-frame : goal.returns-then-left-eq0-clause-frame
+returns-then-left-eq0-clause-frame g c =
+    record {
+      explained = search rules;
+      goes = search rules;
+      stops = search rules;
+      good = same-trans _ _ _ c.loop-step.invariant.good (same-trans _ _ _ c.in_ok-left.ensures.good c.in_ok-tag.ensures.good);
+      words = c.in_ok-tag.ensures.words ∙ (c.in_ok-left.ensures.words ∙ c.loop-step.invariant.words);
+      keeps = g.met.A.Access.keeps_trans _ _ _ c.loop-step.invariant.keeps (g.met.A.Access.keeps_trans _ _ _ c.in_ok-left.ensures.keeps c.in_ok-tag.ensures.keeps);
+    }

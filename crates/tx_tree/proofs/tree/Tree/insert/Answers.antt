@@ -32,7 +32,7 @@ returns-in-None-clause-reply g c =
     let n : s.tag ≢ c.args.key + 1 = λ e. absurd (omega arith) in
     does-stay good words log (inserted_in r c.args.key) _ NoRoom (IsTree r) c.requires.well (two.writes ∙ one.writes)
     (λ m. (s ≡ position_of r m c.args.key) × (o ≡ free_from (tag r m) 0 r.cells))
-    (shows-then good words log (g.A.Access.log c.find.new.acc) (g.A.Access.log c.free_cell.new.acc) _ _ (λ m. s ≡ position_of r m c.args.key) (λ m. o ≡ free_from (tag r m) 0 r.cells) one.finds one.writes one.good one.words two.frees)
+    (shows-then good words log (g.A.Access.log c.find.new.acc) (g.A.Access.log c.free_cell.new.acc) _ _ (λ m. s ≡ position_of r m c.args.key) (λ m. o ≡ free_from (tag r m) 0 r.cells) one.finds one.writes one.frame.good one.frame.words two.frees)
     (λ m w e. no-room r m c.args.key w small s e.0 n (sym c.in-None.is ∙ e.1))
 
 pub returns-in_ok-write-in-Some-2-clause-reply : goal.returns-in_ok-write-in-Some-2-clause-reply
@@ -55,7 +55,7 @@ returns-in_ok-write-in-Some-2-clause-reply g c =
     let w2 = turns-write _ _ s.link (i + 1) c.in_ok-write-in-Some-2.ensures.value in
     does-change good words log (inserted_in r key) _ _ Added (IsTree r) c.requires.well (two.writes ∙ one.writes)
     (λ m. (s ≡ position_of r m key) × (o ≡ free_from (tag r m) 0 r.cells))
-    (shows-then good words log (g.A.Access.log c.find.new.acc) (g.A.Access.log c.free_cell.new.acc) _ _ (λ m. s ≡ position_of r m key) (λ m. o ≡ free_from (tag r m) 0 r.cells) one.finds one.writes one.good one.words two.frees)
+    (shows-then good words log (g.A.Access.log c.find.new.acc) (g.A.Access.log c.free_cell.new.acc) _ _ (λ m. s ≡ position_of r m key) (λ m. o ≡ free_from (tag r m) 0 r.cells) one.finds one.writes one.frame.good one.frame.words two.frees)
     (λ m. set (set m (tag_at r i) (key + 1)) s.link (i + 1))
     (turns-then _ _ _ _ _ w1 w2)
     (λ m w e. added r m key w small s i e.0 n (sym c.in-Some.is ∙ e.1))
@@ -73,6 +73,6 @@ returns-in_ok-write-in-Some-2-clause-well g c =
     let q3 = c.in_ok-write-in-Some-2.ensures in
     under-after (g.A.Access.good c.args.acc.now) (g.A.Access.words c.args.acc.now) (g.A.Access.log c.args.acc.now) (inserted_in r key) _ _ _
     Added (IsTree r) (IsTree r) (returns-in_ok-write-in-Some-2-clause-reply g c) c.requires.well
-    (same-trans _ _ _ q0.good (same-trans _ _ _ q1.good (same-trans _ _ _ q2.good (q3.good))))
-    (q3.words ∙ (q2.words ∙ (q1.words ∙ q0.words)))
+    (same-trans _ _ _ q0.frame.good (same-trans _ _ _ q1.frame.good (same-trans _ _ _ q2.good (q3.good))))
+    (q3.words ∙ (q2.words ∙ (q1.frame.words ∙ q0.frame.words)))
     (λ m len w. inserted-keeps r m key w small (omega arith))

@@ -84,8 +84,8 @@ returns-then-least-eq0-clause-well g c =
     let q0 = c.in_ok-first.ensures in
     let q1 = c.in_ok-least.ensures in
     under-after (g.A.Access.good c.args.acc.now) (g.A.Access.words c.args.acc.now) (g.A.Access.log c.args.acc.now) (least_in r) _ _ _ None
-    (IsTree r) (IsTree r) (returns-then-least-eq0-clause-reply g c) c.requires.well (same-trans _ _ _ q0.good (q1.good))
-    (q1.words ∙ q0.words) (λ m len w. w)
+    (IsTree r) (IsTree r) (returns-then-least-eq0-clause-reply g c) c.requires.well (same-trans _ _ _ q0.good (q1.frame.good))
+    (q1.frame.words ∙ q0.words) (λ m len w. w)
 
 pub overflow_cast-key : goal.overflow_cast-key
 overflow_cast-key g c =
@@ -98,8 +98,8 @@ overflow_cast-key g c =
     let d : s.tag ≢ 0 = λ x. absurd (omega arith) in
     let small : s.tag ≤ 2 ^ 32 = shown (g.A.Access.good c.args.acc.now) (g.A.Access.words c.args.acc.now) (g.A.Access.log c.args.acc.now)
     (g.A.Access.log c.leftmost.new.acc) _ _ (λ m. IsAt (pool r) r.at c.in_ok-first.first m × (s ≡ leftmost r m r.cells r.at))
-    (s.tag ≤ 2 ^ 32) (walked g at.In_ok-least (rooted g at.In_ok-first)) (same-trans _ _ _ one.good two.good) (two.words ∙ one.words)
-    two.explained
+    (s.tag ≤ 2 ^ 32) (walked g at.In_ok-least (rooted g at.In_ok-first)) (same-trans _ _ _ one.good two.frame.good) (two.frame.words ∙ one.words)
+    two.frame.explained
     (λ m h. (some-by r m s.tag d (least-key r m h.0.well.0 h.0.well.1 s h.1)).1) in
     omega arith
 
@@ -120,5 +120,5 @@ returns-clause-well g c =
     let q0 = c.in_ok-first.ensures in
     let q1 = c.in_ok-least.ensures in
     under-after (g.A.Access.good c.args.acc.now) (g.A.Access.words c.args.acc.now) (g.A.Access.log c.args.acc.now) (least_in r) _ _ _ _
-    (IsTree r) (IsTree r) (returns-clause-reply g c) c.requires.well (same-trans _ _ _ q0.good (q1.good)) (q1.words ∙ q0.words) (λ m len w.
+    (IsTree r) (IsTree r) (returns-clause-reply g c) c.requires.well (same-trans _ _ _ q0.good (q1.frame.good)) (q1.frame.words ∙ q0.words) (λ m len w.
     w)

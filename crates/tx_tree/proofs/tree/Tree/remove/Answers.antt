@@ -1,4 +1,4 @@
-use Rattle.std.proofs.Common.{◌≡◌, ◌<◌, ◌≤◌, ◌≢◌, ◌+◌, ◌-◌, ◌^◌, ◌∙◌, ℕ, List, suc, get_or, arith, true, false}
+use Rattle.std.proofs.Common.{rules, ◌≡◌, ◌<◌, ◌≤◌, ◌≢◌, ◌+◌, ◌-◌, ◌^◌, ◌∙◌, ℕ, List, suc, get_or, arith, true, false}
 use Rattle.stm_model.specs.Logs.{SameMemories}
 use Rattle.tx_effects.specs.Effects.{Shows}
 use Rattle.tx_effects.specs.EffectLaws.{does-stay, does-change, shows-read, shows-then, shown, same-trans, turns-write, turns-then, under-now}
@@ -56,13 +56,13 @@ opened-writes : (g : _) (c : In_ok-greater g) → (g.A.Access.log c.read-2.new.s
 opened-writes g c = c.in_ok-greater.ensures.value.0 ∙ (c.in_ok-lesser.ensures.value.0 ∙ c.in_ok-position.ensures.writes)
 
 opened-good : (g : _) (c : In_ok-greater g) → SameMemories (g.A.Access.good c.args.acc.now) (g.A.Access.good c.read-2.new.self)
-opened-good g c = same-trans _ _ _ c.in_ok-position.ensures.good (same-trans _ _ _ c.in_ok-lesser.ensures.good c.in_ok-greater.ensures.good)
+opened-good g c = same-trans _ _ _ c.in_ok-position.ensures.frame.good (same-trans _ _ _ c.in_ok-lesser.ensures.good c.in_ok-greater.ensures.good)
 
 opened-words : (g : _) (c : In_ok-greater g) → g.A.Access.words c.read-2.new.self ≡ g.A.Access.words c.args.acc.now
-opened-words g c = c.in_ok-greater.ensures.words ∙ (c.in_ok-lesser.ensures.words ∙ c.in_ok-position.ensures.words)
+opened-words g c = c.in_ok-greater.ensures.words ∙ (c.in_ok-lesser.ensures.words ∙ c.in_ok-position.ensures.frame.words)
 
 opened-keeps : (g : _) (c : In_ok-greater g) → g.A.Access.keeps c.args.acc.now c.read-2.new.self
-opened-keeps g c = g.met.A.Access.keeps_trans _ _ _ c.in_ok-position.ensures.keeps (g.met.A.Access.keeps_trans _ _ _ c.in_ok-lesser.ensures.keeps c.in_ok-greater.ensures.keeps)
+opened-keeps g c = g.met.A.Access.keeps_trans _ _ _ c.in_ok-position.ensures.frame.keeps (g.met.A.Access.keeps_trans _ _ _ c.in_ok-lesser.ensures.keeps c.in_ok-greater.ensures.keeps)
 
 -- A CELL WITH ONE LINK AT MOST
 pub returns-then-lesser-eq0-clause-reply : goal.returns-then-lesser-eq0-clause-reply
@@ -81,10 +81,7 @@ pub returns-then-lesser-eq0-clause-well : goal.returns-then-lesser-eq0-clause-we
 returns-then-lesser-eq0-clause-well g c =
     let o = (goal.at.returns-then-lesser-eq0-clause-well g c).In_ok-greater in
     let q = c.in_ok-splice.ensures in
-    removal-keeps _ _ _ _ _ _ _ _ _ (small-key g o) c.requires.within.0 c.requires.well (returns-then-lesser-eq0-clause-reply g c) (same-trans _ _ _ (opened-good g o) q.good) (q.words ∙ opened-words g o)
-
-pub returns-then-lesser-eq0-clause-keeps : goal.returns-then-lesser-eq0-clause-keeps
-returns-then-lesser-eq0-clause-keeps g c = g.met.A.Access.keeps_trans _ _ _ (opened-keeps g (goal.at.returns-then-lesser-eq0-clause-keeps g c).In_ok-greater) c.in_ok-splice.ensures.keeps
+    removal-keeps _ _ _ _ _ _ _ _ _ (small-key g o) c.requires.within.0 c.requires.well (returns-then-lesser-eq0-clause-reply g c) (same-trans _ _ _ (opened-good g o) q.frame.good) (q.frame.words ∙ opened-words g o)
 
 pub returns-then-greater-eq0-clause-reply : goal.returns-then-greater-eq0-clause-reply
 returns-then-greater-eq0-clause-reply g c =
@@ -103,10 +100,7 @@ pub returns-then-greater-eq0-clause-well : goal.returns-then-greater-eq0-clause-
 returns-then-greater-eq0-clause-well g c =
     let o = (goal.at.returns-then-greater-eq0-clause-well g c).In_ok-greater in
     let q = c.in_ok-splice-2.ensures in
-    removal-keeps _ _ _ _ _ _ _ _ _ (small-key g o) c.requires.within.0 c.requires.well (returns-then-greater-eq0-clause-reply g c) (same-trans _ _ _ (opened-good g o) q.good) (q.words ∙ opened-words g o)
-
-pub returns-then-greater-eq0-clause-keeps : goal.returns-then-greater-eq0-clause-keeps
-returns-then-greater-eq0-clause-keeps g c = g.met.A.Access.keeps_trans _ _ _ (opened-keeps g (goal.at.returns-then-greater-eq0-clause-keeps g c).In_ok-greater) c.in_ok-splice-2.ensures.keeps
+    removal-keeps _ _ _ _ _ _ _ _ _ (small-key g o) c.requires.within.0 c.requires.well (returns-then-greater-eq0-clause-reply g c) (same-trans _ _ _ (opened-good g o) q.frame.good) (q.frame.words ∙ opened-words g o)
 
 -- ONE WITH TWO: the least on its right
 pub leftmost-requires-clause-within : goal.leftmost-requires-clause-within
@@ -152,7 +146,7 @@ unreachable-requires g c =
     (g.A.Access.log c.leftmost.new.acc) _ _
     (λ m. IsTree r m × (Opened r c.args.key s c.in_ok-lesser.lesser c.in_ok-greater.greater m × (p ≡ leftmost r m r.cells (right_at r i))))
     (p.next ≡ 0 → ⊥)
-    (λ m fine len ex. (let x = least m fine len ex in (x.0, (c.requires.well m fine len x.0, x.1)))) (same-trans _ _ _ (opened-good g o) four.good) (four.words ∙ opened-words g o) four.explained
+    (λ m fine len ex. (let x = least m fine len ex in (x.0, (c.requires.well m fine len x.0, x.1)))) (same-trans _ _ _ (opened-good g o) four.frame.good) (four.frame.words ∙ opened-words g o) four.frame.explained
     (λ m h. (least-some r m c.args.key h.0 (small-key g o) s i h.1.0.place (tag-is g o) e c.in_ok-greater.greater p (omega arith) h.1.0.right (λ x. absurd (omega arith)) h.1.1).0) in
     some c.if-least-eq0.true
 
@@ -196,26 +190,57 @@ returns-clause-well g c =
     let q5 = c.in_ok-splice-3.ensures in
     let q6 = c.in_ok-write.ensures in
     removal-keeps _ _ _ _ _ _ _ _ _ (small-key g o) c.requires.within.0 c.requires.well (returns-clause-reply g c)
-    (same-trans _ _ _ (opened-good g o) (same-trans _ _ _ q3.good (same-trans _ _ _ q4.good (same-trans _ _ _ q5.good q6.good))))
-    (q6.words ∙ (q5.words ∙ (q4.words ∙ (q3.words ∙ opened-words g o))))
+    (same-trans _ _ _ (opened-good g o) (same-trans _ _ _ q3.frame.good (same-trans _ _ _ q4.good (same-trans _ _ _ q5.frame.good q6.good))))
+    (q6.words ∙ (q5.frame.words ∙ (q4.words ∙ (q3.frame.words ∙ opened-words g o))))
 
-pub returns-in_err-after-clause-keeps : goal.returns-in_err-after-clause-keeps
-returns-in_err-after-clause-keeps g c = g.met.A.Access.keeps_trans _ _ _ (opened-keeps g (goal.at.returns-in_err-after-clause-keeps g c).In_ok-greater) (g.met.A.Access.keeps_trans _ _ _ c.in_ok-least.ensures.keeps c.in_err-after.ensures.keeps)
+pub returns-in_err-after-clause-frame : goal.returns-in_err-after-clause-frame
+returns-in_err-after-clause-frame g c =
+    let o = (goal.at.returns-in_err-after-clause-frame g c).In_ok-greater in
+    let on = g.met.A.Access.keeps_trans in
+    record {
+      explained = search rules;
+      goes = search rules;
+      stops = search rules;
+      good = same-trans _ _ _ (opened-good g o) (same-trans _ _ _ c.in_ok-least.ensures.frame.good c.in_err-after.ensures.good);
+      words = c.in_err-after.ensures.words ∙ (c.in_ok-least.ensures.frame.words ∙ opened-words g o);
+      keeps = on _ _ _ (opened-keeps g o) (on _ _ _ c.in_ok-least.ensures.frame.keeps c.in_err-after.ensures.keeps);
+    }
 
-pub returns-in_err-splice-3-clause-keeps : goal.returns-in_err-splice-3-clause-keeps
-returns-in_err-splice-3-clause-keeps g c =
-    g.met.A.Access.keeps_trans _ _ _ (opened-keeps g (goal.at.returns-in_err-splice-3-clause-keeps g c).In_ok-greater)
-    (g.met.A.Access.keeps_trans _ _ _ c.in_ok-least.ensures.keeps
-    (g.met.A.Access.keeps_trans _ _ _ c.in_ok-after.ensures.keeps c.in_err-splice-3.ensures.keeps))
+pub returns-in_err-splice-3-clause-frame : goal.returns-in_err-splice-3-clause-frame
+returns-in_err-splice-3-clause-frame g c =
+    let o = (goal.at.returns-in_err-splice-3-clause-frame g c).In_ok-greater in
+    let on = g.met.A.Access.keeps_trans in
+    record {
+      explained = search rules;
+      goes = search rules;
+      stops = search rules;
+      good = same-trans _ _ _ (opened-good g o) (same-trans _ _ _ c.in_ok-least.ensures.frame.good (same-trans _ _ _ c.in_ok-after.ensures.good c.in_err-splice-3.ensures.frame.good));
+      words = c.in_err-splice-3.ensures.frame.words ∙ (c.in_ok-after.ensures.words ∙ (c.in_ok-least.ensures.frame.words ∙ opened-words g o));
+      keeps = on _ _ _ (opened-keeps g o) (on _ _ _ c.in_ok-least.ensures.frame.keeps (on _ _ _ c.in_ok-after.ensures.keeps c.in_err-splice-3.ensures.frame.keeps));
+    }
 
-pub returns-in_err-write-clause-keeps : goal.returns-in_err-write-clause-keeps
-returns-in_err-write-clause-keeps g c =
-    g.met.A.Access.keeps_trans _ _ _ (opened-keeps g (goal.at.returns-in_err-write-clause-keeps g c).In_ok-greater)
-    (g.met.A.Access.keeps_trans _ _ _ c.in_ok-least.ensures.keeps (g.met.A.Access.keeps_trans _ _ _ c.in_ok-after.ensures.keeps
-    (g.met.A.Access.keeps_trans _ _ _ c.in_ok-splice-3.ensures.keeps c.in_err-write.ensures.keeps)))
+pub returns-in_err-write-clause-frame : goal.returns-in_err-write-clause-frame
+returns-in_err-write-clause-frame g c =
+    let o = (goal.at.returns-in_err-write-clause-frame g c).In_ok-greater in
+    let on = g.met.A.Access.keeps_trans in
+    record {
+      explained = search rules;
+      goes = search rules;
+      stops = search rules;
+      good = same-trans _ _ _ (opened-good g o) (same-trans _ _ _ c.in_ok-least.ensures.frame.good (same-trans _ _ _ c.in_ok-after.ensures.good (same-trans _ _ _ c.in_ok-splice-3.ensures.frame.good c.in_err-write.ensures.good)));
+      words = c.in_err-write.ensures.words ∙ (c.in_ok-splice-3.ensures.frame.words ∙ (c.in_ok-after.ensures.words ∙ (c.in_ok-least.ensures.frame.words ∙ opened-words g o)));
+      keeps = on _ _ _ (opened-keeps g o) (on _ _ _ c.in_ok-least.ensures.frame.keeps (on _ _ _ c.in_ok-after.ensures.keeps (on _ _ _ c.in_ok-splice-3.ensures.frame.keeps c.in_err-write.ensures.keeps)));
+    }
 
-pub returns-clause-keeps : goal.returns-clause-keeps
-returns-clause-keeps g c =
-    g.met.A.Access.keeps_trans _ _ _ (opened-keeps g (goal.at.returns-clause-keeps g c).In_ok-greater)
-    (g.met.A.Access.keeps_trans _ _ _ c.in_ok-least.ensures.keeps (g.met.A.Access.keeps_trans _ _ _ c.in_ok-after.ensures.keeps
-    (g.met.A.Access.keeps_trans _ _ _ c.in_ok-splice-3.ensures.keeps c.in_ok-write.ensures.keeps)))
+pub returns-clause-frame : goal.returns-clause-frame
+returns-clause-frame g c =
+    let o = (goal.at.returns-clause-frame g c).In_ok-greater in
+    let on = g.met.A.Access.keeps_trans in
+    record {
+      explained = search rules;
+      goes = search rules;
+      stops = search rules;
+      good = same-trans _ _ _ (opened-good g o) (same-trans _ _ _ c.in_ok-least.ensures.frame.good (same-trans _ _ _ c.in_ok-after.ensures.good (same-trans _ _ _ c.in_ok-splice-3.ensures.frame.good c.in_ok-write.ensures.good)));
+      words = c.in_ok-write.ensures.words ∙ (c.in_ok-splice-3.ensures.frame.words ∙ (c.in_ok-after.ensures.words ∙ (c.in_ok-least.ensures.frame.words ∙ opened-words g o)));
+      keeps = on _ _ _ (opened-keeps g o) (on _ _ _ c.in_ok-least.ensures.frame.keeps (on _ _ _ c.in_ok-after.ensures.keeps (on _ _ _ c.in_ok-splice-3.ensures.frame.keeps c.in_ok-write.ensures.keeps)));
+    }
