@@ -14,13 +14,8 @@ ghost use Rattle.stm_model.specs.Algorithms.{closes_gate};
 ghost use Rattle.rule_base.specs.Encodings.{fenced};
 ghost use Rattle.stm_tx.specs.Descs.{Reserves, known, number};
 
+use crate::under;
 use alg_calls::algorithm::Algorithm;
-use alg_orec::orec_eager::OrecEager;
-use alg_orec::orec_lazy::OrecLazy;
-use alg_ring::ring::RingSw;
-use alg_seq::cgl::Cgl;
-use alg_seq::serial::Serial;
-use alg_seq::tml::Tml;
 use rule_base::words::{alg_of, fence_of, holder_of};
 use std::alloc::Global;
 use stm_gate::direct::{direct_load, direct_store};
@@ -84,14 +79,7 @@ fn begin_under<K: MemRule>(
         (view_of seat.old) (view_of seat.new) }
     ensures steps { TakesAtMost 3 (view_of seat.old) (view_of seat.new) }
 {
-    match algorithm {
-        Alg::Cgl => Cgl::begin(seat, stm, caller),
-        Alg::Tml => Tml::begin(seat, stm, caller),
-        Alg::Serial => Serial::begin(seat, stm, caller),
-        Alg::OrecLazy => OrecLazy::begin(seat, stm, caller),
-        Alg::OrecEager => OrecEager::begin(seat, stm, caller),
-        Alg::RingSw => RingSw::begin(seat, stm, caller),
-    }
+    under!(algorithm, A::begin(seat, stm, caller))
 }
 
 /// Reads the word at `a`: the attempt's last write of it, else what it read there before, else the memory at its
@@ -118,14 +106,7 @@ pub fn read<K: MemRule>(desc: &mut Desc<K>, stm: &Stm<K>, a: usize) -> Read
     if is_promoted(desc) {
         return direct_load(desc, stm, a);
     }
-    match desc.local.algorithm {
-        Alg::Cgl => Cgl::read(desc, stm, a),
-        Alg::Tml => Tml::read(desc, stm, a),
-        Alg::Serial => Serial::read(desc, stm, a),
-        Alg::OrecLazy => OrecLazy::read(desc, stm, a),
-        Alg::OrecEager => OrecEager::read(desc, stm, a),
-        Alg::RingSw => RingSw::read(desc, stm, a),
-    }
+    under!(desc.local.algorithm, A::read(desc, stm, a))
 }
 
 /// Writes `x` to the word at `a`, for this attempt until it commits. It asks for a running attempt. All answers but
@@ -149,14 +130,7 @@ pub fn write<K: MemRule>(desc: &mut Desc<K>, stm: &Stm<K>, a: usize, x: u64) -> 
     if is_promoted(desc) {
         return direct_store(desc, stm, a, x);
     }
-    match desc.local.algorithm {
-        Alg::Cgl => Cgl::write(desc, stm, a, x),
-        Alg::Tml => Tml::write(desc, stm, a, x),
-        Alg::Serial => Serial::write(desc, stm, a, x),
-        Alg::OrecLazy => OrecLazy::write(desc, stm, a, x),
-        Alg::OrecEager => OrecEager::write(desc, stm, a, x),
-        Alg::RingSw => RingSw::write(desc, stm, a, x),
-    }
+    under!(desc.local.algorithm, A::write(desc, stm, a, x))
 }
 
 /// Commits the attempt. An attempt that wrote asks that it keeps the memory rule.
@@ -182,14 +156,7 @@ pub fn commit<K: MemRule>(desc: &mut Desc<K>, stm: &Stm<K>) -> Commit
     ensures steps { AddsAtMost (costs stm.now.config (known desc.old)).commit (known desc.old)
         (known desc.new) }
 {
-    match desc.local.algorithm {
-        Alg::Cgl => Cgl::commit(desc, stm),
-        Alg::Tml => Tml::commit(desc, stm),
-        Alg::Serial => Serial::commit(desc, stm),
-        Alg::OrecLazy => OrecLazy::commit(desc, stm),
-        Alg::OrecEager => OrecEager::commit(desc, stm),
-        Alg::RingSw => RingSw::commit(desc, stm),
-    }
+    under!(desc.local.algorithm, A::commit(desc, stm))
 }
 
 /// Ends the attempt without a trace, or answers `Irrevocable` and changes nothing: exactly where `is_irrevocable`.
@@ -204,14 +171,7 @@ pub fn cancel<K: MemRule>(desc: &mut Desc<K>, stm: &Stm<K>) -> Cancel
     ensures steps { AddsAtMost (costs stm.now.config (known desc.old)).cancel (known desc.old)
         (known desc.new) }
 {
-    match desc.local.algorithm {
-        Alg::Cgl => Cgl::cancel(desc, stm),
-        Alg::Tml => Tml::cancel(desc, stm),
-        Alg::Serial => Serial::cancel(desc, stm),
-        Alg::OrecLazy => OrecLazy::cancel(desc, stm),
-        Alg::OrecEager => OrecEager::cancel(desc, stm),
-        Alg::RingSw => RingSw::cancel(desc, stm),
-    }
+    under!(desc.local.algorithm, A::cancel(desc, stm))
 }
 
 /// Tries to make the attempt irrevocable: from `Granted` on it can only be committed, and no call of it is refused.
@@ -228,14 +188,7 @@ pub fn try_irrevocable<K: MemRule>(desc: &mut Desc<K>, stm: &Stm<K>) -> Irrev
     ensures steps { AddsAtMost (costs stm.now.config (known desc.old)).irrevocable (known desc.old)
         (known desc.new) }
 {
-    match desc.local.algorithm {
-        Alg::Cgl => Cgl::try_irrevocable(desc, stm),
-        Alg::Tml => Tml::try_irrevocable(desc, stm),
-        Alg::Serial => Serial::try_irrevocable(desc, stm),
-        Alg::OrecLazy => OrecLazy::try_irrevocable(desc, stm),
-        Alg::OrecEager => OrecEager::try_irrevocable(desc, stm),
-        Alg::RingSw => RingSw::try_irrevocable(desc, stm),
-    }
+    under!(desc.local.algorithm, A::try_irrevocable(desc, stm))
 }
 
 /// Makes the read log `reads` items long and the logs of what is written `writes`, each 1 to 4,096, where they are

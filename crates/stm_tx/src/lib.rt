@@ -9,6 +9,7 @@ pub mod laws;
 pub mod live;
 pub mod nesting;
 pub mod serving;
+mod under;
 
 pub use alg_orec::orec_eager::OrecEager;
 pub use alg_orec::orec_lazy::OrecLazy;

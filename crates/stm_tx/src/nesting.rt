@@ -10,14 +10,8 @@ ghost use Rattle.tx_answers.specs.CallerState.{IsRunning};
 ghost use Rattle.stm_tx.specs.Descs.{known, number};
 ghost use Rattle.stm_tx.specs.Nesting.{live_marks, RollsToMark};
 
+use crate::under;
 use alg_calls::algorithm::Algorithm;
-use alg_orec::orec_eager::OrecEager;
-use alg_orec::orec_lazy::OrecLazy;
-use alg_ring::ring::RingSw;
-use alg_seq::cgl::Cgl;
-use alg_seq::serial::Serial;
-use alg_seq::tml::Tml;
-use stm_model::alg::Alg;
 use stm_model::rule::MemRule;
 use stm_rule::desc::Desc;
 use stm_rule::stm::Stm;
@@ -64,14 +58,7 @@ pub fn roll_to<K: MemRule>(desc: &mut Desc<K>, stm: &Stm<K>, depth: usize) -> Ro
     ensures steps { AddsAtMost (roll_steps (known desc.old).alg (known desc.old).writes_limit)
         (known desc.old) (known desc.new) }
 {
-    match desc.local.algorithm {
-        Alg::Cgl => Cgl::roll_to(desc, stm, depth),
-        Alg::Tml => Tml::roll_to(desc, stm, depth),
-        Alg::Serial => Serial::roll_to(desc, stm, depth),
-        Alg::OrecLazy => OrecLazy::roll_to(desc, stm, depth),
-        Alg::OrecEager => OrecEager::roll_to(desc, stm, depth),
-        Alg::RingSw => RingSw::roll_to(desc, stm, depth),
-    }
+    under!(desc.local.algorithm, A::roll_to(desc, stm, depth))
 }
 
 /// Drops the marks from `depth` on, and keeps what was written since. No step.

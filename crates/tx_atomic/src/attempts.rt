@@ -14,7 +14,6 @@ use crate::observer::Observer;
 use crate::pace::{Pacing, Refused};
 use crate::tally::Ended;
 use std::sync::Wait;
-use stm_model::alg::Alg;
 use stm_model::rule::MemRule;
 use stm_rule::desc::Desc;
 use stm_rule::stm::Stm;
@@ -22,7 +21,7 @@ use stm_tx::calls::{algorithm, cancel, commit, try_begin, try_irrevocable};
 use stm_tx::fencing::fence_seen;
 use stm_tx::live::Live;
 use stm_tx::serving::{AnyAlgorithm, Calls, Only};
-use stm_tx::{Cgl, OrecEager, OrecLazy, RingSw, Serial, Tml};
+use stm_tx::under;
 use tx_answers::answers::{Begin, Commit, Irrev};
 use tx_transaction::transaction::Transaction;
 
@@ -244,14 +243,10 @@ fn run<R: Wait, K: MemRule, T: Transaction<K>, O: Observer>(
     if irrevocable {
         return run_irrevocable(rt, desc, stm, pace, transaction);
     }
-    match algorithm(desc) {
-        Alg::Cgl => run_by(Only::<Cgl>::new(), rt, desc, stm, pace, transaction),
-        Alg::Tml => run_by(Only::<Tml>::new(), rt, desc, stm, pace, transaction),
-        Alg::Serial => run_by(Only::<Serial>::new(), rt, desc, stm, pace, transaction),
-        Alg::OrecLazy => run_by(Only::<OrecLazy>::new(), rt, desc, stm, pace, transaction),
-        Alg::OrecEager => run_by(Only::<OrecEager>::new(), rt, desc, stm, pace, transaction),
-        Alg::RingSw => run_by(Only::<RingSw>::new(), rt, desc, stm, pace, transaction),
-    }
+    under!(
+        algorithm(desc),
+        run_by(Only::<A>::new(), rt, desc, stm, pace, transaction)
+    )
 }
 
 /// The same of an attempt that was asked to be irrevocable. Apart, since it seldom runs and has the code of all algorithms at
