@@ -1,10 +1,10 @@
 //! A map from keys to values with the sums of ranges of keys, over any access. A range's sum is the difference of two
 //! sums from the least key on, each by one walk of at most four reads a cell; differences modulo 2^64 are right where
 //! sums wrap. A sum between bounds that cross reads a word all the same, so that its answer is of a memory too.
-ghost use Rattle.std.specs.Prelude.{◌≡◌, ◌<◌, ◌≤◌, ◌%◌, ◌^◌, true, None, Some, IfOk, OnOk, IfErr};
-ghost use Rattle.stm_model.specs.Logs.{SameMemories, IsReadStop};
+ghost use Rattle.std.specs.Prelude.{◌≡◌, ◌<◌, ◌≤◌, ◌%◌, ◌^◌, true, None, IfOk, OnOk, IfErr};
+ghost use Rattle.stm_model.specs.Logs.{IsReadStop};
 ghost use Rattle.tx_effects.specs.Effects.{Turns};
-ghost use Rattle.tx_effects.specs.Accesses.{DoesFor, ExplainedFor, HoldsFor, ShowsFor};
+ghost use Rattle.tx_effects.specs.Accesses.{DoesFor, ExplainedFor, HoldsFor, LeadsOn, ShowsFor};
 ghost use Rattle.tx_tree.specs.Shapes.{top};
 ghost use Rattle.tx_sums.specs.Sums.{SumMapFits, IsSumMap, sum_within, sum_under, passed, summed_in, put_in, raised_in, mended_in, got_in, LinksFrom, HasKey, HasRight, IsEmptied, replaced_in, spliced, least_taken, taken_in, removed_in};
 ghost use Rattle.tx_sums.specs.declared.sum_map.MapPut.TheVariants.{Replaced};
@@ -40,7 +40,7 @@ pub struct SumMap {
 }
 
 /// What passing a cell adds to a sum, and the link to go on by.
-#[derive(Clone, Copy, Drop, Debug, PartialEq, Eq)]
+#[derive(Clone, Copy, Drop)]
 struct Passed {
     next: u64,
     added: u64,
@@ -60,12 +60,7 @@ impl SumMap {
         requires cell { cell < self.now.cells }
         ensures reply { IfOk result
             (DoesFor A.Access acc.old acc.new (raised_in self.now by cell)) }
-        ensures explained { OnOk result (ExplainedFor A.Access acc.new) }
-        ensures goes { OnOk result (A.stopped acc.new ≡ None) }
-        ensures stops { IfErr result (λ s. A.stopped acc.new ≡ Some s) }
-        ensures good { SameMemories (A.good acc.old) (A.good acc.new) }
-        ensures words { A.words acc.new ≡ A.words acc.old }
-        ensures keeps { A.keeps acc.old acc.new }
+        ensures frame { LeadsOn A.Access acc.old acc.new result }
     {
         let address = self.at + 1 + 5 * cell + 4;
         let found = acc.read(address)?;
@@ -84,13 +79,8 @@ impl SumMap {
         requires well { HoldsFor A.Access acc.old (IsSumMap self.now) }
         ensures reply { IfOk result (DoesFor A.Access acc.old acc.new (got_in self.now key)) }
         ensures well { OnOk result (HoldsFor A.Access acc.new (IsSumMap self.now)) }
-        ensures explained { OnOk result (ExplainedFor A.Access acc.new) }
-        ensures goes { OnOk result (A.stopped acc.new ≡ None) }
-        ensures stops { IfErr result (λ s. A.stopped acc.new ≡ Some s) }
         ensures cause { IfErr result IsReadStop }
-        ensures good { SameMemories (A.good acc.old) (A.good acc.new) }
-        ensures words { A.words acc.new ≡ A.words acc.old }
-        ensures keeps { A.keeps acc.old acc.new }
+        ensures frame { LeadsOn A.Access acc.old acc.new result }
     {
         let pool = Pool {
             at: self.at,
@@ -120,12 +110,7 @@ impl SumMap {
         requires well { HoldsFor A.Access acc.old (IsSumMap self.now) }
         ensures reply { IfOk result (DoesFor A.Access acc.old acc.new (put_in self.now key value)) }
         ensures well { OnOk result (HoldsFor A.Access acc.new (IsSumMap self.now)) }
-        ensures explained { OnOk result (ExplainedFor A.Access acc.new) }
-        ensures goes { OnOk result (A.stopped acc.new ≡ None) }
-        ensures stops { IfErr result (λ s. A.stopped acc.new ≡ Some s) }
-        ensures good { SameMemories (A.good acc.old) (A.good acc.new) }
-        ensures words { A.words acc.new ≡ A.words acc.old }
-        ensures keeps { A.keeps acc.old acc.new }
+        ensures frame { LeadsOn A.Access acc.old acc.new result }
     {
         let pool = Pool {
             at: self.at,
@@ -164,12 +149,7 @@ impl SumMap {
         ensures reply { OnOk result
             (DoesFor A.Access acc.old acc.new (replaced_in self.now key value cell) Replaced) }
         ensures well { OnOk result (HoldsFor A.Access acc.new (IsSumMap self.now)) }
-        ensures explained { OnOk result (ExplainedFor A.Access acc.new) }
-        ensures goes { OnOk result (A.stopped acc.new ≡ None) }
-        ensures stops { IfErr result (λ s. A.stopped acc.new ≡ Some s) }
-        ensures good { SameMemories (A.good acc.old) (A.good acc.new) }
-        ensures words { A.words acc.new ≡ A.words acc.old }
-        ensures keeps { A.keeps acc.old acc.new }
+        ensures frame { LeadsOn A.Access acc.old acc.new result }
     {
         let address = self.at + 1 + 5 * cell + 3;
         let old = acc.read(address)?;
@@ -186,12 +166,7 @@ impl SumMap {
         requires links { HoldsFor A.Access acc.old (LinksFrom self.now from) }
         ensures reply { IfOk result
             (DoesFor A.Access acc.old acc.new (mended_in self.now from key by)) }
-        ensures explained { OnOk result (ExplainedFor A.Access acc.new) }
-        ensures goes { OnOk result (A.stopped acc.new ≡ None) }
-        ensures stops { IfErr result (λ s. A.stopped acc.new ≡ Some s) }
-        ensures good { SameMemories (A.good acc.old) (A.good acc.new) }
-        ensures words { A.words acc.new ≡ A.words acc.old }
-        ensures keeps { A.keeps acc.old acc.new }
+        ensures frame { LeadsOn A.Access acc.old acc.new result }
     {
         let tag = key as u64 + 1;
         let mut link = acc.read(from)?;
@@ -225,12 +200,7 @@ impl SumMap {
             × SumMapFits self.now (A.words acc.old) }
         ensures turns { OnOk result
             (Turns (A.log acc.old) (A.log acc.new) (spliced self.now cell link word)) }
-        ensures explained { OnOk result (ExplainedFor A.Access acc.new) }
-        ensures goes { OnOk result (A.stopped acc.new ≡ None) }
-        ensures stops { IfErr result (λ s. A.stopped acc.new ≡ Some s) }
-        ensures good { SameMemories (A.good acc.old) (A.good acc.new) }
-        ensures words { A.words acc.new ≡ A.words acc.old }
-        ensures keeps { A.keeps acc.old acc.new }
+        ensures frame { LeadsOn A.Access acc.old acc.new result }
     {
         let address = self.at + 1 + 5 * cell;
         acc.write(link, word)?;
@@ -254,12 +224,7 @@ impl SumMap {
         ensures reply { OnOk result
             (DoesFor A.Access acc.old acc.new (least_taken self.now cell) true) }
         ensures well { OnOk result (HoldsFor A.Access acc.new (IsSumMap self.now)) }
-        ensures explained { OnOk result (ExplainedFor A.Access acc.new) }
-        ensures goes { OnOk result (A.stopped acc.new ≡ None) }
-        ensures stops { IfErr result (λ s. A.stopped acc.new ≡ Some s) }
-        ensures good { SameMemories (A.good acc.old) (A.good acc.new) }
-        ensures words { A.words acc.new ≡ A.words acc.old }
-        ensures keeps { A.keeps acc.old acc.new }
+        ensures frame { LeadsOn A.Access acc.old acc.new result }
     {
         let address = self.at + 1 + 5 * cell;
         let pool = Pool {
@@ -294,12 +259,7 @@ impl SumMap {
         ensures reply { OnOk result
             (DoesFor A.Access acc.old acc.new (taken_in self.now cell link) true) }
         ensures well { OnOk result (HoldsFor A.Access acc.new (IsSumMap self.now)) }
-        ensures explained { OnOk result (ExplainedFor A.Access acc.new) }
-        ensures goes { OnOk result (A.stopped acc.new ≡ None) }
-        ensures stops { IfErr result (λ s. A.stopped acc.new ≡ Some s) }
-        ensures good { SameMemories (A.good acc.old) (A.good acc.new) }
-        ensures words { A.words acc.new ≡ A.words acc.old }
-        ensures keeps { A.keeps acc.old acc.new }
+        ensures frame { LeadsOn A.Access acc.old acc.new result }
     {
         let address = self.at + 1 + 5 * cell;
         let lesser = acc.read(address + 1)?;
@@ -328,12 +288,7 @@ impl SumMap {
         requires well { HoldsFor A.Access acc.old (IsSumMap self.now) }
         ensures reply { IfOk result (DoesFor A.Access acc.old acc.new (removed_in self.now key)) }
         ensures well { OnOk result (HoldsFor A.Access acc.new (IsSumMap self.now)) }
-        ensures explained { OnOk result (ExplainedFor A.Access acc.new) }
-        ensures goes { OnOk result (A.stopped acc.new ≡ None) }
-        ensures stops { IfErr result (λ s. A.stopped acc.new ≡ Some s) }
-        ensures good { SameMemories (A.good acc.old) (A.good acc.new) }
-        ensures words { A.words acc.new ≡ A.words acc.old }
-        ensures keeps { A.keeps acc.old acc.new }
+        ensures frame { LeadsOn A.Access acc.old acc.new result }
     {
         let pool = Pool {
             at: self.at,
@@ -358,13 +313,8 @@ impl SumMap {
         ensures sums { IfOk result
             (ShowsFor A.Access acc.old acc.new (λ m. sum_under self.now m link)) }
         ensures writes { OnOk result ((A.log acc.new).writes ≡ (A.log acc.old).writes) }
-        ensures explained { OnOk result (ExplainedFor A.Access acc.new) }
-        ensures goes { OnOk result (A.stopped acc.new ≡ None) }
-        ensures stops { IfErr result (λ s. A.stopped acc.new ≡ Some s) }
         ensures cause { IfErr result IsReadStop }
-        ensures good { SameMemories (A.good acc.old) (A.good acc.new) }
-        ensures words { A.words acc.new ≡ A.words acc.old }
-        ensures keeps { A.keeps acc.old acc.new }
+        ensures frame { LeadsOn A.Access acc.old acc.new result }
     {
         if link == 0 {
             return Ok(0);
@@ -384,13 +334,8 @@ impl SumMap {
             (ShowsFor A.Access acc.old acc.new (λ m. passed self.now m bound cell)) }
         ensures inside { IfOk result (λ p. p.next ≤ self.now.cells) }
         ensures writes { OnOk result ((A.log acc.new).writes ≡ (A.log acc.old).writes) }
-        ensures explained { OnOk result (ExplainedFor A.Access acc.new) }
-        ensures goes { OnOk result (A.stopped acc.new ≡ None) }
-        ensures stops { IfErr result (λ s. A.stopped acc.new ≡ Some s) }
         ensures cause { IfErr result IsReadStop }
-        ensures good { SameMemories (A.good acc.old) (A.good acc.new) }
-        ensures words { A.words acc.new ≡ A.words acc.old }
-        ensures keeps { A.keeps acc.old acc.new }
+        ensures frame { LeadsOn A.Access acc.old acc.new result }
     {
         let address = self.at + 1 + 5 * cell;
         let tag = acc.read(address)?;
@@ -417,13 +362,8 @@ impl SumMap {
         ensures sums { IfOk result (ShowsFor A.Access acc.old acc.new (λ m.
             sum_within self.now m 0 bound self.now.cells % 2 ^ 64)) }
         ensures writes { OnOk result ((A.log acc.new).writes ≡ (A.log acc.old).writes) }
-        ensures explained { OnOk result (ExplainedFor A.Access acc.new) }
-        ensures goes { OnOk result (A.stopped acc.new ≡ None) }
-        ensures stops { IfErr result (λ s. A.stopped acc.new ≡ Some s) }
         ensures cause { IfErr result IsReadStop }
-        ensures good { SameMemories (A.good acc.old) (A.good acc.new) }
-        ensures words { A.words acc.new ≡ A.words acc.old }
-        ensures keeps { A.keeps acc.old acc.new }
+        ensures frame { LeadsOn A.Access acc.old acc.new result }
     {
         let mut total: u64 = 0;
         let mut link = acc.read(self.at)?;
@@ -450,13 +390,8 @@ impl SumMap {
         requires well { HoldsFor A.Access acc.old (IsSumMap self.now) }
         ensures reply { IfOk result (DoesFor A.Access acc.old acc.new (summed_in self.now lo hi)) }
         ensures well { OnOk result (HoldsFor A.Access acc.new (IsSumMap self.now)) }
-        ensures explained { OnOk result (ExplainedFor A.Access acc.new) }
-        ensures goes { OnOk result (A.stopped acc.new ≡ None) }
-        ensures stops { IfErr result (λ s. A.stopped acc.new ≡ Some s) }
-        ensures good { SameMemories (A.good acc.old) (A.good acc.new) }
-        ensures words { A.words acc.new ≡ A.words acc.old }
-        ensures keeps { A.keeps acc.old acc.new }
         ensures cause { IfErr result IsReadStop }
+        ensures frame { LeadsOn A.Access acc.old acc.new result }
     {
         if lo > hi {
             acc.read(self.at)?;

@@ -49,4 +49,4 @@ returns-clause-well g c =
     let two = c.in_ok-value.ensures in
     under-after (g.A.Access.good c.args.acc.now) (g.A.Access.words c.args.acc.now) (g.A.Access.log c.args.acc.now) (got_in r c.args.key)
     (g.A.Access.log c.read.new.self) _ _ (Some c.in_ok-value.value) (IsSumMap r) (IsSumMap r) (returns-clause-reply g c) c.requires.well
-    (same-trans _ _ _ one.good two.good) (two.words ∙ one.words) (λ m len w. w)
+    (same-trans _ _ _ one.frame.good two.good) (two.words ∙ one.frame.words) (λ m len w. w)

@@ -1,4 +1,4 @@
-use Rattle.std.proofs.Common.{◌≡◌, ◌<◌, ◌≤◌, ◌≢◌, ◌+◌, ◌-◌, ◌∙◌, refl, sym, ap, arith, subst, inl, inr, ℕ, suc, List, true, false, nat_eq}
+use Rattle.std.proofs.Common.{rules, ◌≡◌, ◌<◌, ◌≤◌, ◌≢◌, ◌+◌, ◌-◌, ◌∙◌, refl, sym, ap, arith, subst, inl, inr, ℕ, suc, List, true, false, nat_eq}
 use Rattle.std.specs.Prelude.{not, slice_index}
 use Rattle.stm_model.specs.Memories.{is_empty}
 use Rattle.tx_effects.specs.EffectLaws.{shows-none, shows-read, shown, same-trans}
@@ -57,17 +57,6 @@ returns-clause-reply g c =
     (not (nat_eq c.in_ok-link.link 0)) inv.walks inv.wrote (λ e. omega arith) (λ x.
     mending-stops r c.args.key c.args.by c.loop-step.link _ x q)
 
-pub returns-in_err-found-clause-keeps : goal.returns-in_err-found-clause-keeps
-returns-in_err-found-clause-keeps g c = g.met.A.Access.keeps_trans _ _ _ c.loop-step.invariant.keeps (g.met.A.Access.keeps_trans _ _ _ c.in_ok-raise.ensures.keeps c.in_err-found.ensures.keeps)
-
-pub returns-then-found-tag-clause-keeps : goal.returns-then-found-tag-clause-keeps
-returns-then-found-tag-clause-keeps g c = g.met.A.Access.keeps_trans _ _ _ c.loop-step.invariant.keeps (g.met.A.Access.keeps_trans _ _ _ c.in_ok-raise.ensures.keeps c.in_ok-found.ensures.keeps)
-
-pub returns-in_err-link-2-clause-keeps : goal.returns-in_err-link-2-clause-keeps
-returns-in_err-link-2-clause-keeps g c =
-    g.met.A.Access.keeps_trans _ _ _ c.loop-step.invariant.keeps (g.met.A.Access.keeps_trans _ _ _ c.in_ok-raise.ensures.keeps
-    (g.met.A.Access.keeps_trans _ _ _ c.in_ok-found.ensures.keeps c.in_err-link-2.ensures.keeps))
-
 -- with the cell's sum raised, and its tag read: y is the memory before the raise
 raised-walk : (g : _) (c : In_ok-found g) → Walks (g.A.Access.good c.args.acc.now) (g.A.Access.words c.args.acc.now) (g.A.Access.log c.args.acc.now) (g.A.Access.log c.read-in-loop-step.new.self)
     (λ m x.
@@ -106,7 +95,7 @@ raised-wrote g c =
       ap is_empty c.in_ok-found.ensures.value.0
           ∙ does-wrote (g.A.Access.good c.loop-step.acc) (g.A.Access.words c.loop-step.acc) (g.A.Access.log c.loop-step.acc)
           (g.A.Access.log c.raise.new.acc) _ _ (raised_in c.args.self.now c.args.by (c.loop-step.link - 1)) c.in_ok-raise.field-0 one.reply
-          one.good one.words one.explained (λ m. refl),
+          one.frame.good one.frame.words one.frame.explained (λ m. refl),
       wrote-true c.loop-step._step (g.A.Access.log c.args.acc.now) (g.A.Access.log c.loop-step.acc) _ c.loop-step.link c.loop-step.invariant.wrote (λ x. absurd (omega arith)),
     )
 
@@ -172,15 +161,59 @@ loop-step-preserved g c =
     (λ m x. Mending r from key d u less b m x × (u ≤ r.cells)) a u (raised-walk g f) (omega arith) three.value
     (λ m x h i. let y : u ≡ slice_index (raised r d j h.0) a = i ∙ ap (λ q. slice_index q a) h.2 in
     (subst (Mending r from key d u less b m) (sym h.2) (mending-on r from key d v n less j t a u b m h.0 h.1 e k h.3 other c.side.ensures y), word-most r from key d v n j t a u b m h.0 h.1 in' c.side.ensures y)) in
-    let good' = same-trans _ _ _ inv.good (same-trans _ _ _ one.good (same-trans _ _ _ two.good three.good)) in
-    let words' = three.words ∙ (two.words ∙ (one.words ∙ inv.words)) in
+    let good' = same-trans _ _ _ inv.good (same-trans _ _ _ one.frame.good (same-trans _ _ _ two.good three.good)) in
+    let words' = three.words ∙ (two.words ∙ (one.frame.words ∙ inv.words)) in
     record {
       going = three.goes;
       words = words';
       good = good';
-      keeps = g.met.A.Access.keeps_trans _ _ _ inv.keeps (g.met.A.Access.keeps_trans _ _ _ one.keeps (g.met.A.Access.keeps_trans _ _ _ two.keeps three.keeps));
+      keeps = g.met.A.Access.keeps_trans _ _ _ inv.keeps (g.met.A.Access.keeps_trans _ _ _ one.frame.keeps (g.met.A.Access.keeps_trans _ _ _ two.keeps three.keeps));
       explained = three.explained;
       below = walked good words log (g.A.Access.log c.read-in-loop-step-2.new.self) _ _ (λ m x. Mending r from key d u less b m x × (u ≤ r.cells)) (u ≤ r.cells) w3 good' words' three.explained (λ m x h. h.1);
       wrote = inr (ap is_empty three.value.0 ∙ wrote.0, wrote.1);
       walks = λ m fine len ex. let p = w3 m fine len ex in (p.0, p.1.0);
+    }
+
+pub returns-in_err-raise-clause-frame : goal.returns-in_err-raise-clause-frame
+returns-in_err-raise-clause-frame g c =
+    record {
+      explained = search rules;
+      goes = search rules;
+      stops = search rules;
+      good = same-trans _ _ _ c.loop-step.invariant.good c.in_err-raise.ensures.frame.good;
+      words = c.in_err-raise.ensures.frame.words ∙ c.loop-step.invariant.words;
+      keeps = g.met.A.Access.keeps_trans _ _ _ c.loop-step.invariant.keeps c.in_err-raise.ensures.frame.keeps;
+    }
+
+pub returns-in_err-found-clause-frame : goal.returns-in_err-found-clause-frame
+returns-in_err-found-clause-frame g c =
+    record {
+      explained = search rules;
+      goes = search rules;
+      stops = search rules;
+      good = same-trans _ _ _ c.loop-step.invariant.good (same-trans _ _ _ c.in_ok-raise.ensures.frame.good c.in_err-found.ensures.good);
+      words = c.in_err-found.ensures.words ∙ (c.in_ok-raise.ensures.frame.words ∙ c.loop-step.invariant.words);
+      keeps = g.met.A.Access.keeps_trans _ _ _ c.loop-step.invariant.keeps (g.met.A.Access.keeps_trans _ _ _ c.in_ok-raise.ensures.frame.keeps c.in_err-found.ensures.keeps);
+    }
+
+pub returns-then-found-tag-clause-frame : goal.returns-then-found-tag-clause-frame
+returns-then-found-tag-clause-frame g c =
+    record {
+      explained = search rules;
+      goes = search rules;
+      stops = search rules;
+      good = same-trans _ _ _ c.loop-step.invariant.good (same-trans _ _ _ c.in_ok-raise.ensures.frame.good c.in_ok-found.ensures.good);
+      words = c.in_ok-found.ensures.words ∙ (c.in_ok-raise.ensures.frame.words ∙ c.loop-step.invariant.words);
+      keeps = g.met.A.Access.keeps_trans _ _ _ c.loop-step.invariant.keeps (g.met.A.Access.keeps_trans _ _ _ c.in_ok-raise.ensures.frame.keeps c.in_ok-found.ensures.keeps);
+    }
+
+pub returns-in_err-link-2-clause-frame : goal.returns-in_err-link-2-clause-frame
+returns-in_err-link-2-clause-frame g c =
+    record {
+      explained = search rules;
+      goes = search rules;
+      stops = search rules;
+      good = same-trans _ _ _ c.loop-step.invariant.good (same-trans _ _ _ c.in_ok-raise.ensures.frame.good (same-trans _ _ _ c.in_ok-found.ensures.good c.in_err-link-2.ensures.good));
+      words = c.in_err-link-2.ensures.words ∙ (c.in_ok-found.ensures.words ∙ (c.in_ok-raise.ensures.frame.words ∙ c.loop-step.invariant.words));
+      keeps = g.met.A.Access.keeps_trans _ _ _ c.loop-step.invariant.keeps (g.met.A.Access.keeps_trans _ _ _ c.in_ok-raise.ensures.frame.keeps (g.met.A.Access.keeps_trans _ _ _ c.in_ok-found.ensures.keeps c.in_err-link-2.ensures.keeps));
     }

@@ -1,4 +1,4 @@
-use Rattle.std.proofs.Common.{subst, ◌≡◌, ◌<◌, ◌+◌, ◌-◌, ◌^◌, ◌∙◌, refl, sym, ap, set, length, arith, suc, true}
+use Rattle.std.proofs.Common.{rules, subst, ◌≡◌, ◌<◌, ◌+◌, ◌-◌, ◌^◌, ◌∙◌, refl, sym, ap, set, length, arith, suc, true}
 use Rattle.stm_model.specs.Memories.{overlay}
 use Rattle.stm_model.specs.Overlays.{overlay-length}
 use Rattle.stm_model.specs.Logs.{SameMemories}
@@ -26,8 +26,8 @@ replace-requires-clause-well g c = λ m fine len ex.
     let small : c.args.key < 2 ^ 32 = omega arith in
     let z = c.if-position-ne0.true in
     let n : s.next ≡ suc (s.next - 1) = omega arith in
-    let x = one.finds m ((one.good m).1 fine) (len ∙ one.words) ex in
-    subst (λ w. HasKey r c.args.key (s.next - 1) (overlay m w)) (sym one.writes) (has-key r _ c.args.key (s.next - 1) s (c.requires.well m ((one.good m).1 fine) (len ∙ one.words) x.0) small x.1 n)
+    let x = one.finds m ((one.frame.good m).1 fine) (len ∙ one.frame.words) ex in
+    subst (λ w. HasKey r c.args.key (s.next - 1) (overlay m w)) (sym one.writes) (has-key r _ c.args.key (s.next - 1) s (c.requires.well m ((one.frame.good m).1 fine) (len ∙ one.frame.words) x.0) small x.1 n)
 
 pub returns-then-position-ne0-clause-reply : goal.returns-then-position-ne0-clause-reply
 returns-then-position-ne0-clause-reply g c =
@@ -41,7 +41,7 @@ returns-then-position-ne0-clause-reply g c =
     let two = c.in_ok-replace.ensures in
     let z = c.if-position-ne0.true in
     let n : s.next ≡ suc (s.next - 1) = omega arith in
-    does-then good words log (g.A.Access.log c.find.new.acc) (g.A.Access.log c.replace.new.acc) _ _ one.good one.words
+    does-then good words log (g.A.Access.log c.find.new.acc) (g.A.Access.log c.replace.new.acc) _ _ one.frame.good one.frame.words
     (put_in r key c.args.value) (replaced_in r key c.args.value (s.next - 1)) Replaced (IsSumMap r) (λ m. s ≡ position_of r m key)
     c.requires.well one.writes one.finds two.reply
     (λ m w e. ap (put_by r key c.args.value m) (ap (λ p. p.next) (sym e) ∙ n))
@@ -79,7 +79,7 @@ adding g c =
     (λ m. ((λ h. h), (λ h. h))) refl q0.finds in
     let both : Shows good words log l1 (λ m. ((IsSumMap r m × (length m ≡ words)) × (s ≡ position_of r m key)) × (o ≡ free_from (tag r m) 0 r.cells)) =
     shows-then good words log (g.A.Access.log c.find.new.acc) l1 _ _ (λ m. (IsSumMap r m × (length m ≡ words)) × (s ≡ position_of r m key))
-    (λ m. o ≡ free_from (tag r m) 0 r.cells) start q0.writes q0.good q0.words q1.frees in
+    (λ m. o ≡ free_from (tag r m) 0 r.cells) start q0.writes q0.frame.good q0.frame.words q1.frees in
     let w1 = walks-shown good words log l1
     (λ m. ((IsSumMap r m × (length m ≡ words)) × (s ≡ position_of r m key)) × (o ≡ free_from (tag r m) 0 r.cells))
     (λ m x. Adding r words key v s i m (attached r key v i s.link x)) both (q1.writes ∙ q0.writes)
@@ -94,17 +94,17 @@ adding g c =
 
 adding-good : (g : _) (c : In_ok-write-in-Some-3 g) → SameMemories (g.A.Access.good c.args.acc.now) (g.A.Access.good c.write-in-Some-2.new.self)
 adding-good g c =
-    same-trans _ _ _ c.in_ok-position.ensures.good (same-trans _ _ _ c.in_ok-free_cell.ensures.good
+    same-trans _ _ _ c.in_ok-position.ensures.frame.good (same-trans _ _ _ c.in_ok-free_cell.ensures.frame.good
     (same-trans _ _ _ c.in_ok-write-in-Some.ensures.good
     (same-trans _ _ _ c.in_ok-write-in-Some-2.ensures.good c.in_ok-write-in-Some-3.ensures.good)))
 
 adding-words : (g : _) (c : In_ok-write-in-Some-3 g) → g.A.Access.words c.write-in-Some-2.new.self ≡ g.A.Access.words c.args.acc.now
-adding-words g c = c.in_ok-write-in-Some-3.ensures.words ∙ (c.in_ok-write-in-Some-2.ensures.words ∙ (c.in_ok-write-in-Some.ensures.words ∙ (c.in_ok-free_cell.ensures.words ∙ c.in_ok-position.ensures.words)))
+adding-words g c = c.in_ok-write-in-Some-3.ensures.words ∙ (c.in_ok-write-in-Some-2.ensures.words ∙ (c.in_ok-write-in-Some.ensures.words ∙ (c.in_ok-free_cell.ensures.frame.words ∙ c.in_ok-position.ensures.frame.words)))
 
 adding-keeps : (g : _) (c : In_ok-write-in-Some-3 g) → g.A.Access.keeps c.args.acc.now c.write-in-Some-2.new.self
 adding-keeps g c =
     let chain = g.met.A.Access.keeps_trans in
-    chain _ _ _ c.in_ok-position.ensures.keeps (chain _ _ _ c.in_ok-free_cell.ensures.keeps
+    chain _ _ _ c.in_ok-position.ensures.frame.keeps (chain _ _ _ c.in_ok-free_cell.ensures.frame.keeps
     (chain _ _ _ c.in_ok-write-in-Some.ensures.keeps
     (chain _ _ _ c.in_ok-write-in-Some-2.ensures.keeps c.in_ok-write-in-Some-3.ensures.keeps)))
 
@@ -149,7 +149,7 @@ returns-in_ok-mend-in-Some-clause-reply g c =
     let l5 = g.A.Access.log c.mend.new.acc in
     let t4 = turns-write l3 l4 c.in_ok-position.position.link (c.in-Some.cell + 1) c.in_ok-write-in-Some-3.ensures.value in
     let some = does-after (g.A.Access.good c.write-in-Some-2.new.self) (g.A.Access.words c.write-in-Some-2.new.self) l4 l5 _ _
-    (mended_in r r.at c.args.key c.args.value) c.in_ok-mend-in-Some.field-0 q5.reply q5.good q5.words q5.explained t4.wrote in
+    (mended_in r r.at c.args.key c.args.value) c.in_ok-mend-in-Some.field-0 q5.reply q5.frame.good q5.frame.words q5.frame.explained t4.wrote in
     walks-end (g.A.Access.good c.args.acc.now) (g.A.Access.words c.args.acc.now) log l5 (put_in r c.args.key c.args.value) Added true (wrote-here log l5 true some refl)
     (λ m fine len ex. let p = added g at.In_ok-mend-in-Some (adding g o) (adding-good g o) (adding-words g o) (small-key g o) (no-cell g o) m fine len ex in (p.0, p.1.0))
 
@@ -158,21 +158,8 @@ returns-in_ok-mend-in-Some-clause-well g c =
     let at = goal.at.returns-in_ok-mend-in-Some-clause-well g c in
     let o = at.In_ok-write-in-Some-3 in
     let q5 = c.in_ok-mend-in-Some.ensures in
-    let all = same-trans _ _ _ (adding-good g o) q5.good in
-    λ m fine len ex. (added g at.In_ok-mend-in-Some (adding g o) (adding-good g o) (adding-words g o) (small-key g o) (no-cell g o) m ((all m).1 fine) (len ∙ (q5.words ∙ adding-words g o)) ex).1.1
-
-pub returns-in_err-write-in-Some-3-clause-keeps : goal.returns-in_err-write-in-Some-3-clause-keeps
-returns-in_err-write-in-Some-3-clause-keeps g c =
-    let chain = g.met.A.Access.keeps_trans in
-    chain _ _ _ c.in_ok-position.ensures.keeps (chain _ _ _ c.in_ok-free_cell.ensures.keeps
-    (chain _ _ _ c.in_ok-write-in-Some.ensures.keeps
-    (chain _ _ _ c.in_ok-write-in-Some-2.ensures.keeps c.in_err-write-in-Some-3.ensures.keeps)))
-
-pub returns-in_err-mend-in-Some-clause-keeps : goal.returns-in_err-mend-in-Some-clause-keeps
-returns-in_err-mend-in-Some-clause-keeps g c = g.met.A.Access.keeps_trans _ _ _ (adding-keeps g (goal.at.returns-in_err-mend-in-Some-clause-keeps g c).In_ok-write-in-Some-3) c.in_err-mend-in-Some.ensures.keeps
-
-pub returns-in_ok-mend-in-Some-clause-keeps : goal.returns-in_ok-mend-in-Some-clause-keeps
-returns-in_ok-mend-in-Some-clause-keeps g c = g.met.A.Access.keeps_trans _ _ _ (adding-keeps g (goal.at.returns-in_ok-mend-in-Some-clause-keeps g c).In_ok-write-in-Some-3) c.in_ok-mend-in-Some.ensures.keeps
+    let all = same-trans _ _ _ (adding-good g o) q5.frame.good in
+    λ m fine len ex. (added g at.In_ok-mend-in-Some (adding g o) (adding-good g o) (adding-words g o) (small-key g o) (no-cell g o) m ((all m).1 fine) (len ∙ (q5.frame.words ∙ adding-words g o)) ex).1.1
 
 -- NO ROOM
 pub returns-in-None-clause-reply : goal.returns-in-None-clause-reply
@@ -191,8 +178,51 @@ returns-in-None-clause-reply g c =
     does-stay good words log (put_in r key c.args.value) _ NoRoom (IsSumMap r) c.requires.well (two.writes ∙ one.writes)
     (λ m. (s ≡ position_of r m key) × (o ≡ free_from (tag r m) 0 r.cells))
     (shows-then good words log (g.A.Access.log c.find.new.acc) (g.A.Access.log c.free_cell.new.acc) _ _ (λ m. s ≡ position_of r m key)
-    (λ m. o ≡ free_from (tag r m) 0 r.cells) one.finds one.writes one.good one.words two.frees)
+    (λ m. o ≡ free_from (tag r m) 0 r.cells) one.finds one.writes one.frame.good one.frame.words two.frees)
     (λ m w e. full-is r key c.args.value s m e.0 n (sym c.in-None.is ∙ e.1))
 
-pub returns-then-position-ne0-clause-keeps : goal.returns-then-position-ne0-clause-keeps
-returns-then-position-ne0-clause-keeps g c = g.met.A.Access.keeps_trans _ _ _ c.in_ok-position.ensures.keeps c.in_ok-replace.ensures.keeps
+pub returns-in_err-write-in-Some-3-clause-frame : goal.returns-in_err-write-in-Some-3-clause-frame
+returns-in_err-write-in-Some-3-clause-frame g c =
+    record {
+      explained = search rules;
+      goes = search rules;
+      stops = search rules;
+      good = same-trans _ _ _ c.in_ok-position.ensures.frame.good (same-trans _ _ _ c.in_ok-free_cell.ensures.frame.good (same-trans _ _ _ c.in_ok-write-in-Some.ensures.good (same-trans _ _ _ c.in_ok-write-in-Some-2.ensures.good c.in_err-write-in-Some-3.ensures.good)));
+      words = c.in_err-write-in-Some-3.ensures.words ∙ (c.in_ok-write-in-Some-2.ensures.words ∙ (c.in_ok-write-in-Some.ensures.words ∙ (c.in_ok-free_cell.ensures.frame.words ∙ c.in_ok-position.ensures.frame.words)));
+      keeps = g.met.A.Access.keeps_trans _ _ _ c.in_ok-position.ensures.frame.keeps (g.met.A.Access.keeps_trans _ _ _ c.in_ok-free_cell.ensures.frame.keeps (g.met.A.Access.keeps_trans _ _ _ c.in_ok-write-in-Some.ensures.keeps (g.met.A.Access.keeps_trans _ _ _ c.in_ok-write-in-Some-2.ensures.keeps c.in_err-write-in-Some-3.ensures.keeps)));
+    }
+
+pub returns-in_err-mend-in-Some-clause-frame : goal.returns-in_err-mend-in-Some-clause-frame
+returns-in_err-mend-in-Some-clause-frame g c =
+    let o = (goal.at.returns-in_err-mend-in-Some-clause-frame g c).In_ok-write-in-Some-3 in
+    record {
+      explained = search rules;
+      goes = search rules;
+      stops = search rules;
+      good = same-trans _ _ _ (adding-good g o) c.in_err-mend-in-Some.ensures.frame.good;
+      words = c.in_err-mend-in-Some.ensures.frame.words ∙ adding-words g o;
+      keeps = g.met.A.Access.keeps_trans _ _ _ (adding-keeps g o) c.in_err-mend-in-Some.ensures.frame.keeps;
+    }
+
+pub returns-in_ok-mend-in-Some-clause-frame : goal.returns-in_ok-mend-in-Some-clause-frame
+returns-in_ok-mend-in-Some-clause-frame g c =
+    let o = (goal.at.returns-in_ok-mend-in-Some-clause-frame g c).In_ok-write-in-Some-3 in
+    record {
+      explained = search rules;
+      goes = search rules;
+      stops = search rules;
+      good = same-trans _ _ _ (adding-good g o) c.in_ok-mend-in-Some.ensures.frame.good;
+      words = c.in_ok-mend-in-Some.ensures.frame.words ∙ adding-words g o;
+      keeps = g.met.A.Access.keeps_trans _ _ _ (adding-keeps g o) c.in_ok-mend-in-Some.ensures.frame.keeps;
+    }
+
+pub returns-then-position-ne0-clause-frame : goal.returns-then-position-ne0-clause-frame
+returns-then-position-ne0-clause-frame g c =
+    record {
+      explained = search rules;
+      goes = search rules;
+      stops = search rules;
+      good = same-trans _ _ _ c.in_ok-position.ensures.frame.good c.in_ok-replace.ensures.frame.good;
+      words = c.in_ok-replace.ensures.frame.words ∙ c.in_ok-position.ensures.frame.words;
+      keeps = g.met.A.Access.keeps_trans _ _ _ c.in_ok-position.ensures.frame.keeps c.in_ok-replace.ensures.frame.keeps;
+    }

@@ -1,7 +1,7 @@
-use Rattle.std.proofs.Common.{◌≡◌, ◌≢◌, ◌<◌, ◌-◌, ◌^◌, ◌∙◌, ℕ, refl, sym, subst, ap, length, arith, suc, true, false}
+use Rattle.std.proofs.Common.{rules, ◌≡◌, ◌≢◌, ◌<◌, ◌-◌, ◌^◌, ◌∙◌, ℕ, refl, sym, subst, ap, length, arith, suc, true, false}
 use Rattle.stm_model.specs.Memories.{overlay}
 use Rattle.stm_model.specs.Overlays.{overlay-length}
-use Rattle.tx_effects.specs.EffectLaws.{does-stay}
+use Rattle.tx_effects.specs.EffectLaws.{does-stay, same-trans}
 use Rattle.tx_sums.specs.declared.sum_map.MapPut.TheVariants.{Replaced}
 use Rattle.tx_sums.specs.Sums.{IsSumMap, HasKey, IsEmptied, position_of, replaced_in, taken_in, removed_in}
 use Rattle.tx_sums.proofs.SumPuts.{has-key}
@@ -31,8 +31,8 @@ replace-requires-clause-well g c = λ m fine len ex.
     let one = c.in_ok-position.ensures in
     let fk = c.ranges.key in
     let small : c.args.key < 2 ^ 32 = omega arith in
-    let x = one.finds m ((one.good m).1 fine) (len ∙ one.words) ex in
-    subst (λ w. HasKey r c.args.key (s.next - 1) (overlay m w)) (sym one.writes) (has-key r _ c.args.key (s.next - 1) s (c.requires.well m ((one.good m).1 fine) (len ∙ one.words) x.0) small x.1 (next-is s.next c.if-position-eq0.false))
+    let x = one.finds m ((one.frame.good m).1 fine) (len ∙ one.frame.words) ex in
+    subst (λ w. HasKey r c.args.key (s.next - 1) (overlay m w)) (sym one.writes) (has-key r _ c.args.key (s.next - 1) s (c.requires.well m ((one.frame.good m).1 fine) (len ∙ one.frame.words) x.0) small x.1 (next-is s.next c.if-position-eq0.false))
 
 pub take_out-requires-clause-well : goal.take_out-requires-clause-well
 take_out-requires-clause-well g c = λ m fine len ex.
@@ -46,14 +46,14 @@ take_out-requires-clause-well g c = λ m fine len ex.
     let fk = c.ranges.key in
     let small : key < 2 ^ 32 = omega arith in
     let room = c.requires.within.0 in
-    let fine1 = (two.good m).1 fine in
-    let len1 = len ∙ two.words in
+    let fine1 = (two.frame.good m).1 fine in
+    let len1 = len ∙ two.frame.words in
     let d = two.reply m fine1 len1 ex in
-    let x = one.finds m ((one.good m).1 fine1) (len1 ∙ one.words) d.explained in
-    let long : length (overlay m log.writes) ≡ g.A.Access.words c.args.acc.now = overlay-length m log.writes ∙ (len1 ∙ one.words) in
+    let x = one.finds m ((one.frame.good m).1 fine1) (len1 ∙ one.frame.words) d.explained in
+    let long : length (overlay m log.writes) ≡ g.A.Access.words c.args.acc.now = overlay-length m log.writes ∙ (len1 ∙ one.frame.words) in
     let left = d.left ∙ ap (λ w. (replaced_in r key 0 j (overlay m w)).memory) one.writes in
     subst (IsEmptied r j s.link) (sym left)
-    (emptied-of r (overlay m log.writes) key j s (c.requires.well m ((one.good m).1 fine1) (len1 ∙ one.words) x.0) small x.1 (next-is s.next c.if-position-eq0.false) (omega arith) (subst (IsSumMap r) left (two.well m fine len ex)))
+    (emptied-of r (overlay m log.writes) key j s (c.requires.well m ((one.frame.good m).1 fine1) (len1 ∙ one.frame.words) x.0) small x.1 (next-is s.next c.if-position-eq0.false) (omega arith) (subst (IsSumMap r) left (two.well m fine len ex)))
 
 pub returns-clause-reply : goal.returns-clause-reply
 returns-clause-reply g c =
@@ -69,12 +69,20 @@ returns-clause-reply g c =
     let three = c.in_ok-take_out.ensures in
     let both = does-both (g.A.Access.good c.find.new.acc) (g.A.Access.words c.find.new.acc) (g.A.Access.log c.find.new.acc)
     (g.A.Access.log c.replace.new.acc) (g.A.Access.log c.take_out.new.acc) (g.A.Access.good c.replace.new.acc)
-    (g.A.Access.words c.replace.new.acc) two.good two.words
+    (g.A.Access.words c.replace.new.acc) two.frame.good two.frame.words
     (replaced_in r key 0 j) (taken_in r j s.link) (λ m. taken_in r j s.link (replaced_in r key 0 j m).memory) Replaced true two.reply three.reply (λ m. refl) (λ m. refl) in
     does-then good words log (g.A.Access.log c.find.new.acc) (g.A.Access.log c.take_out.new.acc) (g.A.Access.good c.find.new.acc)
-    (g.A.Access.words c.find.new.acc) one.good one.words (removed_in r key) (λ m. taken_in r j s.link (replaced_in r key 0 j m).memory) true
+    (g.A.Access.words c.find.new.acc) one.frame.good one.frame.words (removed_in r key) (λ m. taken_in r j s.link (replaced_in r key 0 j m).memory) true
     (IsSumMap r) (λ m. s ≡ position_of r m key) c.requires.well one.writes one.finds both
     (λ m w e. remove-some r m key j s e (next-is s.next c.if-position-eq0.false))
 
-pub returns-clause-keeps : goal.returns-clause-keeps
-returns-clause-keeps g c = g.met.A.Access.keeps_trans _ _ _ c.in_ok-position.ensures.keeps (g.met.A.Access.keeps_trans _ _ _ c.in_ok-replace.ensures.keeps c.in_ok-take_out.ensures.keeps)
+pub returns-clause-frame : goal.returns-clause-frame
+returns-clause-frame g c =
+    record {
+      explained = search rules;
+      goes = search rules;
+      stops = search rules;
+      good = same-trans _ _ _ c.in_ok-position.ensures.frame.good (same-trans _ _ _ c.in_ok-replace.ensures.frame.good c.in_ok-take_out.ensures.frame.good);
+      words = c.in_ok-take_out.ensures.frame.words ∙ (c.in_ok-replace.ensures.frame.words ∙ c.in_ok-position.ensures.frame.words);
+      keeps = g.met.A.Access.keeps_trans _ _ _ c.in_ok-position.ensures.frame.keeps (g.met.A.Access.keeps_trans _ _ _ c.in_ok-replace.ensures.frame.keeps c.in_ok-take_out.ensures.frame.keeps);
+    }

@@ -1,4 +1,4 @@
-use Rattle.std.proofs.Common.{◌≡◌, ◌<◌, ◌+◌, ◌-◌, ◌%◌, ◌^◌, ◌∙◌, refl, ap, set, length, arith, true}
+use Rattle.std.proofs.Common.{rules, ◌≡◌, ◌<◌, ◌+◌, ◌-◌, ◌%◌, ◌^◌, ◌∙◌, refl, ap, set, length, arith, true}
 use Rattle.stm_model.specs.Overlays.{overlay-length}
 use Rattle.tx_effects.specs.Effects.{Shows, changed}
 use Rattle.tx_effects.specs.EffectLaws.{turns-write, same-trans}
@@ -95,7 +95,7 @@ returns-clause-reply g c =
     let d = (v + (2 ^ 64 - c.in_ok-old.old)) % 2 ^ 64 in
     let t = turns-write (g.A.Access.log c.read.new.self) (g.A.Access.log c.write.new.self) (value_at r j) v q2.value in
     let some = does-after (g.A.Access.good c.write.new.self) (g.A.Access.words c.write.new.self) (g.A.Access.log c.write.new.self)
-    (g.A.Access.log c.mend.new.acc) _ _ (mended_in r r.at key d) c.in_ok-mend.field-0 q3.reply q3.good q3.words q3.explained t.wrote in
+    (g.A.Access.log c.mend.new.acc) _ _ (mended_in r r.at key d) c.in_ok-mend.field-0 q3.reply q3.frame.good q3.frame.words q3.frame.explained t.wrote in
     walks-end good words log (g.A.Access.log c.mend.new.acc) (replaced_in r key v j) Replaced true
     (wrote-here log (g.A.Access.log c.mend.new.acc) true some refl) (λ m fine len ex.
     let p = mended-all g at.In_ok-mend (written g at.In_ok-write) m fine len ex in (p.0, p.1.0))
@@ -106,8 +106,16 @@ returns-clause-well g c =
     let q1 = c.in_ok-old.ensures in
     let q2 = c.in_ok-write.ensures in
     let q3 = c.in_ok-mend.ensures in
-    let all = same-trans _ _ _ q1.good (same-trans _ _ _ q2.good q3.good) in
-    λ m fine len ex. (mended-all g at.In_ok-mend (written g at.In_ok-write) m ((all m).1 fine) (len ∙ (q3.words ∙ (q2.words ∙ q1.words))) ex).1.1
+    let all = same-trans _ _ _ q1.good (same-trans _ _ _ q2.good q3.frame.good) in
+    λ m fine len ex. (mended-all g at.In_ok-mend (written g at.In_ok-write) m ((all m).1 fine) (len ∙ (q3.frame.words ∙ (q2.words ∙ q1.words))) ex).1.1
 
-pub returns-clause-keeps : goal.returns-clause-keeps
-returns-clause-keeps g c = g.met.A.Access.keeps_trans _ _ _ c.in_ok-old.ensures.keeps (g.met.A.Access.keeps_trans _ _ _ c.in_ok-write.ensures.keeps c.in_ok-mend.ensures.keeps)
+pub returns-clause-frame : goal.returns-clause-frame
+returns-clause-frame g c =
+    record {
+      explained = search rules;
+      goes = search rules;
+      stops = search rules;
+      good = same-trans _ _ _ c.in_ok-old.ensures.good (same-trans _ _ _ c.in_ok-write.ensures.good c.in_ok-mend.ensures.frame.good);
+      words = c.in_ok-mend.ensures.frame.words ∙ (c.in_ok-write.ensures.words ∙ c.in_ok-old.ensures.words);
+      keeps = g.met.A.Access.keeps_trans _ _ _ c.in_ok-old.ensures.keeps (g.met.A.Access.keeps_trans _ _ _ c.in_ok-write.ensures.keeps c.in_ok-mend.ensures.frame.keeps);
+    }

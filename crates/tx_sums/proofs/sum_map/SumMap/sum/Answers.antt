@@ -32,8 +32,8 @@ pub sum_below-requires-2-clause-well : goal.sum_below-requires-2-clause-well
 sum_below-requires-2-clause-well g c = λ m fine len ex.
     let r = c.args.self.now in
     let one = c.in_ok-upper.ensures in
-    let x = one.sums m ((one.good m).1 fine) (len ∙ one.words) ex in
-    subst (λ w. IsSumMap r (overlay m w)) (sym one.writes) (c.requires.well m ((one.good m).1 fine) (len ∙ one.words) x.0)
+    let x = one.sums m ((one.frame.good m).1 fine) (len ∙ one.frame.words) ex in
+    subst (λ w. IsSumMap r (overlay m w)) (sym one.writes) (c.requires.well m ((one.frame.good m).1 fine) (len ∙ one.frame.words) x.0)
 
 pub returns-clause-reply : goal.returns-clause-reply
 returns-clause-reply g c =
@@ -51,7 +51,7 @@ returns-clause-reply g c =
     let le : lo ≤ hi = omega arith in
     let both = shows-then good words log (g.A.Access.log c.sum_below.new.acc) (g.A.Access.log c.sum_below-2.new.acc) _ _
     (λ m. upper ≡ sum_within r m 0 (hi + 2) r.cells % 2 ^ 64) (λ m. lower ≡ sum_within r m 0 (lo + 1) r.cells % 2 ^ 64) one.sums one.writes
-    one.good one.words two.sums in
+    one.frame.good one.frame.words two.sums in
     does-stay good words log (summed_in r lo hi) (g.A.Access.log c.sum_below-2.new.acc) ((upper + (2 ^ 64 - lower)) % 2 ^ 64) (IsSumMap r) c.requires.well (two.writes ∙ one.writes)
     (λ m. (upper ≡ sum_within r m 0 (hi + 2) r.cells % 2 ^ 64) × (lower ≡ sum_within r m 0 (lo + 1) r.cells % 2 ^ 64)) both
     (λ m h e. summed-is r m lo hi upper lower ((upper + (2 ^ 64 - lower)) % 2 ^ 64) le e.0 e.1 refl)
@@ -63,4 +63,4 @@ returns-clause-well g c =
     let two = c.in_ok-lower.ensures in
     under-after (g.A.Access.good c.args.acc.now) (g.A.Access.words c.args.acc.now) (g.A.Access.log c.args.acc.now)
     (summed_in r c.args.lo c.args.hi) _ _ _ _ (IsSumMap r) (IsSumMap r) (returns-clause-reply g c) c.requires.well
-    (same-trans _ _ _ one.good two.good) (two.words ∙ one.words) (λ m len w. w)
+    (same-trans _ _ _ one.frame.good two.frame.good) (two.frame.words ∙ one.frame.words) (λ m len w. w)

@@ -1,4 +1,4 @@
-use Rattle.std.proofs.Common.{◌≡◌, ◌<◌, ◌≤◌, ◌+◌, ◌-◌, ◌∙◌, suc, refl, sym, subst, arith}
+use Rattle.std.proofs.Common.{rules, ◌≡◌, ◌<◌, ◌≤◌, ◌+◌, ◌-◌, ◌∙◌, suc, refl, sym, subst, arith}
 use Rattle.stm_model.specs.Memories.{overlay}
 use Rattle.tx_effects.specs.EffectLaws.{shows-none, shows-read, shows-then, shown, same-trans}
 use Rattle.tx_tree.specs.ShapeWalks.{word-inside}
@@ -63,12 +63,12 @@ loop-step-preserved g c =
     let k : n ≡ suc less = omega arith in
     let both = shows-then good words log (g.A.Access.log c.loop-step.acc) (g.A.Access.log c.pass.new.acc) _ _ (Passing r b v total n) (λ m. p ≡ passed r m b j) inv.shows inv.writes inv.good inv.words one.passes in
     record {
-      going = one.goes;
-      words = one.words ∙ inv.words;
-      good = same-trans _ _ _ inv.good one.good;
-      keeps = g.met.A.Access.keeps_trans _ _ _ inv.keeps one.keeps;
+      going = one.frame.goes;
+      words = one.frame.words ∙ inv.words;
+      good = same-trans _ _ _ inv.good one.frame.good;
+      keeps = g.met.A.Access.keeps_trans _ _ _ inv.keeps one.frame.keeps;
       writes = one.writes ∙ inv.writes;
-      explained = one.explained;
+      explained = one.frame.explained;
       below = one.inside;
       shows = λ m fine len ex. let x = both m fine len ex in (x.0, passing-on r b v total j n less p _ x.1.0 e k x.1.1);
     }
@@ -80,3 +80,14 @@ returns-clause-sums g c = λ m fine len ex.
     let t = c.loop-step-test.false in
     let q : r.cells - c.loop-step._step ≡ 0 = omega arith in
     (s.0, passing-stops r c.args.bound c.loop-step.link c.loop-step.total (r.cells - c.loop-step._step) _ s.1 q)
+
+pub returns-in_err-passed-clause-frame : goal.returns-in_err-passed-clause-frame
+returns-in_err-passed-clause-frame g c =
+    record {
+      explained = search rules;
+      goes = search rules;
+      stops = search rules;
+      good = same-trans _ _ _ c.loop-step.invariant.good c.in_err-passed.ensures.frame.good;
+      words = c.in_err-passed.ensures.frame.words ∙ c.loop-step.invariant.words;
+      keeps = g.met.A.Access.keeps_trans _ _ _ c.loop-step.invariant.keeps c.in_err-passed.ensures.frame.keeps;
+    }

@@ -1,4 +1,4 @@
-use Rattle.std.proofs.Common.{◌≡◌, ◌≢◌, ◌<◌, ◌+◌, ◌-◌, ◌%◌, ◌^◌, ◌∙◌, ℕ, List, refl, sym, subst, ap, set, length, get_or, arith, suc, true}
+use Rattle.std.proofs.Common.{rules, ◌≡◌, ◌≢◌, ◌<◌, ◌+◌, ◌-◌, ◌%◌, ◌^◌, ◌∙◌, ℕ, List, refl, sym, subst, ap, set, length, get_or, arith, suc, true}
 use Rattle.stm_model.specs.Overlays.{overlay-length}
 use Rattle.tx_effects.specs.Effects.{Shows, changed}
 use Rattle.tx_effects.specs.EffectLaws.{shows-read, shows-then, shown, turns-write, turns-then, same-trans}
@@ -33,8 +33,8 @@ facts g c =
     let one = c.in_ok-least.ensures in
     shown (g.A.Access.good c.args.acc.now) (g.A.Access.words c.args.acc.now) (g.A.Access.log c.args.acc.now)
     (g.A.Access.log c.leftmost.new.acc) _ _
-    (Leaving c.args.self.now (g.A.Access.words c.args.acc.now) c.args.cell c.args.greater c.in_ok-least.least) _ (found g c) one.good
-    one.words one.explained
+    (Leaving c.args.self.now (g.A.Access.words c.args.acc.now) c.args.cell c.args.greater c.in_ok-least.least) _ (found g c) one.frame.good
+    one.frame.words one.frame.explained
     (λ m h. least-facts c.args.self.now m c.args.cell c.args.greater c.in_ok-least.least h.right c.requires.within.1 h.place)
 
 pub unreachable-requires : goal.unreachable-requires
@@ -110,8 +110,8 @@ mend-requires-clause-links g c =
     let words = g.A.Access.words c.args.acc.now in
     let p = c.in_ok-least.least in
     let q0 = c.in_ok-least.ensures in let q1 = c.in_ok-after.ensures in let q2 = c.in_ok-value.ensures in let q3 = c.in_ok-write.ensures in let q4 = c.in_ok-write-2.ensures in
-    let same = same-trans _ _ _ q0.good (same-trans _ _ _ q1.good (same-trans _ _ _ q2.good (same-trans _ _ _ q3.good q4.good))) in
-    let words' = q4.words ∙ (q3.words ∙ (q2.words ∙ (q1.words ∙ q0.words))) in
+    let same = same-trans _ _ _ q0.frame.good (same-trans _ _ _ q1.good (same-trans _ _ _ q2.good (same-trans _ _ _ q3.good q4.good))) in
+    let words' = q4.words ∙ (q3.words ∙ (q2.words ∙ (q1.words ∙ q0.frame.words))) in
     λ m fine len ex. let at = goal.at.mend-requires-clause-links g c in let s = written g at.In_ok-write-2 (read-all g at.In_ok-value (found g at.In_ok-least)) m ((same m).1 fine) (len ∙ words') ex in
     subst (LinksFrom r (right_at r c.args.cell)) (sym s.1.1) (taking-links r words c.args.cell p (p.next - 1) c.in_ok-after.after
     c.in_ok-value.value _ s.1.0 (next-is p.next c.if-least-eq0.false) q2.range c.requires.within.3.0)
@@ -135,8 +135,8 @@ whole-end g c valued-now =
     let b = c.in_ok-value.value in
     let T = λ (m : List ℕ). Taking r words x p y a b m in
     let q0 = c.in_ok-least.ensures in let q1 = c.in_ok-after.ensures in let q2 = c.in_ok-value.ensures in let q3 = c.in_ok-write.ensures in let q4 = c.in_ok-write-2.ensures in let q5 = c.in_ok-mend.ensures in
-    let same = same-trans _ _ _ q0.good (same-trans _ _ _ q1.good (same-trans _ _ _ q2.good (same-trans _ _ _ q3.good q4.good))) in
-    let words' = q4.words ∙ (q3.words ∙ (q2.words ∙ (q1.words ∙ q0.words))) in
+    let same = same-trans _ _ _ q0.frame.good (same-trans _ _ _ q1.good (same-trans _ _ _ q2.good (same-trans _ _ _ q3.good q4.good))) in
+    let words' = q4.words ∙ (q3.words ∙ (q2.words ∙ (q1.words ∙ q0.frame.words))) in
     let key = p.tag - 1 in
     let d = (0 + (2 ^ 64 - b)) % 2 ^ 64 in
     let w2 = walks-does good words log (g.A.Access.log c.write-2.new.self) (g.A.Access.log c.mend.new.acc)
@@ -169,64 +169,9 @@ returns-clause-well g c =
     let q3 = c.in_ok-write.ensures in
     let q4 = c.in_ok-write-2.ensures in
     let q5 = c.in_ok-mend.ensures in let q6 = c.in_ok-splice.ensures in let q7 = c.in_ok-write-3.ensures in
-    let all = same-trans _ _ _ q0.good (same-trans _ _ _ q1.good (same-trans _ _ _ q2.good (same-trans _ _ _ q3.good (same-trans _ _ _ q4.good (same-trans _ _ _ q5.good (same-trans _ _ _ q6.good q7.good)))))) in
-    let words' = q7.words ∙ (q6.words ∙ (q5.words ∙ (q4.words ∙ (q3.words ∙ (q2.words ∙ (q1.words ∙ q0.words)))))) in
+    let all = same-trans _ _ _ q0.frame.good (same-trans _ _ _ q1.good (same-trans _ _ _ q2.good (same-trans _ _ _ q3.good (same-trans _ _ _ q4.good (same-trans _ _ _ q5.frame.good (same-trans _ _ _ q6.frame.good q7.good)))))) in
+    let words' = q7.words ∙ (q6.frame.words ∙ (q5.frame.words ∙ (q4.words ∙ (q3.words ∙ (q2.words ∙ (q1.words ∙ q0.frame.words)))))) in
     λ m fine len ex. (whole-end g at.In_ok-write-3 (written g at.In_ok-write-2 (read-all g at.In_ok-value (found g at.In_ok-least))) m ((all m).1 fine) (len ∙ words') ex).1.1
-
-pub returns-in_err-write-clause-keeps : goal.returns-in_err-write-clause-keeps
-returns-in_err-write-clause-keeps g c =
-    g.met.A.Access.keeps_trans _ _ _ c.in_ok-least.ensures.keeps (g.met.A.Access.keeps_trans _ _ _ c.in_ok-after.ensures.keeps
-    (g.met.A.Access.keeps_trans _ _ _ c.in_ok-value.ensures.keeps c.in_err-write.ensures.keeps))
-
-pub returns-in_err-write-2-clause-keeps : goal.returns-in_err-write-2-clause-keeps
-returns-in_err-write-2-clause-keeps g c =
-    g.met.A.Access.keeps_trans _ _ _ c.in_ok-least.ensures.keeps (g.met.A.Access.keeps_trans _ _ _ c.in_ok-after.ensures.keeps
-    (g.met.A.Access.keeps_trans _ _ _ c.in_ok-value.ensures.keeps
-    (g.met.A.Access.keeps_trans _ _ _ c.in_ok-write.ensures.keeps c.in_err-write-2.ensures.keeps)))
-
-pub returns-in_err-mend-clause-keeps : goal.returns-in_err-mend-clause-keeps
-returns-in_err-mend-clause-keeps g c =
-    g.met.A.Access.keeps_trans _ _ _ c.in_ok-least.ensures.keeps (g.met.A.Access.keeps_trans _ _ _ c.in_ok-after.ensures.keeps
-    (g.met.A.Access.keeps_trans _ _ _ c.in_ok-value.ensures.keeps (g.met.A.Access.keeps_trans _ _ _ c.in_ok-write.ensures.keeps
-    (g.met.A.Access.keeps_trans _ _ _ c.in_ok-write-2.ensures.keeps c.in_err-mend.ensures.keeps))))
-
-pub returns-in_err-splice-clause-keeps : goal.returns-in_err-splice-clause-keeps
-returns-in_err-splice-clause-keeps g c =
-    g.met.A.Access.keeps_trans _ _ _ c.in_ok-least.ensures.keeps (g.met.A.Access.keeps_trans _ _ _ c.in_ok-after.ensures.keeps
-    (g.met.A.Access.keeps_trans _ _ _ c.in_ok-value.ensures.keeps (g.met.A.Access.keeps_trans _ _ _ c.in_ok-write.ensures.keeps
-    (g.met.A.Access.keeps_trans _ _ _ c.in_ok-write-2.ensures.keeps
-    (g.met.A.Access.keeps_trans _ _ _ c.in_ok-mend.ensures.keeps c.in_err-splice.ensures.keeps)))))
-
-pub returns-in_err-write-3-clause-keeps : goal.returns-in_err-write-3-clause-keeps
-returns-in_err-write-3-clause-keeps g c =
-    g.met.A.Access.keeps_trans _ _ _ c.in_ok-least.ensures.keeps (g.met.A.Access.keeps_trans _ _ _ c.in_ok-after.ensures.keeps
-    (g.met.A.Access.keeps_trans _ _ _ c.in_ok-value.ensures.keeps (g.met.A.Access.keeps_trans _ _ _ c.in_ok-write.ensures.keeps
-    (g.met.A.Access.keeps_trans _ _ _ c.in_ok-write-2.ensures.keeps (g.met.A.Access.keeps_trans _ _ _ c.in_ok-mend.ensures.keeps
-    (g.met.A.Access.keeps_trans _ _ _ c.in_ok-splice.ensures.keeps c.in_err-write-3.ensures.keeps))))))
-
-pub returns-clause-keeps : goal.returns-clause-keeps
-returns-clause-keeps g c =
-    g.met.A.Access.keeps_trans _ _ _ c.in_ok-least.ensures.keeps (g.met.A.Access.keeps_trans _ _ _ c.in_ok-after.ensures.keeps
-    (g.met.A.Access.keeps_trans _ _ _ c.in_ok-value.ensures.keeps (g.met.A.Access.keeps_trans _ _ _ c.in_ok-write.ensures.keeps
-    (g.met.A.Access.keeps_trans _ _ _ c.in_ok-write-2.ensures.keeps (g.met.A.Access.keeps_trans _ _ _ c.in_ok-mend.ensures.keeps
-    (g.met.A.Access.keeps_trans _ _ _ c.in_ok-splice.ensures.keeps c.in_ok-write-3.ensures.keeps))))))
-
-pub returns-clause-good : goal.returns-clause-good
-returns-clause-good g c =
-    let q0 = c.in_ok-least.ensures in
-    let q1 = c.in_ok-after.ensures in
-    let q2 = c.in_ok-value.ensures in
-    let q3 = c.in_ok-write.ensures in
-    let q4 = c.in_ok-write-2.ensures in
-    let q5 = c.in_ok-mend.ensures in let q6 = c.in_ok-splice.ensures in let q7 = c.in_ok-write-3.ensures in
-    same-trans _ _ _ q0.good (same-trans _ _ _ q1.good (same-trans _ _ _ q2.good (same-trans _ _ _ q3.good (same-trans _ _ _ q4.good (same-trans _ _ _ q5.good (same-trans _ _ _ q6.good q7.good))))))
-
-pub returns-in_err-write-3-clause-good : goal.returns-in_err-write-3-clause-good
-returns-in_err-write-3-clause-good g c =
-    same-trans _ _ _ c.in_ok-least.ensures.good (same-trans _ _ _ c.in_ok-after.ensures.good
-    (same-trans _ _ _ c.in_ok-value.ensures.good (same-trans _ _ _ c.in_ok-write.ensures.good
-    (same-trans _ _ _ c.in_ok-write-2.ensures.good
-    (same-trans _ _ _ c.in_ok-mend.ensures.good (same-trans _ _ _ c.in_ok-splice.ensures.good c.in_err-write-3.ensures.good))))))
 
 pub overflow_sub-key : goal.overflow_sub-key
 overflow_sub-key g c =
@@ -237,3 +182,91 @@ pub overflow_cast-key : goal.overflow_cast-key
 overflow_cast-key g c =
     let f = facts g (goal.at.overflow_cast-key g c).In_ok-least in
     let f1 = f.1 in let f2 = f.2 in omega arith
+
+pub returns-in_err-after-clause-frame : goal.returns-in_err-after-clause-frame
+returns-in_err-after-clause-frame g c =
+    record {
+      explained = search rules;
+      goes = search rules;
+      stops = search rules;
+      good = same-trans _ _ _ c.in_ok-least.ensures.frame.good c.in_err-after.ensures.good;
+      words = c.in_err-after.ensures.words ∙ c.in_ok-least.ensures.frame.words;
+      keeps = g.met.A.Access.keeps_trans _ _ _ c.in_ok-least.ensures.frame.keeps c.in_err-after.ensures.keeps;
+    }
+
+pub returns-in_err-value-clause-frame : goal.returns-in_err-value-clause-frame
+returns-in_err-value-clause-frame g c =
+    record {
+      explained = search rules;
+      goes = search rules;
+      stops = search rules;
+      good = same-trans _ _ _ c.in_ok-least.ensures.frame.good (same-trans _ _ _ c.in_ok-after.ensures.good c.in_err-value.ensures.good);
+      words = c.in_err-value.ensures.words ∙ (c.in_ok-after.ensures.words ∙ c.in_ok-least.ensures.frame.words);
+      keeps = g.met.A.Access.keeps_trans _ _ _ c.in_ok-least.ensures.frame.keeps (g.met.A.Access.keeps_trans _ _ _ c.in_ok-after.ensures.keeps c.in_err-value.ensures.keeps);
+    }
+
+pub returns-in_err-write-clause-frame : goal.returns-in_err-write-clause-frame
+returns-in_err-write-clause-frame g c =
+    record {
+      explained = search rules;
+      goes = search rules;
+      stops = search rules;
+      good = same-trans _ _ _ c.in_ok-least.ensures.frame.good (same-trans _ _ _ c.in_ok-after.ensures.good (same-trans _ _ _ c.in_ok-value.ensures.good c.in_err-write.ensures.good));
+      words = c.in_err-write.ensures.words ∙ (c.in_ok-value.ensures.words ∙ (c.in_ok-after.ensures.words ∙ c.in_ok-least.ensures.frame.words));
+      keeps = g.met.A.Access.keeps_trans _ _ _ c.in_ok-least.ensures.frame.keeps (g.met.A.Access.keeps_trans _ _ _ c.in_ok-after.ensures.keeps (g.met.A.Access.keeps_trans _ _ _ c.in_ok-value.ensures.keeps c.in_err-write.ensures.keeps));
+    }
+
+pub returns-in_err-write-2-clause-frame : goal.returns-in_err-write-2-clause-frame
+returns-in_err-write-2-clause-frame g c =
+    record {
+      explained = search rules;
+      goes = search rules;
+      stops = search rules;
+      good = same-trans _ _ _ c.in_ok-least.ensures.frame.good (same-trans _ _ _ c.in_ok-after.ensures.good (same-trans _ _ _ c.in_ok-value.ensures.good (same-trans _ _ _ c.in_ok-write.ensures.good c.in_err-write-2.ensures.good)));
+      words = c.in_err-write-2.ensures.words ∙ (c.in_ok-write.ensures.words ∙ (c.in_ok-value.ensures.words ∙ (c.in_ok-after.ensures.words ∙ c.in_ok-least.ensures.frame.words)));
+      keeps = g.met.A.Access.keeps_trans _ _ _ c.in_ok-least.ensures.frame.keeps (g.met.A.Access.keeps_trans _ _ _ c.in_ok-after.ensures.keeps (g.met.A.Access.keeps_trans _ _ _ c.in_ok-value.ensures.keeps (g.met.A.Access.keeps_trans _ _ _ c.in_ok-write.ensures.keeps c.in_err-write-2.ensures.keeps)));
+    }
+
+pub returns-in_err-mend-clause-frame : goal.returns-in_err-mend-clause-frame
+returns-in_err-mend-clause-frame g c =
+    record {
+      explained = search rules;
+      goes = search rules;
+      stops = search rules;
+      good = same-trans _ _ _ c.in_ok-least.ensures.frame.good (same-trans _ _ _ c.in_ok-after.ensures.good (same-trans _ _ _ c.in_ok-value.ensures.good (same-trans _ _ _ c.in_ok-write.ensures.good (same-trans _ _ _ c.in_ok-write-2.ensures.good c.in_err-mend.ensures.frame.good))));
+      words = c.in_err-mend.ensures.frame.words ∙ (c.in_ok-write-2.ensures.words ∙ (c.in_ok-write.ensures.words ∙ (c.in_ok-value.ensures.words ∙ (c.in_ok-after.ensures.words ∙ c.in_ok-least.ensures.frame.words))));
+      keeps = g.met.A.Access.keeps_trans _ _ _ c.in_ok-least.ensures.frame.keeps (g.met.A.Access.keeps_trans _ _ _ c.in_ok-after.ensures.keeps (g.met.A.Access.keeps_trans _ _ _ c.in_ok-value.ensures.keeps (g.met.A.Access.keeps_trans _ _ _ c.in_ok-write.ensures.keeps (g.met.A.Access.keeps_trans _ _ _ c.in_ok-write-2.ensures.keeps c.in_err-mend.ensures.frame.keeps))));
+    }
+
+pub returns-in_err-splice-clause-frame : goal.returns-in_err-splice-clause-frame
+returns-in_err-splice-clause-frame g c =
+    record {
+      explained = search rules;
+      goes = search rules;
+      stops = search rules;
+      good = same-trans _ _ _ c.in_ok-least.ensures.frame.good (same-trans _ _ _ c.in_ok-after.ensures.good (same-trans _ _ _ c.in_ok-value.ensures.good (same-trans _ _ _ c.in_ok-write.ensures.good (same-trans _ _ _ c.in_ok-write-2.ensures.good (same-trans _ _ _ c.in_ok-mend.ensures.frame.good c.in_err-splice.ensures.frame.good)))));
+      words = c.in_err-splice.ensures.frame.words ∙ (c.in_ok-mend.ensures.frame.words ∙ (c.in_ok-write-2.ensures.words ∙ (c.in_ok-write.ensures.words ∙ (c.in_ok-value.ensures.words ∙ (c.in_ok-after.ensures.words ∙ c.in_ok-least.ensures.frame.words)))));
+      keeps = g.met.A.Access.keeps_trans _ _ _ c.in_ok-least.ensures.frame.keeps (g.met.A.Access.keeps_trans _ _ _ c.in_ok-after.ensures.keeps (g.met.A.Access.keeps_trans _ _ _ c.in_ok-value.ensures.keeps (g.met.A.Access.keeps_trans _ _ _ c.in_ok-write.ensures.keeps (g.met.A.Access.keeps_trans _ _ _ c.in_ok-write-2.ensures.keeps (g.met.A.Access.keeps_trans _ _ _ c.in_ok-mend.ensures.frame.keeps c.in_err-splice.ensures.frame.keeps)))));
+    }
+
+pub returns-in_err-write-3-clause-frame : goal.returns-in_err-write-3-clause-frame
+returns-in_err-write-3-clause-frame g c =
+    record {
+      explained = search rules;
+      goes = search rules;
+      stops = search rules;
+      good = same-trans _ _ _ c.in_ok-least.ensures.frame.good (same-trans _ _ _ c.in_ok-after.ensures.good (same-trans _ _ _ c.in_ok-value.ensures.good (same-trans _ _ _ c.in_ok-write.ensures.good (same-trans _ _ _ c.in_ok-write-2.ensures.good (same-trans _ _ _ c.in_ok-mend.ensures.frame.good (same-trans _ _ _ c.in_ok-splice.ensures.frame.good c.in_err-write-3.ensures.good))))));
+      words = c.in_err-write-3.ensures.words ∙ (c.in_ok-splice.ensures.frame.words ∙ (c.in_ok-mend.ensures.frame.words ∙ (c.in_ok-write-2.ensures.words ∙ (c.in_ok-write.ensures.words ∙ (c.in_ok-value.ensures.words ∙ (c.in_ok-after.ensures.words ∙ c.in_ok-least.ensures.frame.words))))));
+      keeps = g.met.A.Access.keeps_trans _ _ _ c.in_ok-least.ensures.frame.keeps (g.met.A.Access.keeps_trans _ _ _ c.in_ok-after.ensures.keeps (g.met.A.Access.keeps_trans _ _ _ c.in_ok-value.ensures.keeps (g.met.A.Access.keeps_trans _ _ _ c.in_ok-write.ensures.keeps (g.met.A.Access.keeps_trans _ _ _ c.in_ok-write-2.ensures.keeps (g.met.A.Access.keeps_trans _ _ _ c.in_ok-mend.ensures.frame.keeps (g.met.A.Access.keeps_trans _ _ _ c.in_ok-splice.ensures.frame.keeps c.in_err-write-3.ensures.keeps))))));
+    }
+
+pub returns-clause-frame : goal.returns-clause-frame
+returns-clause-frame g c =
+    record {
+      explained = search rules;
+      goes = search rules;
+      stops = search rules;
+      good = same-trans _ _ _ c.in_ok-least.ensures.frame.good (same-trans _ _ _ c.in_ok-after.ensures.good (same-trans _ _ _ c.in_ok-value.ensures.good (same-trans _ _ _ c.in_ok-write.ensures.good (same-trans _ _ _ c.in_ok-write-2.ensures.good (same-trans _ _ _ c.in_ok-mend.ensures.frame.good (same-trans _ _ _ c.in_ok-splice.ensures.frame.good c.in_ok-write-3.ensures.good))))));
+      words = c.in_ok-write-3.ensures.words ∙ (c.in_ok-splice.ensures.frame.words ∙ (c.in_ok-mend.ensures.frame.words ∙ (c.in_ok-write-2.ensures.words ∙ (c.in_ok-write.ensures.words ∙ (c.in_ok-value.ensures.words ∙ (c.in_ok-after.ensures.words ∙ c.in_ok-least.ensures.frame.words))))));
+      keeps = g.met.A.Access.keeps_trans _ _ _ c.in_ok-least.ensures.frame.keeps (g.met.A.Access.keeps_trans _ _ _ c.in_ok-after.ensures.keeps (g.met.A.Access.keeps_trans _ _ _ c.in_ok-value.ensures.keeps (g.met.A.Access.keeps_trans _ _ _ c.in_ok-write.ensures.keeps (g.met.A.Access.keeps_trans _ _ _ c.in_ok-write-2.ensures.keeps (g.met.A.Access.keeps_trans _ _ _ c.in_ok-mend.ensures.frame.keeps (g.met.A.Access.keeps_trans _ _ _ c.in_ok-splice.ensures.frame.keeps c.in_ok-write-3.ensures.keeps))))));
+    }

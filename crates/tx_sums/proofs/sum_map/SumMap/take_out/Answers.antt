@@ -1,4 +1,4 @@
-use Rattle.std.proofs.Common.{◌≡◌, ◌≢◌, ◌≤◌, ◌∙◌, ℕ, List, refl, sym, subst, length, get_or, arith, true}
+use Rattle.std.proofs.Common.{rules, ◌≡◌, ◌≢◌, ◌≤◌, ◌∙◌, ℕ, List, refl, sym, subst, length, get_or, arith, true}
 use Rattle.stm_model.specs.Memories.{overlay}
 use Rattle.stm_model.specs.Overlays.{overlay-length}
 use Rattle.tx_effects.specs.Effects.{Shows, changed}
@@ -61,8 +61,8 @@ pub returns-then-lesser-eq0-clause-well : goal.returns-then-lesser-eq0-clause-we
 returns-then-lesser-eq0-clause-well g c =
     let at = goal.at.returns-then-lesser-eq0-clause-well g c in
     let q1 = c.in_ok-lesser.ensures in let q2 = c.in_ok-greater.ensures in let q3 = c.in_ok-splice.ensures in
-    let all = same-trans _ _ _ q1.good (same-trans _ _ _ q2.good q3.good) in
-    λ m fine len ex. (right-out-right g at.In_ok-splice (read-links g at.In_ok-greater) m ((all m).1 fine) (len ∙ (q3.words ∙ (q2.words ∙ q1.words))) ex).1.1
+    let all = same-trans _ _ _ q1.good (same-trans _ _ _ q2.good q3.frame.good) in
+    λ m fine len ex. (right-out-right g at.In_ok-splice (read-links g at.In_ok-greater) m ((all m).1 fine) (len ∙ (q3.frame.words ∙ (q2.words ∙ q1.words))) ex).1.1
 
 -- NOTHING ON THE RIGHT
 left-out-left : (g : _) (c : In_ok-splice-2 g)
@@ -94,8 +94,8 @@ pub returns-then-greater-eq0-clause-well : goal.returns-then-greater-eq0-clause-
 returns-then-greater-eq0-clause-well g c =
     let at = goal.at.returns-then-greater-eq0-clause-well g c in
     let q1 = c.in_ok-lesser.ensures in let q2 = c.in_ok-greater.ensures in let q3 = c.in_ok-splice-2.ensures in
-    let all = same-trans _ _ _ q1.good (same-trans _ _ _ q2.good q3.good) in
-    λ m fine len ex. (left-out-left g at.In_ok-splice-2 (read-links g at.In_ok-greater) m ((all m).1 fine) (len ∙ (q3.words ∙ (q2.words ∙ q1.words))) ex).1.1
+    let all = same-trans _ _ _ q1.good (same-trans _ _ _ q2.good q3.frame.good) in
+    λ m fine len ex. (left-out-left g at.In_ok-splice-2 (read-links g at.In_ok-greater) m ((all m).1 fine) (len ∙ (q3.frame.words ∙ (q2.words ∙ q1.words))) ex).1.1
 
 -- BOTH SIDES
 pub take_least-requires-clause-within : goal.take_least-requires-clause-within
@@ -143,5 +143,13 @@ returns-clause-reply g c =
     (Cutting r words x e u v) c.requires.well (q2.value.0 ∙ q1.value.0) (read-links g (goal.at.returns-clause-reply g c).In_ok-greater) c.in_ok-take_least.ensures.reply
     (λ m h i. out-both r m x e u v i.left d i.right f)
 
-pub returns-clause-keeps : goal.returns-clause-keeps
-returns-clause-keeps g c = g.met.A.Access.keeps_trans _ _ _ c.in_ok-lesser.ensures.keeps (g.met.A.Access.keeps_trans _ _ _ c.in_ok-greater.ensures.keeps c.in_ok-take_least.ensures.keeps)
+pub returns-clause-frame : goal.returns-clause-frame
+returns-clause-frame g c =
+    record {
+      explained = search rules;
+      goes = search rules;
+      stops = search rules;
+      good = same-trans _ _ _ c.in_ok-lesser.ensures.good (same-trans _ _ _ c.in_ok-greater.ensures.good c.in_ok-take_least.ensures.frame.good);
+      words = c.in_ok-take_least.ensures.frame.words ∙ (c.in_ok-greater.ensures.words ∙ c.in_ok-lesser.ensures.words);
+      keeps = g.met.A.Access.keeps_trans _ _ _ c.in_ok-lesser.ensures.keeps (g.met.A.Access.keeps_trans _ _ _ c.in_ok-greater.ensures.keeps c.in_ok-take_least.ensures.frame.keeps);
+    }
