@@ -1,5 +1,5 @@
 -- What an operation does to a memory.
-use Rattle.std.specs.Prelude.{ℕ, ◌≡◌, ◌<◌, ◌+◌, ◌-◌, ◌%◌, ◌^◌, Bool, true, false, ◌||◌, not, ltb, if◌then◌else◌, List, [], ◌∷◌, length, slice_index, slice_set, All, Option, Some, None, codes}
+use Rattle.std.specs.Prelude.{ℕ, ◌≡◌, ◌<◌, ◌+◌, ◌-◌, ◌%◌, ◌^◌, Bool, true, false, ◌||◌, not, ltb, if◌then◌else◌, List, [], ◌∷◌, length, slice_index, slice_set, All, Option, Some, None, option_map, codes}
 use Rattle.stm_model.specs.Memories.{overlay, Explains, is_empty}
 use Rattle.stm_model.specs.Logs.{Log}
 use Rattle.stm_script.specs.declared.op.Op.{Op}
@@ -213,6 +213,9 @@ structure_in (MapRemove r key) = Some (structures.SumMap, r)
 structure_in (MapGet r key) = Some (structures.SumMap, r)
 structure_in (MapSum r lo hi) = Some (structures.SumMap, r)
 structure_in op = None
+
+abbrev pub structure_kind : Op → Option Structure
+structure_kind op = option_map (λ place. place.0) (structure_in op)
 
 -- an operation's word
 abbrev pub op_name : Op → List ℕ

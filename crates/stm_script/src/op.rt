@@ -1,11 +1,12 @@
 //! Operations.
 ghost use Rattle.std.specs.Prelude.{◌≡◌};
 
+use std::fmt;
 use tx_regions::region::Structure;
 
 /// An operation of a script. Addresses count words from 0; values are below 2^64, and sums wrap there. An operation on
 /// a structure has the number of its region first. The default is what an empty place of a list holds.
-#[derive(Clone, Copy, Default, Drop, Debug, PartialEq, Eq)]
+#[derive(Clone, Copy, Default, Drop, PartialEq, Eq)]
 pub enum Op {
     /// `read a`: replies the word at `a`.
     Read(usize),
@@ -257,5 +258,11 @@ impl Op {
             Op::MapGet(_, _) => "mget",
             Op::MapSum(_, _, _) => "msum",
         }
+    }
+}
+
+impl fmt::Debug for Op {
+    fn fmt<W: fmt::Write>(&self, f: &mut fmt::Formatter<W>) -> fmt::Result {
+        f.write_str(self.name())
     }
 }

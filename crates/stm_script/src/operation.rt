@@ -1,7 +1,7 @@
 //! One operation over any access.
-ghost use Rattle.std.specs.Prelude.{◌≡◌, ◌<◌, ◌^◌, ◌+◌, ◌%◌, slice_index, None, Some, false, IfOk, OnOk, IfErr};
-ghost use Rattle.stm_model.specs.Logs.{SameMemories, IsReadStop};
-ghost use Rattle.tx_effects.specs.Accesses.{ExplainedFor, HoldsFor};
+ghost use Rattle.std.specs.Prelude.{◌≡◌, ◌<◌, ◌^◌, ◌+◌, ◌%◌, slice_index, None, false, IfOk, OnOk, IfErr};
+ghost use Rattle.stm_model.specs.Logs.{IsReadStop};
+ghost use Rattle.tx_effects.specs.Accesses.{HoldsFor, LeadsOn};
 ghost use Rattle.tx_regions.specs.Regions.{AllWellFormed};
 ghost use Rattle.stm_script.specs.Operations.{OpFits, is_irrev, is_cancel, OnlyReads, effect_of, stores, moves, replies};
 ghost use Rattle.stm_script.specs.Accesses.{DoesFor, OpKeepsGood};
@@ -26,16 +26,11 @@ pub fn run_op<A: Access>(acc: &mut A, regions: &Regions, op: &Op) -> Result<u64,
     requires well { HoldsFor A.Access acc.old (AllWellFormed regions.now) }
     ensures reply { IfOk result (DoesFor A.Access acc.old acc.new (effect_of regions.now op.now)) }
     ensures range { IfOk result (λ r. r < 2 ^ 64) }
-    ensures explained { OnOk result (ExplainedFor A.Access acc.new) }
     ensures well { OnOk result (HoldsFor A.Access acc.new (AllWellFormed regions.now)) }
     // what the caller owes for a commit stays met where the operation keeps the rule on memories
     ensures keeps_rule { OnOk result (OpKeepsGood A.Access acc.old acc.new regions.now op.now) }
-    ensures goes { OnOk result (A.stopped acc.new ≡ None) }
-    ensures stops { IfErr result (λ s. A.stopped acc.new ≡ Some s) }
     ensures cause { OnlyReads op.now → IfErr result IsReadStop }
-    ensures good { SameMemories (A.good acc.old) (A.good acc.new) }
-    ensures words { A.words acc.new ≡ A.words acc.old }
-    ensures keeps { A.keeps acc.old acc.new }
+    ensures frame { LeadsOn A.Access acc.old acc.new result }
 {
     operations_keep_regions();
     let reply = act(acc, regions, *op)?;
@@ -51,13 +46,8 @@ fn act<A: Access>(acc: &mut A, regions: &Regions, op: Op) -> Result<u64, Stop>
     requires well { HoldsFor A.Access acc.old (AllWellFormed regions.now) }
     ensures reply { IfOk result (DoesFor A.Access acc.old acc.new (effect_of regions.now op)) }
     ensures range { IfOk result (λ r. r < 2 ^ 64) }
-    ensures explained { OnOk result (ExplainedFor A.Access acc.new) }
-    ensures goes { OnOk result (A.stopped acc.new ≡ None) }
-    ensures stops { IfErr result (λ s. A.stopped acc.new ≡ Some s) }
     ensures cause { OnlyReads op → IfErr result IsReadStop }
-    ensures good { SameMemories (A.good acc.old) (A.good acc.new) }
-    ensures words { A.words acc.new ≡ A.words acc.old }
-    ensures keeps { A.keeps acc.old acc.new }
+    ensures frame { LeadsOn A.Access acc.old acc.new result }
 {
     match op {
         Op::Read(a) => read(acc, a),
@@ -76,13 +66,8 @@ fn read<A: Access>(acc: &mut A, a: usize) -> Result<u64, Stop>
     ensures reply { IfOk result
         (DoesFor A.Access acc.old acc.new (λ m. replies (slice_index m a) m)) }
     ensures range { IfOk result (λ r. r < 2 ^ 64) }
-    ensures explained { OnOk result (ExplainedFor A.Access acc.new) }
-    ensures goes { OnOk result (A.stopped acc.new ≡ None) }
-    ensures stops { IfErr result (λ s. A.stopped acc.new ≡ Some s) }
     ensures cause { IfErr result IsReadStop }
-    ensures good { SameMemories (A.good acc.old) (A.good acc.new) }
-    ensures words { A.words acc.new ≡ A.words acc.old }
-    ensures keeps { A.keeps acc.old acc.new }
+    ensures frame { LeadsOn A.Access acc.old acc.new result }
 {
     let found = acc.read(a)?;
     Ok(found)
@@ -93,12 +78,7 @@ fn write<A: Access>(acc: &mut A, a: usize, v: u64) -> Result<u64, Stop>
     requires within { a < A.words acc.old }
     ensures reply { IfOk result (DoesFor A.Access acc.old acc.new (stores a v)) }
     ensures range { IfOk result (λ r. r < 2 ^ 64) }
-    ensures explained { OnOk result (ExplainedFor A.Access acc.new) }
-    ensures goes { OnOk result (A.stopped acc.new ≡ None) }
-    ensures stops { IfErr result (λ s. A.stopped acc.new ≡ Some s) }
-    ensures good { SameMemories (A.good acc.old) (A.good acc.new) }
-    ensures words { A.words acc.new ≡ A.words acc.old }
-    ensures keeps { A.keeps acc.old acc.new }
+    ensures frame { LeadsOn A.Access acc.old acc.new result }
 {
     acc.write(a, v)?;
     Ok(v)
@@ -110,12 +90,7 @@ fn add<A: Access>(acc: &mut A, a: usize, k: u64) -> Result<u64, Stop>
     ensures reply { IfOk result
         (DoesFor A.Access acc.old acc.new (λ m. stores a ((slice_index m a + k) % 2 ^ 64) m)) }
     ensures range { IfOk result (λ r. r < 2 ^ 64) }
-    ensures explained { OnOk result (ExplainedFor A.Access acc.new) }
-    ensures goes { OnOk result (A.stopped acc.new ≡ None) }
-    ensures stops { IfErr result (λ s. A.stopped acc.new ≡ Some s) }
-    ensures good { SameMemories (A.good acc.old) (A.good acc.new) }
-    ensures words { A.words acc.new ≡ A.words acc.old }
-    ensures keeps { A.keeps acc.old acc.new }
+    ensures frame { LeadsOn A.Access acc.old acc.new result }
 {
     let found = acc.read(a)?;
     let sum = found.wrapping_add(k);
@@ -129,12 +104,7 @@ fn move_between<A: Access>(acc: &mut A, a: usize, b: usize, k: u64) -> Result<u6
     requires onto { b < A.words acc.old }
     ensures reply { IfOk result (DoesFor A.Access acc.old acc.new (moves a b k)) }
     ensures range { IfOk result (λ r. r < 2 ^ 64) }
-    ensures explained { OnOk result (ExplainedFor A.Access acc.new) }
-    ensures goes { OnOk result (A.stopped acc.new ≡ None) }
-    ensures stops { IfErr result (λ s. A.stopped acc.new ≡ Some s) }
-    ensures good { SameMemories (A.good acc.old) (A.good acc.new) }
-    ensures words { A.words acc.new ≡ A.words acc.old }
-    ensures keeps { A.keeps acc.old acc.new }
+    ensures frame { LeadsOn A.Access acc.old acc.new result }
 {
     let found = acc.read(a)?;
     if found < k {

@@ -10,7 +10,7 @@ use std::marker::Model;
 use stm_model::memory::Memory;
 
 /// The replies and emits so far, with room for `room` of each.
-#[derive(Drop, Debug)]
+#[derive(Drop)]
 pub struct Replies {
     replies: SmallVec<u64, 1>,
     emits: SmallVec<u64, 1>,

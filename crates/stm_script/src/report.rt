@@ -30,7 +30,7 @@ pub struct Row {
 }
 
 /// Rows, in the report's order: by place, W before R and C, then caller, then seq.
-#[derive(Drop, Debug)]
+#[derive(Drop)]
 pub struct Rows {
     items: Vec<Row>,
 }
@@ -59,7 +59,7 @@ impl Rows {
 }
 
 /// Address and value of the words that aren't 0, by ascending address.
-#[derive(Drop, Debug)]
+#[derive(Drop)]
 pub struct Pairs {
     items: Vec<(usize, u64)>,
 }
@@ -87,7 +87,7 @@ impl Pairs {
 }
 
 /// What a run did: its transactions and the memory that they left.
-#[derive(Drop, Debug)]
+#[derive(Drop)]
 pub struct Report {
     pub rows: Rows,
     pub memory: Pairs,

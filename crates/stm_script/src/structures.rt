@@ -1,9 +1,10 @@
 //! The structures that operations work on, and one operation on them over any access.
-ghost use Rattle.std.specs.Prelude.{◌≡◌, ◌<◌, ◌^◌, None, Some, true, IfOk, OnOk, IfErr};
-ghost use Rattle.stm_model.specs.Logs.{SameMemories, IsReadStop};
-ghost use Rattle.tx_effects.specs.Accesses.{ExplainedFor, HoldsFor};
+ghost use Rattle.std.specs.Prelude.{◌≡◌, ◌<◌, ◌^◌, None, Some, true, IfOk, IfErr};
+ghost use Rattle.stm_model.specs.Logs.{IsReadStop};
+ghost use Rattle.tx_effects.specs.Accesses.{HoldsFor, LeadsOn};
 ghost use Rattle.tx_regions.specs.Regions.{AllWellFormed};
-ghost use Rattle.stm_script.specs.Operations.{OpFits, OnlyReads, effect_of, of_structure};
+ghost use Rattle.stm_script.specs.Operations.{OpFits, OnlyReads, effect_of, of_structure, structure_kind};
+ghost use Rattle.tx_regions.specs.declared.region.Structure.TheVariants as structures;
 ghost use Rattle.stm_script.specs.Accesses.{DoesFor};
 ghost use Rattle.stm_script.specs.Structures.{counter_in, list_in, hash_in, tree_in, queue_in, sum_map_in, insert_reply, bool_reply, least_reply, put_reply, map_put_reply, value_reply};
 
@@ -138,6 +139,121 @@ fn value_reply(value: Option<u64>) -> u64
     }
 }
 
+/// An operation on a counter.
+fn run_on_counter<A: Access>(acc: &mut A, regions: &Regions, op: Op) -> Result<u64, Stop>
+    requires kind { structure_kind op ≡ Some structures.Counter }
+    requires going { A.stopped acc.old ≡ None }
+    requires within { OpFits regions.now (A.words acc.old) op }
+    requires well { HoldsFor A.Access acc.old (AllWellFormed regions.now) }
+    ensures reply { IfOk result (DoesFor A.Access acc.old acc.new (effect_of regions.now op)) }
+    ensures range { IfOk result (λ r. r < 2 ^ 64) }
+    ensures cause { OnlyReads op → IfErr result IsReadStop }
+    ensures frame { LeadsOn A.Access acc.old acc.new result }
+{
+    match op {
+        Op::Count(r, stripe, amount) => counter(regions, r).add(acc, stripe, amount),
+        Op::Total(r) => counter(regions, r).total(acc),
+        _ => unreachable!(),
+    }
+}
+
+/// An operation on a list.
+fn run_on_list<A: Access>(acc: &mut A, regions: &Regions, op: Op) -> Result<u64, Stop>
+    requires kind { structure_kind op ≡ Some structures.List }
+    requires going { A.stopped acc.old ≡ None }
+    requires within { OpFits regions.now (A.words acc.old) op }
+    requires well { HoldsFor A.Access acc.old (AllWellFormed regions.now) }
+    ensures reply { IfOk result (DoesFor A.Access acc.old acc.new (effect_of regions.now op)) }
+    ensures range { IfOk result (λ r. r < 2 ^ 64) }
+    ensures cause { OnlyReads op → IfErr result IsReadStop }
+    ensures frame { LeadsOn A.Access acc.old acc.new result }
+{
+    match op {
+        Op::ListInsert(r, key) => Ok(insert_reply(list(regions, r).insert(acc, key)?)),
+        Op::ListRemove(r, key) => Ok(bool_reply(list(regions, r).remove(acc, key)?)),
+        Op::ListContains(r, key) => Ok(bool_reply(list(regions, r).contains(acc, key)?)),
+        Op::ListLength(r) => list(regions, r).len(acc),
+        _ => unreachable!(),
+    }
+}
+
+/// An operation on a hash set.
+fn run_on_hash<A: Access>(acc: &mut A, regions: &Regions, op: Op) -> Result<u64, Stop>
+    requires kind { structure_kind op ≡ Some structures.Hash }
+    requires going { A.stopped acc.old ≡ None }
+    requires within { OpFits regions.now (A.words acc.old) op }
+    requires well { HoldsFor A.Access acc.old (AllWellFormed regions.now) }
+    ensures reply { IfOk result (DoesFor A.Access acc.old acc.new (effect_of regions.now op)) }
+    ensures range { IfOk result (λ r. r < 2 ^ 64) }
+    ensures cause { OnlyReads op → IfErr result IsReadStop }
+    ensures frame { LeadsOn A.Access acc.old acc.new result }
+{
+    match op {
+        Op::HashInsert(r, key) => Ok(insert_reply(hash(regions, r).insert(acc, key)?)),
+        Op::HashRemove(r, key) => Ok(bool_reply(hash(regions, r).remove(acc, key)?)),
+        Op::HashContains(r, key) => Ok(bool_reply(hash(regions, r).contains(acc, key)?)),
+        _ => unreachable!(),
+    }
+}
+
+/// An operation on a tree.
+fn run_on_tree<A: Access>(acc: &mut A, regions: &Regions, op: Op) -> Result<u64, Stop>
+    requires kind { structure_kind op ≡ Some structures.Tree }
+    requires going { A.stopped acc.old ≡ None }
+    requires within { OpFits regions.now (A.words acc.old) op }
+    requires well { HoldsFor A.Access acc.old (AllWellFormed regions.now) }
+    ensures reply { IfOk result (DoesFor A.Access acc.old acc.new (effect_of regions.now op)) }
+    ensures range { IfOk result (λ r. r < 2 ^ 64) }
+    ensures cause { OnlyReads op → IfErr result IsReadStop }
+    ensures frame { LeadsOn A.Access acc.old acc.new result }
+{
+    match op {
+        Op::TreeInsert(r, key) => Ok(insert_reply(tree(regions, r).insert(acc, key)?)),
+        Op::TreeRemove(r, key) => Ok(bool_reply(tree(regions, r).remove(acc, key)?)),
+        Op::TreeContains(r, key) => Ok(bool_reply(tree(regions, r).contains(acc, key)?)),
+        Op::TreeLeast(r) => Ok(least_reply(tree(regions, r).min(acc)?)),
+        _ => unreachable!(),
+    }
+}
+
+/// An operation on a queue.
+fn run_on_queue<A: Access>(acc: &mut A, regions: &Regions, op: Op) -> Result<u64, Stop>
+    requires kind { structure_kind op ≡ Some structures.Queue }
+    requires going { A.stopped acc.old ≡ None }
+    requires within { OpFits regions.now (A.words acc.old) op }
+    requires well { HoldsFor A.Access acc.old (AllWellFormed regions.now) }
+    ensures reply { IfOk result (DoesFor A.Access acc.old acc.new (effect_of regions.now op)) }
+    ensures range { IfOk result (λ r. r < 2 ^ 64) }
+    ensures cause { OnlyReads op → IfErr result IsReadStop }
+    ensures frame { LeadsOn A.Access acc.old acc.new result }
+{
+    match op {
+        Op::QueuePut(r, value) => Ok(put_reply(queue(regions, r).put(acc, value)?)),
+        Op::QueueGet(r) => Ok(least_reply(queue(regions, r).get(acc)?)),
+        _ => unreachable!(),
+    }
+}
+
+/// An operation on a map with sums.
+fn run_on_map<A: Access>(acc: &mut A, regions: &Regions, op: Op) -> Result<u64, Stop>
+    requires kind { structure_kind op ≡ Some structures.SumMap }
+    requires going { A.stopped acc.old ≡ None }
+    requires within { OpFits regions.now (A.words acc.old) op }
+    requires well { HoldsFor A.Access acc.old (AllWellFormed regions.now) }
+    ensures reply { IfOk result (DoesFor A.Access acc.old acc.new (effect_of regions.now op)) }
+    ensures range { IfOk result (λ r. r < 2 ^ 64) }
+    ensures cause { OnlyReads op → IfErr result IsReadStop }
+    ensures frame { LeadsOn A.Access acc.old acc.new result }
+{
+    match op {
+        Op::MapPut(r, key, value) => Ok(map_put_reply(sum_map(regions, r).put(acc, key, value)?)),
+        Op::MapRemove(r, key) => Ok(bool_reply(sum_map(regions, r).remove(acc, key)?)),
+        Op::MapGet(r, key) => Ok(value_reply(sum_map(regions, r).get(acc, key)?)),
+        Op::MapSum(r, low, high) => sum_map(regions, r).sum(acc, low, high),
+        _ => unreachable!(),
+    }
+}
+
 /// Runs an operation on a structure, and answers its reply.
 ///
 /// # Errors
@@ -149,35 +265,21 @@ pub fn run_on_structure<A: Access>(acc: &mut A, regions: &Regions, op: Op) -> Re
     requires well { HoldsFor A.Access acc.old (AllWellFormed regions.now) }
     ensures reply { IfOk result (DoesFor A.Access acc.old acc.new (effect_of regions.now op)) }
     ensures range { IfOk result (λ r. r < 2 ^ 64) }
-    ensures explained { OnOk result (ExplainedFor A.Access acc.new) }
-    ensures goes { OnOk result (A.stopped acc.new ≡ None) }
-    ensures stops { IfErr result (λ s. A.stopped acc.new ≡ Some s) }
     ensures cause { OnlyReads op → IfErr result IsReadStop }
-    ensures good { SameMemories (A.good acc.old) (A.good acc.new) }
-    ensures words { A.words acc.new ≡ A.words acc.old }
-    ensures keeps { A.keeps acc.old acc.new }
+    ensures frame { LeadsOn A.Access acc.old acc.new result }
 {
-    let reply = match op {
-        Op::Count(r, stripe, amount) => counter(regions, r).add(acc, stripe, amount)?,
-        Op::Total(r) => counter(regions, r).total(acc)?,
-        Op::ListInsert(r, key) => insert_reply(list(regions, r).insert(acc, key)?),
-        Op::ListRemove(r, key) => bool_reply(list(regions, r).remove(acc, key)?),
-        Op::ListContains(r, key) => bool_reply(list(regions, r).contains(acc, key)?),
-        Op::ListLength(r) => list(regions, r).len(acc)?,
-        Op::HashInsert(r, key) => insert_reply(hash(regions, r).insert(acc, key)?),
-        Op::HashRemove(r, key) => bool_reply(hash(regions, r).remove(acc, key)?),
-        Op::HashContains(r, key) => bool_reply(hash(regions, r).contains(acc, key)?),
-        Op::TreeInsert(r, key) => insert_reply(tree(regions, r).insert(acc, key)?),
-        Op::TreeRemove(r, key) => bool_reply(tree(regions, r).remove(acc, key)?),
-        Op::TreeContains(r, key) => bool_reply(tree(regions, r).contains(acc, key)?),
-        Op::TreeLeast(r) => least_reply(tree(regions, r).min(acc)?),
-        Op::QueuePut(r, value) => put_reply(queue(regions, r).put(acc, value)?),
-        Op::QueueGet(r) => least_reply(queue(regions, r).get(acc)?),
-        Op::MapPut(r, key, value) => map_put_reply(sum_map(regions, r).put(acc, key, value)?),
-        Op::MapRemove(r, key) => bool_reply(sum_map(regions, r).remove(acc, key)?),
-        Op::MapGet(r, key) => value_reply(sum_map(regions, r).get(acc, key)?),
-        Op::MapSum(r, low, high) => sum_map(regions, r).sum(acc, low, high)?,
+    match op {
+        Op::Count(_, _, _) | Op::Total(_) => run_on_counter(acc, regions, op),
+        Op::ListInsert(_, _) | Op::ListRemove(_, _) | Op::ListContains(_, _) | Op::ListLength(_) =>
+            run_on_list(acc, regions, op),
+        Op::HashInsert(_, _) | Op::HashRemove(_, _) | Op::HashContains(_, _) => run_on_hash(
+            acc, regions, op,
+        ),
+        Op::TreeInsert(_, _) | Op::TreeRemove(_, _) | Op::TreeContains(_, _) | Op::TreeLeast(_) =>
+            run_on_tree(acc, regions, op),
+        Op::QueuePut(_, _) | Op::QueueGet(_) => run_on_queue(acc, regions, op),
+        Op::MapPut(_, _, _) | Op::MapRemove(_, _) | Op::MapGet(_, _) | Op::MapSum(_, _, _) =>
+            run_on_map(acc, regions, op),
         _ => unreachable!(),
-    };
-    Ok(reply)
+    }
 }

@@ -8,4 +8,4 @@ returns-clause-keeps_rule g c =
 pub returns-clause-well : goal.returns-clause-well
 returns-clause-well g c =
     well-op c.operations_keep_regions.ensures (g.A.Access.good c.args.acc.now) _ (g.A.Access.words c.args.acc.now) _ c.args.regions.now c.args.op.now _ c.in_ok-reply.reply _
-    c.requires.within c.in_ok-reply.ensures.reply c.requires.well c.in_ok-reply.ensures.good c.in_ok-reply.ensures.words
+    c.requires.within c.in_ok-reply.ensures.reply c.requires.well c.in_ok-reply.ensures.frame.good c.in_ok-reply.ensures.frame.words
