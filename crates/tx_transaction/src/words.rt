@@ -1,7 +1,6 @@
 //! Some words read or written one after the other, for transactions that read what they need and then write.
-ghost use Rattle.std.specs.Prelude.{◌≡◌, ◌<◌, ◌≤◌, [], ◌∷◌, ◌%◌, ◌^◌, sum, None, Some, IfOk, OnOk, IfErr};
-ghost use Rattle.stm_model.specs.Logs.{SameMemories};
-ghost use Rattle.tx_effects.specs.Accesses.{ExplainedFor};
+ghost use Rattle.std.specs.Prelude.{◌≡◌, ◌<◌, ◌≤◌, [], ◌∷◌, ◌%◌, ◌^◌, sum, None, IfOk, OnOk};
+ghost use Rattle.tx_effects.specs.Accesses.{LeadsOn};
 ghost use Rattle.tx_effects.specs.FreshLaws.{nothing};
 ghost use Rattle.tx_transaction.specs.WordLaws.{AllRead, AllWritten, IsKnown, HasSum, SumRead};
 
@@ -22,12 +21,7 @@ pub fn read_two<A: Access>(memory: &mut A, a: usize, b: usize) -> Result<(u64, u
     ensures known { A.log memory.old ≡ nothing
         → IfOk result (λ v.
         IsKnown (A.good memory.old) (A.words memory.old) ((a, v.0) ∷ (b, v.1) ∷ [])) }
-    ensures explained { OnOk result (ExplainedFor A.Access memory.new) }
-    ensures goes { OnOk result (A.stopped memory.new ≡ None) }
-    ensures stops { IfErr result (λ s. A.stopped memory.new ≡ Some s) }
-    ensures good { SameMemories (A.good memory.old) (A.good memory.new) }
-    ensures words { A.words memory.new ≡ A.words memory.old }
-    ensures keeps { A.keeps memory.old memory.new }
+    ensures frame { LeadsOn A.Access memory.old memory.new result }
 {
     let first = memory.read(a)?;
     let second = memory.read(b)?;
@@ -53,12 +47,7 @@ pub fn read_three<A: Access>(
     ensures known { A.log memory.old ≡ nothing
         → IfOk result (λ v.
         IsKnown (A.good memory.old) (A.words memory.old) ((a, v.0) ∷ (b, v.1) ∷ (c, v.2) ∷ [])) }
-    ensures explained { OnOk result (ExplainedFor A.Access memory.new) }
-    ensures goes { OnOk result (A.stopped memory.new ≡ None) }
-    ensures stops { IfErr result (λ s. A.stopped memory.new ≡ Some s) }
-    ensures good { SameMemories (A.good memory.old) (A.good memory.new) }
-    ensures words { A.words memory.new ≡ A.words memory.old }
-    ensures keeps { A.keeps memory.old memory.new }
+    ensures frame { LeadsOn A.Access memory.old memory.new result }
 {
     let first = memory.read(a)?;
     let second = memory.read(b)?;
@@ -81,12 +70,7 @@ pub fn read_sum<A: Access>(memory: &mut A, range: Range<usize>) -> Result<u64, S
         → IfOk result (λ sum.
         HasSum (A.good memory.old) (A.words memory.old) range.start range.end sum) }
     ensures writes { OnOk result ((A.log memory.new).writes ≡ (A.log memory.old).writes) }
-    ensures explained { OnOk result (ExplainedFor A.Access memory.new) }
-    ensures goes { OnOk result (A.stopped memory.new ≡ None) }
-    ensures stops { IfErr result (λ s. A.stopped memory.new ≡ Some s) }
-    ensures good { SameMemories (A.good memory.old) (A.good memory.new) }
-    ensures words { A.words memory.new ≡ A.words memory.old }
-    ensures keeps { A.keeps memory.old memory.new }
+    ensures frame { LeadsOn A.Access memory.old memory.new result }
 {
     let mut sum: u64 = 0;
     for a in range.start..range.end {
@@ -104,12 +88,7 @@ pub fn write_one<A: Access>(memory: &mut A, word: (usize, u64)) -> Result<(), St
     requires going { A.stopped memory.old ≡ None }
     requires within { word.0 < A.words memory.old }
     ensures wrote { OnOk result (AllWritten (A.log memory.old) (word ∷ []) (A.log memory.new)) }
-    ensures explained { OnOk result (ExplainedFor A.Access memory.new) }
-    ensures goes { OnOk result (A.stopped memory.new ≡ None) }
-    ensures stops { IfErr result (λ s. A.stopped memory.new ≡ Some s) }
-    ensures good { SameMemories (A.good memory.old) (A.good memory.new) }
-    ensures words { A.words memory.new ≡ A.words memory.old }
-    ensures keeps { A.keeps memory.old memory.new }
+    ensures frame { LeadsOn A.Access memory.old memory.new result }
 {
     memory.write(word.0, word.1)?;
     Ok(())
@@ -123,12 +102,7 @@ pub fn write_two<A: Access>(memory: &mut A, a: (usize, u64), b: (usize, u64)) ->
     requires going { A.stopped memory.old ≡ None }
     requires within { (a.0 < A.words memory.old) × (b.0 < A.words memory.old) }
     ensures wrote { OnOk result (AllWritten (A.log memory.old) (a ∷ b ∷ []) (A.log memory.new)) }
-    ensures explained { OnOk result (ExplainedFor A.Access memory.new) }
-    ensures goes { OnOk result (A.stopped memory.new ≡ None) }
-    ensures stops { IfErr result (λ s. A.stopped memory.new ≡ Some s) }
-    ensures good { SameMemories (A.good memory.old) (A.good memory.new) }
-    ensures words { A.words memory.new ≡ A.words memory.old }
-    ensures keeps { A.keeps memory.old memory.new }
+    ensures frame { LeadsOn A.Access memory.old memory.new result }
 {
     memory.write(a.0, a.1)?;
     memory.write(b.0, b.1)?;
@@ -150,12 +124,7 @@ pub fn write_three<A: Access>(
         × (c.0 < A.words memory.old) }
     ensures wrote { OnOk result
         (AllWritten (A.log memory.old) (a ∷ b ∷ c ∷ []) (A.log memory.new)) }
-    ensures explained { OnOk result (ExplainedFor A.Access memory.new) }
-    ensures goes { OnOk result (A.stopped memory.new ≡ None) }
-    ensures stops { IfErr result (λ s. A.stopped memory.new ≡ Some s) }
-    ensures good { SameMemories (A.good memory.old) (A.good memory.new) }
-    ensures words { A.words memory.new ≡ A.words memory.old }
-    ensures keeps { A.keeps memory.old memory.new }
+    ensures frame { LeadsOn A.Access memory.old memory.new result }
 {
     memory.write(a.0, a.1)?;
     memory.write(b.0, b.1)?;

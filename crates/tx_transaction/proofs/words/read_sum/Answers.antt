@@ -1,4 +1,4 @@
-use Rattle.std.proofs.Common.{ℕ, ◌≡◌, ◌∙◌, refl, arith, subst}
+use Rattle.std.proofs.Common.{rules, ℕ, ◌≡◌, ◌∙◌, refl, arith, subst}
 use Rattle.tx_effects.specs.EffectLaws.{same-trans}
 use Rattle.tx_transaction.specs.WordLaws.{HasSum, only-read, sum-more, sum-known}
 use Rattle.tx_transaction.proofs.words.read_sum.Goals as goal
@@ -28,3 +28,15 @@ returns-clause-known g c fresh =
 
 pub returns-clause-writes : goal.returns-clause-writes
 returns-clause-writes g c = only-read c.loop-a.invariant.read.read
+
+pub returns-clause-frame : goal.returns-clause-frame
+returns-clause-frame g c =
+    let all = c.loop-a.invariant in
+    record {
+      explained = all.explained (let past = c.loop-a-test.false in let within = c.requires.within in omega arith);
+      goes = all.going;
+      stops = search rules;
+      good = all.good;
+      words = all.words;
+      keeps = all.keeps;
+    }
