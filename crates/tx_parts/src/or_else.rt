@@ -7,7 +7,7 @@ use stm_model::stop::Stop;
 
 /// The first part; where it gives way, what it wrote is taken back, and the second is done in its place. It gives way
 /// where both do. What the first read stays read: so the second is done on a memory on which the first can't be.
-#[derive(Clone, Copy, Drop, Debug, PartialEq, Eq)]
+#[derive(Clone, Copy, Drop)]
 pub struct OrElse<P, Q> {
     pub first: P,
     pub second: Q,

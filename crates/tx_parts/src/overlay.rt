@@ -1,6 +1,7 @@
 //! The writes of a part, kept apart from what lies below until the part is kept.
-ghost use Rattle.std.specs.Prelude.{◌≡◌, ◌<◌, None, Some, OnOk, IfErr, IfSome, IfNone};
-ghost use Rattle.stm_model.specs.Logs.{SameMemories, IsExplained};
+ghost use Rattle.std.specs.Prelude.{◌≡◌, ◌<◌, None, OnOk, IfSome, IfNone};
+ghost use Rattle.stm_model.specs.Logs.{IsExplained};
+ghost use Rattle.tx_effects.specs.Accesses.{LeadsOn};
 ghost use Rattle.tx_logs.specs.LogStates.{firsts};
 ghost use Rattle.tx_parts.specs.Laying.{Lays, Within, IsFilled};
 
@@ -42,11 +43,7 @@ impl<'a, A: Access> Overlay<'a, A> {
         requires going { self.old.stopped ≡ None }
         ensures lays { OnOk result
             (Lays self.old.room.items (A.log self.old.below) (A.log self.new.below)) }
-        ensures goes { OnOk result (A.stopped self.new.below ≡ None) }
-        ensures stops { IfErr result (λ s. A.stopped self.new.below ≡ Some s) }
-        ensures good { SameMemories (A.good self.old.below) (A.good self.new.below) }
-        ensures words { A.words self.new.below ≡ A.words self.old.below }
-        ensures keeps { A.keeps self.old.below self.new.below }
+        ensures frame { LeadsOn A.Access self.old.below self.new.below result }
         ensures room { (self.new.room ≡ self.old.room) × (self.new.name ≡ self.old.name) }
     {
         match write_through(&mut self.below, self.room) {
@@ -85,13 +82,7 @@ fn write_through<A: Access>(memory: &mut A, room: &WriteLog) -> Result<(), Stop>
     requires seen { IsExplained (A.good memory.old) (A.words memory.old) (A.log memory.old) }
     requires within { Within (A.words memory.old) (firsts room.now.items) }
     ensures lays { OnOk result (Lays room.now.items (A.log memory.old) (A.log memory.new)) }
-    ensures explained { OnOk result
-        (IsExplained (A.good memory.new) (A.words memory.new) (A.log memory.new)) }
-    ensures goes { OnOk result (A.stopped memory.new ≡ None) }
-    ensures stops { IfErr result (λ s. A.stopped memory.new ≡ Some s) }
-    ensures good { SameMemories (A.good memory.old) (A.good memory.new) }
-    ensures words { A.words memory.new ≡ A.words memory.old }
-    ensures keeps { A.keeps memory.old memory.new }
+    ensures frame { LeadsOn A.Access memory.old memory.new result }
 {
     for i in 0..room.count() {
         let (a, v) = room.item(i);

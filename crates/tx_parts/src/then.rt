@@ -5,7 +5,7 @@ use stm_model::rule::MemRule;
 use stm_model::stop::Stop;
 
 /// The first part and then the second, which finds what the first wrote. It gives way where one of them does.
-#[derive(Clone, Copy, Drop, Debug, PartialEq, Eq)]
+#[derive(Clone, Copy, Drop)]
 pub struct Then<P, Q> {
     pub first: P,
     pub second: Q,

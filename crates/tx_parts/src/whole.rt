@@ -11,7 +11,7 @@ use tx_logs::write_log::WriteLog;
 use tx_transaction::transaction::Transaction;
 
 /// The transaction that is this part, done wholly or not at all.
-#[derive(Clone, Copy, Drop, Debug)]
+#[derive(Clone, Copy, Drop)]
 pub struct Whole<P> {
     pub part: P,
     /// A word that is read before the part is done: best one that the part reads, since it adds a read else.
@@ -51,7 +51,7 @@ pub enum Undone {
 }
 
 /// The same for a caller that waits until the part is done: None where it gives way, as `until_some` asks.
-#[derive(Clone, Copy, Drop, Debug)]
+#[derive(Clone, Copy, Drop)]
 pub struct Awaited<P> {
     pub whole: Whole<P>,
 }

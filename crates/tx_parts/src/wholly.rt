@@ -1,6 +1,7 @@
 //! A part that is done wholly or not at all.
-ghost use Rattle.std.specs.Prelude.{◌≡◌, ◌≤◌, None, Some, IfOk, OnOk, IfErr};
+ghost use Rattle.std.specs.Prelude.{◌≡◌, ◌≤◌, None, IfOk, OnOk, IfErr};
 ghost use Rattle.stm_model.specs.Logs.{SameMemories, IsExplained};
+ghost use Rattle.tx_effects.specs.Accesses.{LeadsOn};
 ghost use Rattle.tx_effects.specs.Effects.{Under};
 ghost use Rattle.tx_logs.specs.declared.marks.TheConstants.{MAX_MARKS};
 ghost use Rattle.tx_parts.specs.Laying.{Comes, Leaves, Left, Shows, IsEmptied};
@@ -56,13 +57,7 @@ pub fn wholly<K: MemRule, P: Part<K>, A: Access>(
     ensures len { room.new.len ≡ room.old.len }
     ensures kept { OnOk result
         (Under (K.good rule.now) (A.words memory.old) (A.log memory.new) (K.good rule.now)) }
-    ensures explained { OnOk result
-        (IsExplained (A.good memory.new) (A.words memory.new) (A.log memory.new)) }
-    ensures goes { OnOk result (A.stopped memory.new ≡ None) }
-    ensures stops { IfErr result (λ s. A.stopped memory.new ≡ Some s) }
-    ensures good { SameMemories (A.good memory.old) (A.good memory.new) }
-    ensures words { A.words memory.new ≡ A.words memory.old }
-    ensures keeps { A.keeps memory.old memory.new }
+    ensures frame { LeadsOn A.Access memory.old memory.new result }
 {
     let (came, below) = wholly_over(part, rule, Lent { to: memory }, room);
     let Lent { to: _to } = below;
@@ -91,13 +86,7 @@ fn wholly_over<K: MemRule, P: Part<K>, A: Access>(
     ensures len { room.new.len ≡ room.old.len }
     ensures kept { OnOk result.0
         (Under (K.good rule.now) (A.words below) (A.log result.1) (K.good rule.now)) }
-    ensures explained { OnOk result.0
-        (IsExplained (A.good result.1) (A.words result.1) (A.log result.1)) }
-    ensures goes { OnOk result.0 (A.stopped result.1 ≡ None) }
-    ensures stops { IfErr result.0 (λ s. A.stopped result.1 ≡ Some s) }
-    ensures good { SameMemories (A.good below) (A.good result.1) }
-    ensures words { A.words result.1 ≡ A.words below }
-    ensures keeps { A.keeps below result.1 }
+    ensures frame { LeadsOn A.Access below result.1 result.0 }
 {
     let mut overlay = Overlay {
         below,
@@ -152,14 +141,7 @@ fn run_apart<K: MemRule, P: Part<K>, A: Access>(
     ensures kept { OnOk result
         (Under (K.good rule.now) (A.words overlay.old.below) (A.log overlay.new.below)
         (K.good rule.now)) }
-    ensures explained { OnOk result
-        (IsExplained (A.good overlay.new.below) (A.words overlay.new.below)
-        (A.log overlay.new.below)) }
-    ensures goes { OnOk result (A.stopped overlay.new.below ≡ None) }
-    ensures stops { IfErr result (λ s. A.stopped overlay.new.below ≡ Some s) }
-    ensures good { SameMemories (A.good overlay.old.below) (A.good overlay.new.below) }
-    ensures words { A.words overlay.new.below ≡ A.words overlay.old.below }
-    ensures keeps { A.keeps overlay.old.below overlay.new.below }
+    ensures frame { LeadsOn A.Access overlay.old.below overlay.new.below result }
 {
     let came = part.run(rule, overlay);
     let full = overlay.no_room();

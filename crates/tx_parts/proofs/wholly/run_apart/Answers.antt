@@ -1,4 +1,4 @@
-use Rattle.std.proofs.Common.{ℕ, ◌≡◌, List, length, ap, ◌∙◌, subst, arith}
+use Rattle.std.proofs.Common.{rules, ℕ, ◌≡◌, List, length, ap, ◌∙◌, subst, arith}
 use Rattle.std.specs.Prelude.{Some, None}
 use Rattle.stm_model.specs.Logs.{Log}
 use Rattle.tx_parts.specs.Laying.{over, IsFilled}
@@ -44,10 +44,17 @@ returns-in-Ok-None-clause-comes g c =
     let only = (came.keeps.1.marks came.goes).2 in
     ((j, subst (λ (q : Log). g.P.Part.postcondition c.args.part.now c.args.rule.now words None q j) first told, (λ i. record { reads = (a.log t.below).reads; writes = only.1 i })), only)
 
-pub returns-in-Ok-None-clause-goes : goal.returns-in-Ok-None-clause-goes
-returns-in-Ok-None-clause-goes g c =
+pub returns-in-Ok-None-clause-frame : goal.returns-in-Ok-None-clause-frame
+returns-in-Ok-None-clause-frame g c =
     let t = c.run-came.new.memory in
-    goes-either (g.A.Access.stopped t.below) t.stopped c.no_room-full.result c.no_room-full.ensures.goes c.no_room-full.ensures.none c.in-Ok-None.ensures.goes
+    record {
+      explained = search rules;
+      goes = goes-either (g.A.Access.stopped t.below) t.stopped c.no_room-full.result c.no_room-full.ensures.goes c.no_room-full.ensures.none c.in-Ok-None.ensures.goes;
+      stops = search rules;
+      good = search rules;
+      words = search rules;
+      keeps = search rules;
+    }
 
 pub returns-in_ok-settle-in-Ok-Some-clause-kept : goal.returns-in_ok-settle-in-Ok-Some-clause-kept
 returns-in_ok-settle-in-Ok-Some-clause-kept g c =
@@ -70,8 +77,15 @@ returns-in-Some-clause-kept g c =
     let full = rw c.in-Some.is at c.no_room-full.ensures.goes in
     keeps-more (g.K.MemRule.good c.args.rule.now) (a.words s.below) (a.log s.below) (a.log c.run-came.new.memory.below) (c.in-Err.ensures.keeps.1.reads full).1 c.requires.sound
 
-pub returns-in-Some-clause-explained : goal.returns-in-Some-clause-explained
-returns-in-Some-clause-explained g c = (rw c.in-Some.is at c.no_room-full.ensures.some).2
+pub returns-in-Some-clause-frame : goal.returns-in-Some-clause-frame
+returns-in-Some-clause-frame g c = record {
+  explained = (rw c.in-Some.is at c.no_room-full.ensures.some).2;
+  goes = rw c.in-Some.is at c.no_room-full.ensures.goes;
+  stops = search rules;
+  good = search rules;
+  words = search rules;
+  keeps = search rules;
+}
 
 pub returns-in-Some-clause-full : goal.returns-in-Some-clause-full
 returns-in-Some-clause-full g c = subst (λ (n : ℕ). IsFilled n c.run-came.new.memory.room) c.in-Err.ensures.keeps.1.still (rw c.in-Some.is at c.no_room-full.ensures.some).3

@@ -11,12 +11,12 @@ invariant_of-self g c =
     let s = c.self.inside in
     let going : s.stopped ≡ None = ap (λ (t : Top g.row.A.Denot). t.stopped) c.self.view_is ∙ c.requires.going in
     record {
-      passes = λ e. c.in-Ok.ensures.goes ∙ sym going;
+      passes = λ e. c.in-Ok.ensures.frame.goes ∙ sym going;
       goes = λ e. not-crowded s.room.now.len s.stopped (c.self.invariant.goes e).1 going;
       full = λ e. not-crowded s.room.now.len s.stopped (c.self.invariant.goes e).1 going;
       knew = λ e. not-crowded s.room.now.len s.stopped (c.self.invariant.goes e).1 going;
-      seen = λ e. c.in-Ok.ensures.explained;
-      within = subst (λ (n : ℕ). Within n (firsts s.room.now.items)) (sym c.write_through.ensures.words) c.self.invariant.within;
+      seen = λ e. c.in-Ok.ensures.frame.explained;
+      within = subst (λ (n : ℕ). Within n (firsts s.room.now.items)) (sym c.write_through.ensures.frame.words) c.self.invariant.within;
     }
 
 pub invariant_of-self-in-Err : goal.invariant_of-self-in-Err
@@ -25,10 +25,10 @@ invariant_of-self-in-Err g c =
     let s = c.self.inside in
     let going : s.stopped ≡ None = ap (λ (t : Top g.row.A.Denot). t.stopped) c.self.view_is ∙ c.requires.going in
     record {
-      passes = λ e. c.in-Err.ensures.stops;
+      passes = λ e. c.in-Err.ensures.frame.stops;
       goes = λ e. not-crowded s.room.now.len s.stopped (c.self.invariant.goes e).1 going;
       full = λ e. not-crowded s.room.now.len s.stopped (c.self.invariant.goes e).1 going;
       knew = λ e. not-crowded s.room.now.len s.stopped (c.self.invariant.goes e).1 going;
       seen = λ e. absurd (no-stop (Some c.in-Err.stop) c.in-Err.stop refl e);
-      within = subst (λ (n : ℕ). Within n (firsts s.room.now.items)) (sym c.write_through.ensures.words) c.self.invariant.within;
+      within = subst (λ (n : ℕ). Within n (firsts s.room.now.items)) (sym c.write_through.ensures.frame.words) c.self.invariant.within;
     }
