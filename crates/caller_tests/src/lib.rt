@@ -1,4 +1,4 @@
-//! Tests of what calls the one interface: tx_atomic, tx_backoff, tx_parts, tx_start, stm_worker, perf_core.
+//! Tests of what calls the one interface: tx_atomic, tx_backoff, tx_parts, tx_jobs, tx_start, stm_worker, perf_core.
 #![tactic(auto)]
 
 #[cfg(test)]

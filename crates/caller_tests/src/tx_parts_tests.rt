@@ -6,15 +6,16 @@ use std::alloc::Global;
 use std::sync::Wait;
 use std::test::Fail;
 use stm_tx::{ALGORITHMS, AnyMem, Config, Stop};
+use tx_jobs::calls::Calls;
+use tx_jobs::job::Job;
+use tx_jobs::repeats::repeat;
+use tx_jobs::sizes::sizes;
 use tx_parts::nesting::Nesting;
 use tx_parts::or_else::OrElse;
 use tx_parts::part::Part;
 use tx_parts::then::Then;
 use tx_parts::whole::{Awaited, Whole};
-use tx_start::caller::Caller;
-use tx_start::job::Job;
 use tx_start::memory::with_memory;
-use tx_start::sizes::sizes;
 
 /// The words of a memory: four for each of four callers.
 const WORDS: usize = 16;
@@ -151,9 +152,9 @@ impl<R: Wait> Job<R, AnyMem> for Nests {
 
     ghost postcondition = { λ job rule words caller answer before after. Unit {0} };
 
-    fn work(&self, caller: &mut Caller<'_, R, AnyMem>) -> usize {
+    fn work<C: Calls<R, AnyMem>>(&self, caller: &mut C) -> usize {
         let number = caller.number();
-        caller.repeat(ROUNDS, &|round| nest(self.alloc, number, round))
+        repeat(caller, ROUNDS, &|round| nest(self.alloc, number, round))
     }
 }
 
@@ -183,7 +184,7 @@ fn parts_in_one_another_leave_what_plain_words_do(rt: HostRuntime) -> Result<(),
             };
             let came = with_memory(&rt, rt.alloc(), config, alg, AnyMem, &job)?;
             for answer in came.answers.iter() {
-                assert_eq!(rt; answer.value, ROUNDS);
+                assert_eq!(rt; *answer, ROUNDS);
             }
             for at in 0..WORDS {
                 assert_eq!(rt; came.words.get(at).copied(), Some(wanted[at]));
@@ -295,7 +296,7 @@ impl<R: Wait> Job<R, AnyMem> for Transfers {
 
     ghost postcondition = { λ job rule words caller answer before after. Unit {0} };
 
-    fn work(&self, caller: &mut Caller<'_, R, AnyMem>) -> usize {
+    fn work<C: Calls<R, AnyMem>>(&self, caller: &mut C) -> usize {
         let number = caller.number();
         let put = Whole {
             part: Put {
@@ -307,7 +308,7 @@ impl<R: Wait> Job<R, AnyMem> for Transfers {
             alloc: self.alloc,
         };
         caller.run(&put);
-        caller.repeat(ROUNDS, &|round| transfer(self.alloc, number, round))
+        repeat(caller, ROUNDS, &|round| transfer(self.alloc, number, round))
     }
 }
 
@@ -368,7 +369,7 @@ impl<R: Wait> Job<R, AnyMem> for Await {
 
     ghost postcondition = { λ job rule words caller answer before after. Unit {0} };
 
-    fn work(&self, caller: &mut Caller<'_, R, AnyMem>) -> bool {
+    fn work<C: Calls<R, AnyMem>>(&self, caller: &mut C) -> bool {
         let alloc = self.alloc;
         if caller.number() == 0 {
             let part = OrElse {
@@ -401,7 +402,7 @@ fn a_part_is_awaited(rt: HostRuntime) -> Result<(), Fail> {
         let came = with_memory(&rt, rt.alloc(), sizes(2, 2), alg, AnyMem, &job)?;
         assert_eq!(rt; came.words.get(1).copied(), Some(0));
         for answer in came.answers.iter() {
-            assert!(rt; answer.value);
+            assert!(rt; *answer);
         }
     }
     Ok(())

@@ -3,10 +3,11 @@ use std::sync::Wait;
 use std::test::Fail;
 use stm_tx::{ALGORITHMS, Access, AnyMem, Stop};
 use tx_atomic::transaction::Transaction;
-use tx_start::caller::Caller;
-use tx_start::job::Job;
+use tx_jobs::calls::Calls;
+use tx_jobs::job::Job;
+use tx_jobs::repeats::repeat;
+use tx_jobs::sizes::sizes;
 use tx_start::memory::with_memory;
-use tx_start::sizes::sizes;
 
 /// One more in word 0.
 #[derive(Drop)]
@@ -39,8 +40,8 @@ impl<R: Wait> Job<R, AnyMem> for Count {
 
     ghost postcondition = { λ job rule words caller answer before after. Unit {0} };
 
-    fn work(&self, caller: &mut Caller<'_, R, AnyMem>) -> usize {
-        caller.repeat(500, &|_| Add)
+    fn work<C: Calls<R, AnyMem>>(&self, caller: &mut C) -> usize {
+        repeat(caller, 500, &|_| Add)
     }
 }
 
@@ -51,8 +52,10 @@ fn no_increment_is_lost(rt: HostRuntime) -> Result<(), Fail> {
         assert_eq!(rt; came.words.first().copied(), Some(2_000));
         assert_eq!(rt; came.answers.len(), 4);
         for answer in came.answers.iter() {
-            assert_eq!(rt; answer.value, 500);
-            assert_eq!(rt; answer.tally.commits, 500);
+            assert_eq!(rt; *answer, 500);
+        }
+        for tally in came.past.tallies.iter() {
+            assert_eq!(rt; tally.commits, 500);
         }
     }
     Ok(())

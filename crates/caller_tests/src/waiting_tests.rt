@@ -1,15 +1,14 @@
 //! What no clause says: that callers that wait for each other come to their end, under each algorithm.
 ghost use Rattle.std.specs.Prelude.{◌≡◌, ◌<◌};
-ghost use Rattle.tx_atomic.specs.Callers.{HasWorked};
 
 use std::sync::Wait;
 use std::test::Fail;
 use stm_tx::{ALGORITHMS, Access, AnyMem, Stop};
 use tx_atomic::transaction::Transaction;
-use tx_start::caller::Caller;
-use tx_start::job::Job;
+use tx_jobs::calls::Calls;
+use tx_jobs::job::Job;
+use tx_jobs::sizes::sizes;
 use tx_start::memory::with_memory;
-use tx_start::sizes::sizes;
 
 /// How many values go from the one caller to the other.
 const VALUES: u64 = 300;
@@ -71,7 +70,7 @@ impl<R: Wait> Job<R, AnyMem> for Hand {
 
     ghost postcondition = { λ job rule words caller answer before after. Unit {0} };
 
-    fn work(&self, caller: &mut Caller<'_, R, AnyMem>) -> bool {
+    fn work<C: Calls<R, AnyMem>>(&self, caller: &mut C) -> bool {
         for i in 0..VALUES {
             if !hand_over(caller, i + 1) {
                 return false;
@@ -82,10 +81,10 @@ impl<R: Wait> Job<R, AnyMem> for Hand {
 }
 
 /// Caller 0 puts the value, and caller 1 takes one, and answers whether it is this.
-fn hand_over<R: Wait>(caller: &mut Caller<'_, R, AnyMem>, value: u64) -> bool
-    requires words { 0 < caller.old.stm.now.config.words }
-    ensures worked { HasWorked caller.old.desc caller.new.desc }
-    ensures same { caller.new.stm ≡ caller.old.stm }
+fn hand_over<R: Wait, C: Calls<R, AnyMem>>(caller: &mut C, value: u64) -> bool
+    requires words { 0 < (C.seat caller.old).words }
+    ensures keeps { C.keeps caller.old caller.new }
+    ensures same { C.seat caller.new ≡ C.seat caller.old }
 {
     if caller.number() == 0 {
         caller.until_some(&Put(value)).is_some()
@@ -100,7 +99,7 @@ fn each_value_is_handed_over(rt: HostRuntime) -> Result<(), Fail> {
         let came = with_memory(&rt, rt.alloc(), sizes(1, 2), alg, AnyMem, &Hand)?;
         assert_eq!(rt; came.words.first().copied(), Some(0));
         for answer in came.answers.iter() {
-            assert!(rt; answer.value);
+            assert!(rt; *answer);
         }
     }
     Ok(())

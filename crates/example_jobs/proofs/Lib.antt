@@ -1,4 +1,0 @@
-mod CountLaws
-mod DayLaws
-mod DeedLaws
-mod OrderLaws

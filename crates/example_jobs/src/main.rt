@@ -1,15 +1,19 @@
-//! Producers give numbered jobs, and workers take them, on threads of their own: each job is taken once.
+//! A day of the producers and workers of `queue_jobs` under each algorithm: whether each job was taken once.
 #![tactic(auto)]
 
-mod day;
-mod hands;
-mod jobs;
-mod plan;
+ghost use Rattle.std.specs.Prelude.{IfOk};
+ghost use Rattle.queue_jobs.specs.Days.{IsPlan, IsDay, IsWhole};
 
-use crate::day::{is_done, sum_of, work_off};
-use crate::plan::Plan;
-use nekchhaul::ALGORITHMS;
+use nekchhaul::queue::{Queue, contents_change, queues_are_apart};
+use nekchhaul::{ALGORITHMS, Alg, ClosedMemory, Evidence, NewError, sizes, with_memory};
+use queue_jobs::day::{is_done, sum_of};
+use queue_jobs::hands::{Hand, Shift};
+use queue_jobs::jobs::Jobs;
+use queue_jobs::plan::Plan;
+use std::alloc::Global;
 use std::process::ExitCode;
+use std::sync::Wait;
+use std::thread::Threads;
 
 const PLAN: Plan = Plan {
     producers: 4,
@@ -18,6 +22,33 @@ const PLAN: Plan = Plan {
     room: 16,
 };
 
+/// A day of work by this plan under this algorithm, each caller on a thread of its own.
+///
+/// # Errors
+/// Memory, where it is refused.
+fn work_off<R: Threads + Wait + Sync>(
+    rt: &R,
+    alloc: Global,
+    alg: Alg,
+    plan: Plan,
+) -> Result<ClosedMemory<Hand, Evidence>, NewError>
+    requires plan { IsPlan plan }
+    ensures whole { IfOk result (IsWhole plan) }
+    ensures day { IfOk result (IsDay plan) }
+{
+    // a memory of zeros has an empty queue; a put appends to the contents, and a get takes the first value
+    queues_are_apart();
+    contents_change();
+    let config = sizes(plan.room + 2, plan.producers + plan.workers);
+    let jobs = Jobs {
+        waiting: Queue {
+            at: 0,
+            cells: plan.room,
+        },
+    };
+    with_memory(rt, alloc, config, alg, jobs, &Shift { plan, alloc })
+}
+
 fn main(rt: HostRuntime) -> ExitCode {
     for alg in ALGORITHMS {
         let Ok(day) = work_off(&rt, rt.alloc(), alg, PLAN) else {
@@ -25,7 +56,7 @@ fn main(rt: HostRuntime) -> ExitCode {
         };
         let name = alg.name();
         let jobs = PLAN.jobs();
-        let sum = sum_of(day.answers.as_slice());
+        let sum = sum_of(&day.answers);
         let line = if is_done(&PLAN, &day) {
             println!(rt; "{name}: {jobs} jobs, each taken once, with the sum {sum}")
         } else {

@@ -1,3 +1,0 @@
-pub mod DeedLaws
-pub mod CountLaws
-pub mod DayLaws

@@ -1,14 +1,40 @@
-//! Two producers post messages, urgent ones and others. Two consumers receive them, an urgent one before the others, or
-//! wait for one. Each caller is on a thread of its own.
+//! A day of the mail of `mail_jobs` under each algorithm: whether each message was received once.
 #![tactic(auto)]
 
-mod clerks;
-mod day;
+ghost use Rattle.std.specs.Prelude.{◌≡◌, IfOk, length};
+ghost use Rattle.mailbox.specs.Mail.{IsMailbox};
+ghost use Rattle.mail_jobs.specs.declared.day.TheConstants.{MAILBOX};
+ghost use Rattle.mail_jobs.specs.Days.{IsDay};
 
-use crate::clerks::MESSAGES;
-use crate::day::{each_came_once, run};
-use nekchhaul::ALGORITHMS;
+use mail_jobs::clerks::{Clerks, MESSAGES, Share};
+use mail_jobs::day::{MAILBOX, each_came_once};
+use mailbox::laws::messages_come_in_order;
+use nekchhaul::queue::queues_are_apart;
+use nekchhaul::{ALGORITHMS, Alg, ClosedMemory, Evidence, NewError, sizes, with_memory};
+use std::alloc::Global;
 use std::process::ExitCode;
+use std::sync::Wait;
+use std::thread::Threads;
+
+/// A day of mail under this algorithm. Each caller answers what it posted and received.
+///
+/// # Errors
+/// Memory, where it is refused.
+fn run<R: Threads + Wait + Sync>(
+    rt: &R,
+    alloc: Global,
+    alg: Alg,
+) -> Result<ClosedMemory<Share, Evidence>, NewError>
+    ensures mailbox { IfOk result (λ came. IsMailbox MAILBOX came.words.items) }
+    ensures count { IfOk result (λ came. length came.words.items ≡ 20) }
+    ensures day { IfOk result (λ came.
+        IsDay came.words.items came.answers.items came.past.closed.history) }
+{
+    // a memory of zeros has two empty queues, and at each moment an urgent message goes before the others
+    queues_are_apart();
+    messages_come_in_order();
+    with_memory(rt, alloc, sizes(20, 4), alg, MAILBOX, &Clerks { alloc })
+}
 
 fn main(rt: HostRuntime) -> ExitCode {
     for alg in ALGORITHMS {

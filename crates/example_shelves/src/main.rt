@@ -5,7 +5,7 @@
 mod shelves;
 
 use crate::shelves::{Fill, Store};
-use nekchhaul::{ALGORITHMS, AnyMem, Caller, Job, sizes, with_memory};
+use nekchhaul::{ALGORITHMS, AnyMem, Calls, Job, repeat, sizes, with_memory};
 use std::alloc::Global;
 use std::process::ExitCode;
 use std::sync::Wait;
@@ -23,9 +23,9 @@ impl<R: Wait> Job<R, AnyMem> for Work {
 
     ghost precondition = { λ job rule words. 3 < words };
 
-    fn work(&self, caller: &mut Caller<'_, R, AnyMem>) -> usize {
+    fn work<C: Calls<R, AnyMem>>(&self, caller: &mut C) -> usize {
         caller.run(&Fill);
-        caller.repeat(6, &|_| Store { alloc: self.alloc })
+        repeat(caller, 6, &|_| Store { alloc: self.alloc })
     }
 }
 

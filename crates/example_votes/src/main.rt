@@ -2,7 +2,8 @@
 #![tactic(auto)]
 
 use nekchhaul::{
-    Access, Alg, AnyMem, Caller, Job, Layout, Place, Places, Stop, Transaction, sizes, with_memory,
+    Access, Alg, AnyMem, Calls, Job, Layout, Place, Places, Stop, Transaction, repeat, sizes,
+    with_memory,
 };
 use std::sync::Wait;
 
@@ -52,13 +53,13 @@ impl<R: Wait> Job<R, AnyMem> for Count {
 
     ghost precondition = { λ job rule words. PlacesFit job.poll.votes words × PlaceFits job.poll.all words × (job.poll.votes.count ≡ 5) };
 
-    fn work(&self, caller: &mut Caller<'_, R, AnyMem>) -> usize {
+    fn work<C: Calls<R, AnyMem>>(&self, caller: &mut C) -> usize {
         let number = caller.number();
         let vote = |round: usize| Vote {
             poll: self.poll,
             candidate: (number + round) % 7 % 5,
         };
-        caller.repeat(1_000, &vote)
+        repeat(caller, 1_000, &vote)
     }
 }
 
@@ -72,8 +73,11 @@ fn main(rt: HostRuntime) -> anyhow::Result<()> {
     let sizes = sizes(layout.words(), 4);
     let came = with_memory(&rt, rt.alloc(), sizes, Alg::OrecLazy, AnyMem, &count)?;
     for candidate in 0..5 {
-        println!(rt; "{candidate}: {}", came.get(&votes.at(candidate)))?;
+        println!(rt;
+            "{candidate}: {}",
+            votes.at(candidate).value_in(&came.words)
+        )?;
     }
-    println!(rt; "of {}", came.get(&all))?;
+    println!(rt; "of {}", all.value_in(&came.words))?;
     Ok(())
 }

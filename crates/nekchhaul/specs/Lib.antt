@@ -28,6 +28,13 @@ pub use Rattle.tx_effects.specs.EffectLaws
 pub use Rattle.tx_effects.specs.FreshLaws
 pub use Rattle.tx_effects.specs.Keys
 pub use Rattle.tx_effects.specs.declared.insert.Insert
+pub use Rattle.tx_jobs.specs.Known
+pub use Rattle.tx_jobs.specs.Moments as JobMoments
+pub use Rattle.tx_jobs.specs.MomentLaws as JobMomentLaws
+pub use Rattle.tx_jobs.specs.Repeats
+pub use Rattle.tx_jobs.specs.Stories
+pub use Rattle.tx_jobs.specs.StoryLaws
+pub use Rattle.tx_jobs.specs.declared.closed.ClosedMemory
 pub use Rattle.tx_layout.specs.Layouts
 pub use Rattle.tx_parts.specs.Laying
 pub use Rattle.tx_parts.specs.LayingLaws
@@ -41,9 +48,5 @@ pub use Rattle.tx_queue.specs.declared.queue.Put
 pub use Rattle.tx_queue.specs.declared.queue.Queue
 pub use Rattle.tx_sums.specs.Sums
 pub use Rattle.tx_tree.specs.Trees
-pub use Rattle.tx_start.specs.Repeats
-pub use Rattle.tx_start.specs.Stories
-pub use Rattle.tx_start.specs.StoryLaws
 pub use Rattle.tx_transaction.specs.WordLaws
-pub use Rattle.tx_start.specs.declared.memory.Answer
-pub use Rattle.tx_start.specs.declared.memory.ClosedMemory
+pub use Rattle.tx_start.specs.Pasts

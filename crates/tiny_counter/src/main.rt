@@ -10,6 +10,6 @@ fn main(rt: HostRuntime) -> anyhow::Result<()> {
     let by = |n: u64| n.wrapping_add(1);
     let add = Update { place, by };
     let came = with_transaction(&rt, rt.alloc(), sizes, Alg::OrecLazy, 1_000, add)?;
-    println!(rt; "{}", came.get(&place))?;
+    println!(rt; "{}", place.value_in(&came.words))?;
     Ok(())
 }

@@ -1,5 +1,5 @@
 -- Laws of what callers leave.
-use Rattle.std.proofs.Common.{ℕ, zero, suc, ◌≡◌, ◌<◌, ◌+◌, ◌∙◌, List, [], ◌∷◌, map, length, get_or, set, sym, ap, arith, subst}
+use Rattle.std.proofs.Common.{ℕ, zero, suc, ◌≡◌, ◌<◌, ◌+◌, ◌∙◌, List, [], ◌∷◌, map, length, get_or, set, refl, sym, ap, arith, subst}
 use Rattle.std.proofs.lemmas.List.{get_or-map, length-map}
 use Rattle.stm_model.specs.declared.alg.Alg.{Alg}
 use Rattle.rule_base.specs.declared.views.View.{View}
@@ -7,14 +7,16 @@ use Rattle.rule_base.specs.Bridge.{public_history}
 use Rattle.stm_rule.specs.declared.stm.Stm.{Stm}
 use Rattle.stm_rule.specs.Callers.{Handle, AllOpened}
 use Rattle.stm_rule.specs.Closings.{Ended, Told, AllTold, installs_of}
-use Rattle.tx_answers.specs.CallerState.{CallerState, caller_of}
+use Rattle.tx_answers.specs.CallerState.{caller_of}
 use Rattle.stm_tx.specs.Descs.{known, number}
 use Rattle.tx_atomic.specs.Callers.{AllReady, IsThrough}
 use Rattle.tx_atomic.specs.CallerLaws.{ready-each}
-use Rattle.tx_start.specs.declared.memory.Answer.{Answer}
+use Rattle.tx_jobs.specs.Known.{Known}
+use Rattle.tx_jobs.specs.Stories.{IsStory}
 use Rattle.tx_start.specs.declared.working.Left.{Left}
-use Rattle.tx_start.specs.Lefts.{desc_in, descs_in, answer_in, answers_in, AllNew, Works}
-use Rattle.tx_start.specs.Stories.{IsStory}
+use Rattle.tx_start.specs.Lefts.{desc_in, descs_in, answer_in, answers_in, tally_in, tallies_in, AllNew, Works}
+use Rattle.tx_start.specs.Pasts.{commits_of, past_of}
+use Rattle.tx_start.specs.Seats.{shown}
 
 module _ {K : Type 0} (stm : Stm K) where
   -- callers that were opened have made and installed nothing
@@ -41,7 +43,7 @@ told-at e n i [] x h lt = absurd (omega arith)
 told-at e n zero (d ∷ ds) x h lt = let s : n ≡ n + 0 = omega arith in subst (λ k. Told e k d) s h.0
 told-at e n (suc i) (d ∷ ds) x h lt = let s : suc n + i ≡ n + suc i = omega arith in subst (λ k. Told e k (get_or ds i x)) s (told-at e (suc n) i ds x h.1 (omega (arith, lt)))
 
-module _ {K V : Type 0} (stm : Stm K) (alg : Alg) (tells : ℕ → V → CallerState → CallerState → Type 0) where
+module _ {K V : Type 0} (stm : Stm K) (alg : Alg) (tells : ℕ → V → Known → Known → Type 0) where
   -- each caller did its job
   pub each-worked : (ds : List (Handle K)) (ls : List (Left K V)) → AllReady stm 0 ds → length ls ≡ length ds
       → ((i : ℕ) (l : Left K V) (x : Handle K) → i < length ds → Works tells (get_or ds i x) (get_or ls i l)) → AllReady stm 0 (descs_in ls)
@@ -53,7 +55,8 @@ module _ {K V : Type 0} (stm : Stm K) (alg : Alg) (tells : ℕ → V → CallerS
   -- and has its story
   pub stories : (ds : List (Handle K)) (ls : List (Left K V)) (e : Ended) → AllReady stm 0 ds → AllNew alg ds → length ls ≡ length ds
       → ((i : ℕ) (l : Left K V) (x : Handle K) → i < length ds → Works tells (get_or ds i x) (get_or ls i l))
-      → AllTold e 0 (descs_in ls) → e.installs ≡ map (λ (d : Handle K). installs_of d.view) (descs_in ls) → (i : ℕ) (a : Answer V) → i < length ds → IsStory alg (tells i) e i (get_or (answers_in ls) i a).value
+      → AllTold e 0 (descs_in ls) → e.installs ≡ map (λ (d : Handle K). installs_of d.view) (descs_in ls) → (i : ℕ) (a : V) → i < length ds
+      → IsStory alg (tells i) (past_of e (tallies_in ls)) i (get_or (answers_in ls) i a)
   stories ds [] e ready new count each told installs i a lt = absurd (omega (arith, lt, count))
   stories ds (l ∷ ls) e ready new count each told installs i a lt =
       let here : i < length (l ∷ ls) = omega (arith, lt, count) in
@@ -65,15 +68,19 @@ module _ {K V : Type 0} (stm : Stm K) (alg : Alg) (tells : ℕ → V → CallerS
       let zero_i : 0 + i ≡ i = omega arith in
       let this = subst (λ k. Told e k one.desc) zero_i mine in
       let works = each i l x lt in
-      let value : (get_or (answers_in (l ∷ ls)) i a) ≡ one.answer = get_or-map answer_in (l ∷ ls) i l a here in
+      let before : Known = shown (known (get_or ds i x)) 0 in
+      let after : Known = shown (known one.desc) one.tally.commits in
+      let answer : get_or (answers_in (l ∷ ls)) i a ≡ one.answer = get_or-map answer_in (l ∷ ls) i l a here in
       let nth : number (get_or ds i x) ≡ i = numbered stm 0 i ds x ready lt ∙ zero_i in
+      let counts : i < length (tallies_in (l ∷ ls)) = let many = length-map (l ∷ ls) tally_in in omega (arith, here, many) in
       record {
-        before = known (get_or ds i x);
-        after = known one.desc;
-        told = subst (λ (b : Answer V). tells i b.value (known (get_or ds i x)) (known one.desc)) (sym value) (subst (λ k. tells k one.answer.value (known (get_or ds i x)) (known one.desc)) nth works.1);
-        fresh = (new i x lt).0;
+        before = before;
+        after = after;
+        told = subst (λ (b : V). tells i b before after) (sym answer) (subst (λ k. tells k one.answer before after) nth works.1);
+        fresh = ((new i x lt).0, refl);
         begun = (new i x lt).1;
         made = this.made;
         seen = this.seen;
         installed = ap (λ (xs : List (List Alg)). get_or xs i []) installs ∙ (get_or-map (λ (d : Handle K). installs_of d.view) (descs_in (l ∷ ls)) i x [] place ∙ ap (λ (d : Handle K). installs_of d.view) at);
+        counted = get_or-map commits_of (tallies_in (l ∷ ls)) i l.tally 0 counts ∙ ap commits_of (get_or-map tally_in (l ∷ ls) i l l.tally here);
       }

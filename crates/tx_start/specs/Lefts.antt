@@ -2,12 +2,13 @@
 use Rattle.std.specs.Prelude.{ℕ, ◌≡◌, ◌<◌, List, [], map, length, get_or}
 use Rattle.stm_model.specs.declared.alg.Alg.{Alg}
 use Rattle.stm_rule.specs.Callers.{Handle}
-use Rattle.tx_answers.specs.CallerState.{CallerState}
 use Rattle.stm_tx.specs.Descs.{known, number}
 use Rattle.tx_atomic.specs.Callers.{IsThrough}
-use Rattle.tx_start.specs.declared.memory.Answer.{Answer}
 use Rattle.tx_start.specs.declared.working.Left.{Left}
-use Rattle.tx_start.specs.Stories.{first_installs}
+use Rattle.tx_atomic.specs.declared.tally.Tally.{Tally}
+use Rattle.tx_jobs.specs.Known.{Known}
+use Rattle.tx_jobs.specs.Stories.{first_installs}
+use Rattle.tx_start.specs.Seats.{shown}
 
 -- none has made an entry yet, nor installed anything but the memory's first algorithm
 abbrev pub AllNew : {K : Type 0} → Alg → List (Handle K) → Type 0
@@ -20,12 +21,18 @@ module _ {K V : Type 0} where
   abbrev pub descs_in : List (Left K V) → List (Handle K)
   descs_in ls = map desc_in ls
 
-  abbrev pub answer_in : Left K V → Answer V
+  abbrev pub answer_in : Left K V → V
   answer_in l = l.answer
 
-  abbrev pub answers_in : List (Left K V) → List (Answer V)
+  abbrev pub answers_in : List (Left K V) → List V
   answers_in ls = map answer_in ls
 
+  abbrev pub tally_in : Left K V → Tally
+  tally_in l = l.tally
+
+  abbrev pub tallies_in : List (Left K V) → List Tally
+  tallies_in ls = map tally_in ls
+
   -- a caller did its job, whose answers tell this
-  abbrev pub Works : (ℕ → V → CallerState → CallerState → Type 0) → Handle K → Left K V → Type 0
-  Works tells d l = IsThrough d l.desc × tells (number d) l.answer.value (known d) (known l.desc)
+  abbrev pub Works : (ℕ → V → Known → Known → Type 0) → Handle K → Left K V → Type 0
+  Works tells d l = IsThrough d l.desc × tells (number d) l.answer (shown (known d) 0) (shown (known l.desc) l.tally.commits)

@@ -1,5 +1,4 @@
 pub mod Lefts
-pub mod Repeats
-pub mod Stories
-pub mod StoryLaws
-pub use Rattle.tx_transaction.specs.WordLaws
+pub mod Pasts
+pub mod Seats
+pub mod SeatLaws

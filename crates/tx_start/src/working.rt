@@ -3,22 +3,23 @@ ghost use Rattle.std.specs.Prelude.{◌≡◌, ◌≤◌, ◌<◌, ℕ, [], map,
 ghost use Rattle.stm_rule.specs.Callers.{Handle};
 ghost use Rattle.tx_atomic.specs.Callers.{IsReady};
 ghost use Rattle.tx_start.specs.declared.working.Left.{Left};
-ghost use Rattle.tx_start.specs.Lefts.{descs_in, answers_in, Works};
+ghost use Rattle.tx_start.specs.Lefts.{descs_in, answers_in, tallies_in, Works};
 
 use crate::caller::Caller;
-use crate::job::Job;
-use crate::memory::Answer;
 use std::sync::Wait;
 use std::thread;
 use std::thread::Threads;
 use stm_tx::{Desc, MemRule, NewError, Stm};
 use tx_atomic::pace::Pace;
+use tx_atomic::tally::Tally;
+use tx_jobs::job::Job;
 
 /// What a caller leaves.
 #[derive(Drop)]
 pub(crate) struct Left<K: MemRule, V> {
     pub desc: Desc<K>,
-    pub answer: Answer<V>,
+    pub answer: V,
+    pub tally: Tally,
 }
 
 /// Has each caller do its job, on a thread of its own.
@@ -60,34 +61,40 @@ fn work<R: Wait, K: MemRule, J: Job<R, K>>(
         desc,
         pace: Pace::new(),
     };
-    let value = job.work(&mut caller);
+    let answer = job.work(&mut caller);
     let Caller { desc, pace, .. } = caller;
     Left {
         desc,
-        answer: Answer {
-            value,
-            tally: pace.tally,
-        },
+        answer,
+        tally: pace.tally,
     }
 }
 
-/// The descriptors and the answers, in the callers' order, in the room for them.
+/// The descriptors, the answers and the tallies, in the callers' order, in the room for them.
 pub(crate) fn part<K: MemRule, V: Drop>(
     left: Vec<Left<K, V>>,
     mut descs: Vec<Desc<K>>,
-    mut answers: Vec<Answer<V>>,
-) -> (Vec<Desc<K>>, Vec<Answer<V>>)
-    requires empty { (descs.items ≡ []) × (vec_len descs ≡ 0) × (vec_len answers ≡ 0)
-        × (answers.items ≡ []) }
+    mut answers: Vec<V>,
+    mut tallies: Vec<Tally>,
+) -> (Vec<Desc<K>>, Vec<V>, Vec<Tally>)
+    requires empty { (descs.items ≡ []) × (vec_len descs ≡ 0) × (answers.items ≡ [])
+        × (vec_len answers ≡ 0) × (tallies.items ≡ []) × (vec_len tallies ≡ 0) }
     requires room { (length left.items ≤ vec_capacity descs)
-        × (length left.items ≤ vec_capacity answers) }
+        × (length left.items ≤ vec_capacity answers)
+        × (length left.items ≤ vec_capacity tallies) }
     ensures descs { result.0.items ≡ descs_in left.items }
     ensures answers { result.1.items ≡ answers_in left.items }
+    ensures tallies { result.2.items ≡ tallies_in left.items }
 {
     for one in left {
-        let Left { desc, answer } = one;
+        let Left {
+            desc,
+            answer,
+            tally,
+        } = one;
         descs.push_reserved(desc);
         answers.push_reserved(answer);
+        tallies.push_reserved(tally);
     }
-    (descs, answers)
+    (descs, answers, tallies)
 }

@@ -1,6 +1,6 @@
 use Rattle.std.proofs.Common.{lit<, lit≤}
 use Rattle.example_jobs.specs.declared.TheConstants.{PLAN}
-use Rattle.example_jobs.specs.Days.{IsPlan}
+use Rattle.queue_jobs.specs.Days.{IsPlan}
 use Rattle.example_jobs.proofs.main.Goals as goal
 
 planned : IsPlan PLAN

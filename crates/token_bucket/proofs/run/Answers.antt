@@ -1,7 +1,7 @@
 use Rattle.std.proofs.Common.{◌+◌, ◌∙◌, [], ◌∷◌, ◌++◌, refl, ap, arith}
 use Rattle.nekchhaul.specs.Alg.TheVariants.{Tml}
 use Rattle.nekchhaul.specs.EffectLaws.{zero-at}
-use Rattle.nekchhaul.specs.StoryLaws.{by-stories}
+use Rattle.nekchhaul.specs.StoryLaws.{by-came, story}
 use Rattle.token_bucket.proofs.run.Goals as goal
 
 pub with_memory-requires-clause-good : goal.with_memory-requires-clause-good
@@ -10,6 +10,6 @@ with_memory-requires-clause-good g c κs within =
 
 pub returns-clause-installs : goal.returns-clause-installs
 returns-clause-installs g c =
-    by-stories _ _ _ _ c.with_memory.ensures.answers c.with_memory.ensures.stories _
-    (λ came story. let s = (story 0 (let four = c.sizes.ensures.callers in omega arith)).1 in
+    by-came c.with_memory.result c.with_memory.ensures.came (λ done came.
+    let s = (story came 0 (let four = c.sizes.ensures.callers in omega arith)).1 in
     s.installed ∙ (s.told refl ∙ ap (λ l. l ++ Tml ∷ []) s.begun))

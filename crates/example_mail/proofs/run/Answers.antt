@@ -1,0 +1,16 @@
+use Rattle.nekchhaul.specs.StoryLaws.{by-came}
+use Rattle.mailbox.specs.Mail.{queue_of}
+use Rattle.mail_jobs.specs.declared.day.TheConstants.{MAILBOX}
+use Rattle.mail_jobs.specs.DayLaws.{closed-day}
+use Rattle.example_mail.proofs.run.Goals as goal
+
+pub with_memory-requires-clause-good : goal.with_memory-requires-clause-good
+with_memory-requires-clause-good g c κs within = rw c.sizes.ensures.words (λ urgent. (c.queues_are_apart.ensures.empty (queue_of MAILBOX urgent) 20).0)
+
+pub returns-clause-day : goal.returns-clause-day
+returns-clause-day g c =
+    let sizes = c.sizes.ensures in
+    by-came c.with_memory.result c.with_memory.ensures.came
+    (λ day came.
+    closed-day c.args.alg c.sizes.result sizes.words sizes.callers c.queues_are_apart.ensures.empty
+    c.messages_come_in_order.ensures.history c.messages_come_in_order.ensures.once _ _ _ came)

@@ -1,0 +1,4 @@
+pub mod Shares
+pub mod Days
+pub mod CountLaws
+pub mod DayLaws

@@ -1,0 +1,5 @@
+pub mod Days
+pub mod Deeds
+pub mod CountLaws
+pub mod OrderLaws
+pub mod DayLaws

@@ -1,0 +1,31 @@
+//! The job of running one transaction so many times.
+use crate::calls::Calls;
+use crate::job::Job;
+use crate::repeats::times;
+use std::sync::Wait;
+use stm_model::rule::MemRule;
+use tx_transaction::transaction::Transaction;
+
+/// What each caller does who runs one transaction so many times.
+#[derive(Drop)]
+pub struct Times<T> {
+    pub rounds: usize,
+    pub transaction: T,
+}
+
+impl<R: Wait, K: MemRule, T: Transaction<K>> Job<R, K> for Times<T> {
+    ghost use Rattle.std.specs.Prelude.{◌≤◌};
+    ghost use Rattle.tx_jobs.specs.Repeats.{MadeAll, Answered};
+
+    type Output = usize;
+
+    ghost precondition = { λ job rule words. T.precondition job.transaction rule words };
+
+    // it took effect so often
+    ghost postcondition = { λ job rule words caller count before after. (count ≤ job.rounds) × MadeAll (Answered (T.postcondition job.transaction rule words)) before.made count after.made };
+
+    /// How often it took effect: fewer times only where the clock was found at its limit.
+    fn work<C: Calls<R, K>>(&self, caller: &mut C) -> usize {
+        times(caller, self.rounds, &self.transaction)
+    }
+}

@@ -1,0 +1,67 @@
+-- Laws of what the jobs' crate sees.
+use Rattle.std.proofs.Common.{ℕ, ◌≡◌, ◌∙◌, List, [], ◌∷◌, ◌++◌, Bool, true, false, length, refl, sym, ap, inl, inr}
+use Rattle.std.specs.Prelude.{◌⊎◌, not, Option, Some, None, IfSome}
+use Rattle.std.proofs.lemmas.List.{append-nil}
+use Rattle.stm_model.specs.declared.config.Config.{Config}
+use Rattle.stm_model.specs.Histories.{Entry}
+use Rattle.stm_model.specs.Logs.{Log}
+use Rattle.stm_model.specs.Memories.{is_empty}
+use Rattle.stm_rule.specs.declared.stm.Stm.{Stm}
+use Rattle.stm_rule.specs.Callers.{Handle}
+use Rattle.stm_tx.specs.Descs.{known, number}
+use Rattle.tx_answers.specs.declared.answers.Commit.TheVariants.{Committed, ReadOnly}
+use Rattle.tx_answers.specs.Answers.{Commits}
+use Rattle.tx_answers.specs.CallerState.{CallerState, Grows, caller_of}
+use Rattle.tx_answers.specs.CallerStateLaws.{carries-refl}
+use Rattle.tx_atomic.specs.Attempts.{TookEffect}
+use Rattle.tx_atomic.specs.Callers.{IsThrough}
+use Rattle.tx_atomic.specs.MomentLaws.{happened}
+use Rattle.tx_atomic.specs.Moments.{Happened}
+use Rattle.tx_jobs.specs.Known as jobs
+use Rattle.tx_jobs.specs.Moments.{Took}
+use Rattle.tx_jobs.specs.Repeats.{MadeOne}
+use Rattle.tx_start.specs.Seats.{shown, seat_of}
+
+pub grows-shown : (v w : CallerState) (m n : ℕ) → Grows v w → jobs.Grows (shown v m) (shown w n)
+grows-shown v w m n g = record { later = g.later; is = g.is; ascending = g.ascending; up_to = g.up_to; front_rose = g.front_rose }
+
+pub same-seat : {K : Type 0} (stm : Stm K) (d e : Handle K) → IsThrough d e → seat_of stm e ≡ seat_of stm d
+same-seat stm d e t = ap (λ q. record { rule = stm.rule; words = stm.config.words; callers = stm.config.callers; number = caller_of q.role }) t.same.who
+
+not-empty : (b : Bool) → not b ≡ true → b ≡ false
+not-empty true some = absurd cc
+not-empty false some = refl
+
+empty : (b : Bool) → not b ≡ false → b ≡ true
+empty true none = refl
+empty false none = absurd cc
+
+-- a transaction that took effect is the caller's next entry
+took-one : (good : List ℕ → Type 0) (c : Config) (n : ℕ) (tells : Log → Type 0) (from : ℕ) (u w : CallerState) → (t : TookEffect good c n tells from u w) → MadeOne t.before.log u.made w.made
+took-one good c n tells from u w t = by t.commits
+  where
+    e : Entry
+    e = record { time = t.time; caller = n; number = length t.before.made; reads = t.before.log.reads; writes = t.before.log.writes }
+
+    by : Commits good c n (Committed t.time) t.before w ⊎ Commits good c n (ReadOnly t.time) t.before w → MadeOne t.before.log u.made w.made
+    by (inl h) = inr (not-empty (is_empty t.before.log.writes) h.wrote, e, refl, h.made ∙ ap (λ (m : List Entry). m ++ e ∷ []) t.made)
+    by (inr h) = inl (empty (is_empty t.before.log.writes) h.2, h.0.made ∙ t.made)
+
+-- and has its moment in what its caller has seen
+pub took-shown : (good : List ℕ → Type 0) (c : Config) (n : ℕ) (tells : Log → Type 0) (u w : CallerState) (j k : ℕ) → TookEffect good c n tells u.front u w → Took good c.words tells (shown u j) (shown w k)
+took-shown good c n tells u w j k t =
+    let h : Happened good c (λ log. tells log × MadeOne log u.made w.made) u w w.seen =
+    happened good c n (λ log. tells log × MadeOne log u.made w.made) u w w.seen w
+    (record { before = t.before; told = (t.told, took-one good c n tells u.front u w t); made = t.made; grows = t.grows; later = t.later; time = t.time; commits = t.commits })
+    (carries-refl w).grows ([], sym (append-nil w.seen), tt) in
+    record {
+      log = h.log;
+      told = h.told.0;
+      made = h.told.1;
+      stands = record { at = h.at; later = h.later; sooner = h.sooner; kept = h.kept; read = h.read; wrote = h.wrote };
+    }
+
+pub if-took : {A : Type 0} (good : List ℕ → Type 0) (c : Config) (n : ℕ) (tells : A → Log → Type 0) (u w : CallerState) (j k : ℕ) (r : Option A)
+    → IfSome r (λ a. TookEffect good c n (tells a) u.front u w) → IfSome r (λ a. Took good c.words (tells a) (shown u j) (shown w k))
+if-took good c n tells u w j k None took = tt
+if-took good c n tells u w j k (Some a) took = took-shown good c n (tells a) u w j k took
