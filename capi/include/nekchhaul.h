@@ -168,7 +168,8 @@ uint32_t nekchhaul_version(void);
 #define NEKCHHAUL_UNPROVED 0x80000000u
 
 /* Opens a memory of zeros under an algorithm, and makes `count` callers of it, 1 to 32. Answers ALGORITHM, HOLDS_CALLER,
- * SIZE_WORDS to SIZE_CLOCK, MEMORY, or BUSY where the algorithm couldn't be installed; then no handle has changed. */
+ * SIZE_WORDS to SIZE_CLOCK or MEMORY, and then no handle has changed; or BUSY where another caller was in the way of the
+ * install, which nobody is who hasn't a handle yet: then the memory is open, under CGL, and each handle holds its caller. */
 uint32_t nekchhaul_open(const nekchhaul_sizes *sizes, uint32_t algorithm, nekchhaul_caller *callers, size_t count) NEKCHHAUL_CALL;
 
 /* Begins an attempt. GATE_CLOSED, HELD, CLOCK_FULL; IN_ATTEMPT, CLOSING. */
@@ -246,8 +247,8 @@ uint32_t nekchhaul_direct_write(nekchhaul_caller *caller, size_t address, uint64
 uint32_t nekchhaul_give_back(nekchhaul_caller *caller) NEKCHHAUL_CALL;
 
 /* Ends the memory: takes all its words out of the transactions for good, and writes them to the first places of
- * `words`. They are the memory after all that was committed, by all callers. From then on every read and write of every
- * caller is FENCED; release the callers. `count` is how many places there are, at least as many as words.
+ * `words`. They are the memory after one history of all that its callers had committed. From then on every read and
+ * write of every caller is FENCED; release the callers. `count` is how many places there are, at least as many as words.
  * GATE_CLOSED, BUSY, RANGE_TAKEN; IN_ATTEMPT, HOLDS_RANGE, ROOM, CLOSING. */
 uint32_t nekchhaul_close(nekchhaul_caller *caller, uint64_t *words, size_t count) NEKCHHAUL_CALL;
 

@@ -100,7 +100,10 @@ impl Script {
                 }
                 Ok(String::new(alloc))
             }
-            Err(error) => format!(in alloc; ": {error:?}"),
+            Err(refused) => {
+                let error = refused.error;
+                format!(in alloc; ": {error:?}")
+            }
         }
     }
 }

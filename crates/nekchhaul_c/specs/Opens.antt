@@ -1,5 +1,5 @@
 -- What the opening of a memory leaves in the handles.
-use Rattle.std.specs.Prelude.{ℕ, ◌≡◌, ◌<◌, ◌⊎◌, true, map, All, List, length, get_or, Option, Some, None}
+use Rattle.std.specs.Prelude.{ℕ, ◌≡◌, ◌<◌, ◌⊎◌, true, map, All, List, [], length, get_or, Option, Some, None}
 use Rattle.nekchhaul_c.specs.declared.handle.Handle.{Handle}
 use Rattle.nekchhaul_c.specs.declared.opening.Sizes.{Sizes}
 use Rattle.nekchhaul_c.specs.Codes.{open_code}
@@ -8,9 +8,10 @@ use Rattle.std.specs.declared.alloc.Global.{Global}
 use Rattle.std_alloc.specs.declared.boxed.Box.{Box}
 use Rattle.stm_model.specs.declared.alg.Alg.{Alg}
 use Rattle.stm_model.specs.declared.config.Config.{Config}
+use Rattle.tx_atomic.specs.declared.switching.Hindrance.{Hindrance}
 use Rattle.tx_checked.specs.declared.checked_caller.CheckedCaller.{CheckedCaller}
 use Rattle.tx_checked.specs.declared.opening.OpenError.{OpenError}
-use Rattle.tx_checked.specs.Ready.{IsNew, IsOpenError}
+use Rattle.tx_checked.specs.Ready.{AreHindered, AreNew, IsOpenError}
 
 abbrev pub insides : List Handle → List (Option CheckedCaller)
 insides hs = map (λ (h : Handle). h.inside) hs
@@ -18,24 +19,45 @@ insides hs = map (λ (h : Handle). h.inside) hs
 abbrev pub NoneHeld : List Handle → Type 0
 NoneHeld hs = All (λ (h : Handle). h.inside ≡ None) hs
 
-abbrev pub HoldsNew : Config → Alg → ℕ → Handle → Type 0
-HoldsNew c alg i h = (m : CheckedCaller) × (h.inside ≡ Some m) × IsNew c alg i m
+abbrev pub value_in : Box CheckedCaller Global → CheckedCaller
+value_in b = b.value
+
+abbrev pub values_in : List (Box CheckedCaller Global) → List CheckedCaller
+values_in bs = map value_in bs
+
+-- m is the caller of place i
+abbrev pub IsAt : List CheckedCaller → ℕ → CheckedCaller → Type 0
+IsAt ms i m = (d : CheckedCaller) → get_or ms i d ≡ m
+
+abbrev pub HoldsAt : List CheckedCaller → ℕ → Handle → Type 0
+HoldsAt ms i h = (m : CheckedCaller) × (h.inside ≡ Some m) × IsAt ms i m
 
 -- each handle holds the caller of its place
-abbrev pub EachNew : Config → Alg → List Handle → Type 0
-EachNew c alg hs = (i : ℕ) (h : Handle) → i < length hs → HoldsNew c alg i (get_or hs i h)
+abbrev pub EachHolds : List CheckedCaller → List Handle → Type 0
+EachHolds ms hs = (i : ℕ) (h : Handle) → i < length hs → HoldsAt ms i (get_or hs i h)
 
-abbrev pub EachNewBoxed : Config → Alg → List (Box CheckedCaller Global) → Type 0
-EachNewBoxed c alg bs = (i : ℕ) (b : Box CheckedCaller Global) → i < length bs → IsNew c alg i (get_or bs i b).value
+-- the handles hold the callers of one new memory under the algorithm
+pub record HoldNew (c : Config) (alg : Alg) (hs : List Handle) : Type 0 where
+  pub callers : List CheckedCaller
+  pub count : length callers ≡ length hs
+  pub held : EachHolds callers hs
+  pub new : AreNew c alg callers
 
 -- under the algorithm of that number
-abbrev pub EachNewUnder : Option Alg → Config → List Handle → Type 0
-EachNewUnder None c hs = ⊥
-EachNewUnder (Some alg) c hs = EachNew c alg hs
+abbrev pub HoldNewUnder : Option Alg → Config → List Handle → Type 0
+HoldNewUnder None c hs = ⊥
+HoldNewUnder (Some alg) c hs = HoldNew c alg hs
 
--- no such algorithm, a handle that holds a caller, or what tx_checked refused
+-- they hold the callers of one new memory under which nothing was installed, and what the first of them met is why
+pub record HoldHindered (c : Config) (hs : List Handle) : Type 0 where
+  pub callers : List CheckedCaller
+  pub held : EachHolds callers hs
+  pub hindrance : Hindrance
+  pub hindered : AreHindered c hindrance callers
+
+-- no such algorithm, a handle that holds a caller, or what tx_checked refused, and handed out no callers
 abbrev pub IsOpenRefusal : ℕ → Config → List Handle → ℕ → Type 0
-IsOpenRefusal number c hs k = ((k ≡ 21) × (algorithm_numbered number ≡ None)) ⊎ (((k ≡ 24) × (NoneHeld hs → ⊥)) ⊎ ((e : OpenError) × (k ≡ open_code e) × IsOpenError c e))
+IsOpenRefusal number c hs k = ((k ≡ 21) × (algorithm_numbered number ≡ None)) ⊎ (((k ≡ 24) × (NoneHeld hs → ⊥)) ⊎ ((e : OpenError) × (k ≡ open_code e) × IsOpenError c e []))
 
 -- the sizes, for so many callers
 abbrev pub config_for : Sizes → ℕ → Config

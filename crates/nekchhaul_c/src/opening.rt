@@ -1,8 +1,7 @@
 //! The opening of a memory, for C.
-ghost use Rattle.std.specs.Prelude.{◌≡◌, ◌≢◌, ◌≤◌, All, length, true, false, IfOk, IfErr};
-ghost use Rattle.nekchhaul_c.specs.Opens.{insides, NoneHeld, EachNew, EachNewBoxed, EachNewUnder, IsOpenRefusal, config_for};
+ghost use Rattle.std.specs.Prelude.{◌≡◌, ◌≢◌, ◌≤◌, All, length, true, false, IfOk, OnOk, OnErr};
+ghost use Rattle.nekchhaul_c.specs.Opens.{insides, NoneHeld, EachHolds, HoldHindered, HoldNewUnder, IsOpenRefusal, config_for, values_in};
 ghost use Rattle.nekchhaul_c.specs.Says.{algorithm_numbered};
-ghost use Rattle.tx_checked.specs.Ready.{IsOpenError};
 
 use crate::exports::algorithm_by_number;
 use crate::handle::Handle;
@@ -10,8 +9,9 @@ use crate::status;
 use std::alloc::Global;
 use stm_model::alg::Alg;
 use stm_model::config::Config;
+use stm_model::memory::Memory;
 use tx_checked::checked_caller::CheckedCaller;
-use tx_checked::opening::{OpenError, open};
+use tx_checked::opening::{NotOpened, OpenError, open};
 
 /// The sizes of a memory, as C gives them.
 #[repr(C)]
@@ -25,7 +25,8 @@ pub struct Sizes {
     pub clock: u64,
 }
 
-/// Opens a memory under an algorithm, with a caller for each place of `callers`. Where it is refused, no caller changes.
+/// Opens a memory under an algorithm, with a caller for each place of `callers`. At BUSY another caller was in the way of
+/// the install, and the memory is open under CGL; where it is refused otherwise, no handle changes.
 #[unsafe(no_mangle)]
 pub extern "C" fn nekchhaul_open(
     alloc: Global,
@@ -35,11 +36,15 @@ pub extern "C" fn nekchhaul_open(
 ) -> u32
     ensures empty { result ≡ 0 → NoneHeld callers.old }
     ensures new { result ≡ 0
-        → EachNewUnder (algorithm_numbered algorithm) (config_for sizes.now (length callers.old))
+        → HoldNewUnder (algorithm_numbered algorithm) (config_for sizes.now (length callers.old))
         callers.new }
+    ensures hindered { result ≡ 4
+        → NoneHeld callers.old
+        × HoldHindered (config_for sizes.now (length callers.old)) callers.new }
     ensures refused { result ≢ 0
+        → result ≢ 4
         → IsOpenRefusal algorithm (config_for sizes.now (length callers.old)) callers.old result }
-    ensures kept { result ≢ 0 → insides callers.new ≡ insides callers.old }
+    ensures kept { result ≢ 0 → result ≢ 4 → insides callers.new ≡ insides callers.old }
 {
     let Some(alg) = algorithm_by_number(algorithm) else {
         return status::ALGORITHM;
@@ -57,12 +62,21 @@ pub extern "C" fn nekchhaul_open(
         clock: sizes.clock,
         fence: true,
     };
-    match boxed(alloc, config, alg) {
-        Ok(checked_callers) => {
-            deal(config, alg, checked_callers, callers);
-            status::OK
-        }
-        Err(error) => status::of_open(error),
+    match open(alloc, config, alg) {
+        Ok(opened) => match hold_each(alloc, opened, callers) {
+            Ok(()) => status::OK,
+            Err(Memory) => status::MEMORY,
+        },
+        Err(
+            NotOpened {
+                error: OpenError::Busy(_),
+                callers: hindered,
+            },
+        ) => match hold_each(alloc, hindered, callers) {
+            Ok(()) => status::BUSY,
+            Err(Memory) => status::MEMORY,
+        },
+        Err(refused) => status::of_open(refused.error),
     }
 }
 
@@ -81,35 +95,46 @@ fn holds_one(callers: &mut [Handle]) -> bool
     false
 }
 
-/// Opens a memory, with each caller on the heap.
-fn boxed(alloc: Global, config: Config, alg: Alg) -> Result<Vec<Box<CheckedCaller>>, OpenError>
-    ensures count { IfOk result (λ boxes. length boxes.items ≡ config.callers) }
-    ensures new { IfOk result (λ boxes. EachNewBoxed config alg boxes.items) }
-    ensures refused { IfErr result (IsOpenError config) }
+/// Gives each handle its caller, or none where there is no memory for that.
+fn hold_each(
+    alloc: Global,
+    checked_callers: Vec<CheckedCaller>,
+    callers: &mut [Handle],
+) -> Result<(), Memory>
+    requires count { length checked_callers.items ≡ length callers.old }
+    ensures held { OnOk result (EachHolds checked_callers.items callers.new) }
+    ensures count { length callers.new ≡ length callers.old }
+    ensures kept { OnErr result (callers.new ≡ callers.old) }
 {
-    let checked_callers = open(alloc, config, alg)?;
+    let boxes = boxed(alloc, checked_callers)?;
+    deal(boxes, callers);
+    Ok(())
+}
+
+/// Each caller on the heap.
+fn boxed(
+    alloc: Global,
+    checked_callers: Vec<CheckedCaller>,
+) -> Result<Vec<Box<CheckedCaller>>, Memory>
+    ensures { IfOk result (λ boxes. values_in boxes.items ≡ checked_callers.items) }
+{
     let mut boxes = Vec::new(alloc);
     for checked_caller in checked_callers {
         let Ok(checked_caller) = Box::new(alloc, checked_caller) else {
-            return Err(OpenError::Memory);
+            return Err(Memory);
         };
         let Ok(()) = boxes.push(checked_caller) else {
-            return Err(OpenError::Memory);
+            return Err(Memory);
         };
     }
     Ok(boxes)
 }
 
 /// Gives each handle its caller.
-fn deal(
-    config: Config,
-    alg: Alg,
-    mut checked_callers: Vec<Box<CheckedCaller>>,
-    callers: &mut [Handle],
-)
+fn deal(mut checked_callers: Vec<Box<CheckedCaller>>, callers: &mut [Handle])
     requires count { length checked_callers.items ≡ length callers.old }
-    requires new { EachNewBoxed config alg checked_callers.items }
-    ensures { EachNew config alg callers.new }
+    ensures held { EachHolds (values_in checked_callers.items) callers.new }
+    ensures count { length callers.new ≡ length callers.old }
 {
     while let Some(checked_caller) = checked_callers.pop() {
         callers[checked_callers.len()].hold(checked_caller);

@@ -17,6 +17,9 @@ given c n (Committed time) u v w x grew made g s =
     let le = grew.front_rose in let lt = g.above in let rose = s.grows.front_rose in let at = g.front in
     record {
       made = s.made ∙ (g.made ∙ (λ i. made i ++ same i ∷ []));
+      back = ap (λ (f : Fenced). f.held) s.grows.fenced ∙ g.none.1;
+      meanwhile = g.since;
+      taken = g.taken ∙ ap (λ (f : Fenced). f.seen ++ g.since) grew.fenced;
       before = g.before;
       legal = subst (λ (es : List Entry). IsLegal Any (zeros c.words) c.clock es) (g.seen ∙ ap (λ (e : Entry). g.before ++ e ∷ []) same) g.legal;
       since = s.grows.later;
@@ -24,7 +27,7 @@ given c n (Committed time) u v w x grew made g s =
       later = omega (arith, le, lt);
       front = omega (arith, rose, at);
     }
-given c n Unchanged u v w x grew made g s = (s.made ∙ (g.0.made ∙ made), ap (λ (f : Fenced). is_empty f.log.writes) (sym grew.fenced) ∙ g.2)
+given c n Unchanged u v w x grew made g s = (s.made ∙ (g.0.made ∙ made), ap (λ (f : Fenced). f.held) s.grows.fenced ∙ g.1.1, ap (λ (f : Fenced). is_empty f.log.writes) (sym grew.fenced) ∙ g.2)
 given c n (ClockFull clock) u v w x grew made g s = (s.made ∙ (g.0.made ∙ made), s.grows.fenced ∙ (g.2 ∙ grew.fenced), g.4.limit)
 
 pub stays-closed : (c : Config) (n : ℕ) (r : Give) (v w : CallerState) → Gives Any c n r v w → StaysClosed v w

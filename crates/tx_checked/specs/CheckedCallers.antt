@@ -3,13 +3,18 @@ use Rattle.std.specs.Prelude.{ℕ, Bool, true, not, ◌≡◌, ◌==◌, ◌&&�
 use Rattle.std.specs.Arc.{arc_value}
 use Rattle.stm_model.specs.declared.alg.Alg.{Alg}
 use Rattle.stm_model.specs.declared.config.Config.{Config}
+use Rattle.stm_model.specs.declared.rule.AnyMem.{AnyMem}
+use Rattle.stm_rule.specs.declared.stm.Stm.{Stm}
 use Rattle.stm_rule.specs.Callers.{IsSameCaller}
 use Rattle.stm_tx.specs.Descs.{Serves, known, number}
 use Rattle.tx_answers.specs.CallerState.{CallerState}
 use Rattle.tx_checked.specs.declared.checked_caller.CheckedCaller.{CheckedCaller}
 
+abbrev pub memory_of : CheckedCaller → Stm AnyMem
+memory_of m = arc_value m.stm
+
 abbrev pub config_of : CheckedCaller → Config
-config_of m = (arc_value m.stm).config
+config_of m = (memory_of m).config
 
 abbrev pub number_of : CheckedCaller → ℕ
 number_of m = number m.desc

@@ -8,5 +8,6 @@ pub mod CheckedCallers
 pub mod Misuses
 pub mod Tells
 pub mod Ranges
+pub mod OneHistory
 pub mod Endings
 pub mod Ready

@@ -16,7 +16,7 @@ Any memory = Unit {0}
 
 -- only an attempt that is `Beside` a range may have to leave words alone
 abbrev pub IsInPhase : CallerPhase → CallerState → Type 0
-IsInPhase s v = (s ≡ Idle → IsIdle v) × (s ≡ Running → IsRunning v × (v.fence ≡ 0)) × (s ≡ Beside → IsRunning v) × (s ≡ Committing → v.running ≡ true) × (s ≡ Closing → HoldsClosed v)
+IsInPhase s v = (s ≡ Idle → IsIdle v) × (s ≡ Running → IsRunning v × (v.fence ≡ 0)) × (s ≡ Beside → IsRunning v) × (s ≡ Committing → (v.running ≡ true) × (v.committing ≡ true)) × (s ≡ Closing → HoldsClosed v)
 
 -- of so many words how many can be read and written without another look
 abbrev pub reach_at : CallerPhase → ℕ → ℕ

@@ -1,5 +1,5 @@
 -- What the calls on a range of words tell.
-use Rattle.std.specs.Prelude.{ℕ, ◌≡◌, ◌<◌, ◌≤◌, ◌++◌, ◌∷◌, [], true, List, length, Option, Some, None, Result, Ok, Err}
+use Rattle.std.specs.Prelude.{ℕ, ◌≡◌, ◌<◌, ◌≤◌, ◌++◌, ◌∷◌, [], true, false, List, length, Option, Some, None, Result, Ok, Err}
 use Rattle.stm_model.specs.declared.config.Config.{Config}
 use Rattle.stm_model.specs.declared.config.TheConstants.{CLOCK_LIMIT}
 use Rattle.stm_model.specs.Histories.{Entry, IsLegal}
@@ -37,10 +37,13 @@ pub record TakesOut (c : Config) (from count : ℕ) (v w : CallerState) : Type 0
   pub seen : w.fenced.seen ≡ v.seen ++ later
   pub front : v.front ≤ w.fenced.front
 
--- the direct reads and writes are one entry of a legal history, later than all that the caller had seen
+-- the direct reads and writes are one entry of a legal history, which begins with what was found as the range was taken, later than all that the caller had seen; and the range is back
 pub record GivesAt (c : Config) (n time : ℕ) (v w : CallerState) : Type 0 where
   pub made : w.made ≡ v.made ++ entry time n (length v.made) v.fenced.log ∷ []
+  pub back : w.fenced.held ≡ false
   pub before : List Entry
+  pub meanwhile : List Entry
+  pub taken : before ≡ v.fenced.seen ++ meanwhile
   pub legal : IsLegal Any (zeros c.words) c.clock (before ++ entry time n (length v.made) v.fenced.log ∷ [])
   pub since : List Entry
   pub seen : w.seen ≡ (before ++ entry time n (length v.made) v.fenced.log ∷ []) ++ since
@@ -50,7 +53,7 @@ pub record GivesAt (c : Config) (n time : ℕ) (v w : CallerState) : Type 0 wher
 -- a full clock leaves the range to the caller
 abbrev pub GivesBack : Config → ℕ → Give → CallerState → CallerState → Type 0
 GivesBack c n (gives.Committed time) v w = GivesAt c n time v w
-GivesBack c n gives.Unchanged v w = (w.made ≡ v.made) × (is_empty v.fenced.log.writes ≡ true)
+GivesBack c n gives.Unchanged v w = (w.made ≡ v.made) × (w.fenced.held ≡ false) × (is_empty v.fenced.log.writes ≡ true)
 GivesBack c n (gives.ClockFull clock) v w = (w.made ≡ v.made) × (w.fenced ≡ v.fenced) × (CLOCK_LIMIT ≤ clock)
 
 -- the call of that errand was refused so: nothing was taken, given or installed, for what is written down
@@ -68,7 +71,8 @@ pub record IsLeft (asked : Errand) (e : Refusal) (m n : CheckedCaller) : Type 0 
 abbrev pub HasTaken : ℕ → ℕ → CheckedCaller → CheckedCaller → Result (Unit {0}) Refusal → Type 0
 HasTaken from count m n (Ok r) =
     TakesOut (config_of m) from count (known_to m) (known_to n) × GrowsBeside (known_to m) (known_to n)
-    × ((known_to n).made ≡ (known_to m).made) × (n.phase ≡ Idle) × (n.range ≡ Some (record { from = from; count = count }))
+    × ((known_to n).made ≡ (known_to m).made) × ((known_to n).installs ≡ (known_to m).installs) × (n.phase ≡ Idle)
+    × (n.range ≡ Some (record { from = from; count = count }))
     × (n.refusal ≡ m.refusal) × (n.counts ≡ m.counts)
 HasTaken from count m n (Err e) = IsLeft (errands.Take from count) e m n × IsTakeRefused (config_of m) (number_of m) (is_closing m.phase) from count e (known_to m) (known_to n)
 
@@ -86,7 +90,7 @@ abbrev pub HasGiven : CheckedCaller → CheckedCaller → Result Give Refusal �
 HasGiven m n (Ok r) =
     GivesBack (config_of m) (number_of m) r (known_to m) (known_to n)
     × FindsFullAt (config_of m) (number_of m) (is_closing m.phase) r (known_to m) (known_to n) × GrowsBeside (known_to m) (known_to n)
-    × (n.phase ≡ Idle) × (n.range ≡ range_after r m.range) × (n.refusal ≡ give_refusal r m.refusal) × (n.counts ≡ m.counts)
+    × ((known_to n).installs ≡ (known_to m).installs) × (n.phase ≡ Idle) × (n.range ≡ range_after r m.range) × (n.refusal ≡ give_refusal r m.refusal) × (n.counts ≡ m.counts)
 HasGiven m n (Err e) = IsLeft errands.Give e m n × IsHeldUp (config_of m) (number_of m) (is_closing m.phase) e (known_to m) (known_to n)
 
 abbrev pub HasReadDirect : ℕ → CheckedCaller → CheckedCaller → ℕ → Type 0

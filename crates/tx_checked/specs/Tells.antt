@@ -129,6 +129,7 @@ HasRolled d m n r = Rolls Any (config_of m) (number_of m) d r (known_to m) (know
 abbrev pub HasDropped : ℕ → CheckedCaller → CheckedCaller → Unit {0} → Type 0
 HasDropped d m n r = Releases d (known_to m) (known_to n) × (n.range ≡ m.range) × (n.refusal ≡ m.refusal) × (n.counts ≡ m.counts)
 
+-- its logs are longer, and nothing else that it knows has changed
 abbrev pub HasReserved : ℕ → ℕ → CheckedCaller → CheckedCaller → Result (Unit {0}) Memory → Type 0
-HasReserved reads writes m n (Ok r) = Reserves reads writes (known_to m) (known_to n) × (n.range ≡ m.range) × (n.refusal ≡ m.refusal) × (n.counts ≡ m.counts)
+HasReserved reads writes m n (Ok r) = Reserves reads writes (known_to m) (known_to n) × (n.desc.view ≡ m.desc.view) × (n.range ≡ m.range) × (n.refusal ≡ m.refusal) × (n.counts ≡ m.counts)
 HasReserved reads writes m n (Err e) = n ≡ m

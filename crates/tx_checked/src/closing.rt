@@ -3,13 +3,15 @@ ghost use Rattle.std.specs.Prelude.{◌≡◌, ℕ, ◌<◌, ◌≤◌, None, So
 ghost use Rattle.rule_base.specs.Encodings.{fenced};
 ghost use Rattle.stm_model.specs.Histories.{memory_after};
 ghost use Rattle.stm_rule.specs.Callers.{IsOf, IsSameCaller};
-ghost use Rattle.stm_tx.specs.Descs.{known};
+ghost use Rattle.stm_tx.specs.Descs.{known, number};
 ghost use Rattle.tx_answers.specs.Answers.{HoldsClosed};
 ghost use Rattle.tx_answers.specs.CallerState.{IsIdle, zeros};
+ghost use Rattle.tx_answers.specs.Fences.{StaysBeside};
 ghost use Rattle.tx_checked.specs.Endings.{HasEnded};
 ghost use Rattle.tx_checked.specs.Errands.{is_closing};
 ghost use Rattle.tx_checked.specs.CheckedCallers.{config_of, known_to};
 ghost use Rattle.tx_checked.specs.Misuses.{ending};
+ghost use Rattle.tx_checked.specs.OneHistory.{IsOfCallers};
 ghost use Rattle.tx_checked.specs.Ranges.{GrowsBeside};
 ghost use Rattle.tx_checked.specs.Tells.{Tells};
 
@@ -19,6 +21,8 @@ use crate::misuse::Misuse;
 use crate::phase::CallerPhase;
 use crate::ranges::take_out;
 use crate::refusal::Refusal;
+use rule_base::layout::At;
+use std::marker::Brand;
 use stm_model::rule::AnyMem;
 use stm_rule::desc::Desc;
 use stm_rule::stm::Stm;
@@ -35,10 +39,11 @@ fn copy_out(desc: &mut Desc<AnyMem>, stm: &Stm<AnyMem>, words: &mut [u64])
     requires room { stm.now.config.words ≤ length words.old }
     ensures same { IsSameCaller desc.old desc.new }
     ensures idle { IsIdle (known desc.new) }
-    ensures held { (known desc.new).fenced.held ≡ true }
-    ensures seen { (known desc.new).fenced.seen ≡ (known desc.old).fenced.seen }
+    ensures range { (known desc.new).fenced
+        ≡ record (known desc.old).fenced { log = (known desc.new).fenced.log } }
     ensures grew { GrowsBeside (known desc.old) (known desc.new) }
     ensures made { (known desc.new).made ≡ (known desc.old).made }
+    ensures installs { (known desc.new).installs ≡ (known desc.old).installs }
     ensures beyond { (a : ℕ) → stm.now.config.words ≤ a
         → slice_index words.new a ≡ slice_index words.old a }
     ensures words { (a : ℕ) → a < stm.now.config.words
@@ -48,6 +53,19 @@ fn copy_out(desc: &mut Desc<AnyMem>, stm: &Stm<AnyMem>, words: &mut [u64])
     for a in 0..stm.config.words {
         words[a] = direct_read(desc, stm, a);
     }
+}
+
+/// Loads the clock, which shows that each entry that was found as words were taken out is of a caller of this memory.
+fn see_callers(desc: &mut Desc<AnyMem>, stm: &Stm<AnyMem>)
+    requires stm { IsOf desc.old stm.now }
+    ensures same { IsSameCaller desc.old desc.new }
+    ensures stays { StaysBeside (known desc.old) (known desc.new) }
+    ensures range { (known desc.new).fenced ≡ (known desc.old).fenced }
+    ensures callers { IsOfCallers stm.now.config (number desc.new) (known desc.new).made
+        (known desc.new).fenced.seen (known desc.new).fenced.front }
+{
+    let caller = desc.number;
+    stm.load_as::<Brand, usize>(&mut desc.seat, At::Clock, &caller);
 }
 
 impl CheckedCaller {
@@ -66,6 +84,7 @@ impl CheckedCaller {
                 self.phase = CallerPhase::Idle;
                 self.reach = 0;
                 copy_out(&mut self.desc, &self.stm, words);
+                see_callers(&mut self.desc, &self.stm);
                 Ok(Ok(()))
             }
             Err(refusal) => {

@@ -10,6 +10,7 @@ pub mod checked_caller;
 pub mod closing;
 pub mod counts;
 pub mod errand;
+pub mod laws;
 pub mod learning;
 pub mod marks;
 pub mod misuse;

@@ -1,10 +1,10 @@
 //! The opening of a memory with its callers.
-ghost use Rattle.std.specs.Prelude.{◌≡◌, ◌<◌, All, None, length, IfOk, IfErr, OnOk};
+ghost use Rattle.std.specs.Prelude.{◌≡◌, ◌<◌, [], ◌∷◌, All, None, length, IfOk, IfErr, OnOk, OnErr};
 ghost use Rattle.std.specs.Arc.{arc_value};
 ghost use Rattle.stm_rule.specs.Callers.{AllOpened, IsOf};
 ghost use Rattle.stm_rule.specs.Refusals.{first_fault};
 ghost use Rattle.tx_atomic.specs.Callers.{IsReady};
-ghost use Rattle.tx_checked.specs.Ready.{AreFresh, AreNew, IsUnused, IsOpenError, IsOpenHindered, descs_in};
+ghost use Rattle.tx_checked.specs.Ready.{AreFresh, AreNew, IsUnused, IsNotOpened, IsHinderedFirst, descs_in};
 
 use crate::checked_caller::CheckedCaller;
 use crate::counts::Counts;
@@ -23,7 +23,7 @@ use stm_rule::stm::Stm;
 use thiserror::Error;
 use tx_atomic::switching::{Hindrance, switch_at_one_look};
 
-/// Why a memory was not opened.
+/// Why a memory was not opened as asked.
 #[derive(Clone, Copy, Debug, Drop, PartialEq, Eq, Error)]
 pub enum OpenError {
     #[error("a number is out of its range, or memory was refused")]
@@ -34,36 +34,44 @@ pub enum OpenError {
     Busy(Hindrance),
 }
 
+/// A memory that wasn't opened as asked. At `Busy` it is open, under CGL, and these are its callers; else there are none.
+#[derive(Drop)]
+pub struct NotOpened {
+    pub error: OpenError,
+    pub callers: Vec<CheckedCaller>,
+}
+
 /// Opens a memory of zeros, under the algorithm, and answers its callers, in order.
 ///
 /// # Errors
-/// Those of `Stm::new`. `Busy` where another caller was in the way of the install.
-pub fn open(alloc: Global, config: Config, alg: Alg) -> Result<Vec<CheckedCaller>, OpenError>
+/// Those of `Stm::new`. `Busy` where another caller was in the way of the install: nobody else has the memory yet, but the
+/// proof of one caller's calls doesn't see that, so the callers are handed out with what the first of them met.
+pub fn open(alloc: Global, config: Config, alg: Alg) -> Result<Vec<CheckedCaller>, NotOpened>
     ensures count { IfOk result (λ checked_callers. length checked_callers.items ≡ config.callers) }
     ensures new { IfOk result (λ checked_callers. AreNew config alg checked_callers.items) }
     ensures in_range { OnOk result (first_fault config ≡ None) }
-    ensures refused { IfErr result (IsOpenError config) }
+    ensures refused { IfErr result (IsNotOpened config) }
 {
     let (stm, mut descs) = match Stm::new(alloc, config, AnyMem) {
         Ok(opened) => opened,
-        Err(error) => return Err(OpenError::Refused(error)),
+        Err(error) => return Err(NotOpened {
+            error: OpenError::Refused(error),
+            callers: Vec::new(alloc),
+        }),
     };
-    match install_first(&stm, &mut descs, alg) {
-        Ok(()) => {}
-        Err(hindrance) => return Err(OpenError::Busy(hindrance)),
-    }
-    let Ok(note_exchange) = NoteExchange::new(alloc, &descs[0], descs.len()) else {
-        return Err(OpenError::Memory);
+    let installed = install_first(&stm, &mut descs, alg);
+    let Ok(callers) = share(alloc, stm, descs) else {
+        return Err(NotOpened {
+            error: OpenError::Memory,
+            callers: Vec::new(alloc),
+        });
     };
-    let Ok(stm) = Arc::new(alloc, stm) else {
-        return Err(OpenError::Memory);
-    };
-    let Ok(note_exchange) = Arc::new(alloc, note_exchange) else {
-        return Err(OpenError::Memory);
-    };
-    match enlist(alloc, &stm, &note_exchange, descs) {
-        Ok(checked_callers) => Ok(checked_callers),
-        Err(Memory) => Err(OpenError::Memory),
+    match installed {
+        Ok(()) => Ok(callers),
+        Err(hindrance) => Err(NotOpened {
+            error: OpenError::Busy(hindrance),
+            callers,
+        }),
     }
 }
 
@@ -75,12 +83,34 @@ fn install_first(
 ) -> Result<(), Hindrance>
     requires opened { AllOpened stm.now 0 descs.old.items }
     requires some { 0 < length descs.old.items }
-    ensures fresh { OnOk result (AreFresh stm.now alg descs.new.items) }
-    ensures hindered { IfErr result (λ e.
-        (1 < stm.now.config.callers) × IsOpenHindered stm.now.config e) }
+    ensures fresh { OnOk result (AreFresh stm.now (alg ∷ []) descs.new.items) }
+    ensures bare { OnErr result (AreFresh stm.now [] descs.new.items) }
+    ensures hindered { IfErr result (λ e. IsHinderedFirst stm.now.config e descs.new.items) }
     ensures count { length descs.new.items ≡ length descs.old.items }
 {
     switch_at_one_look(&mut descs[0], stm, alg)
+}
+
+/// A caller for each descriptor, in their order, with its share of the memory and of a note exchange.
+fn share(
+    alloc: Global,
+    stm: Stm<AnyMem>,
+    descs: Vec<Desc<AnyMem>>,
+) -> Result<Vec<CheckedCaller>, Memory>
+    requires some { 0 < length descs.items }
+    requires ready { All (IsReady stm) descs.items }
+    ensures descs { IfOk result (λ checked_callers. descs_in checked_callers.items ≡ descs.items) }
+    ensures unused { IfOk result (λ checked_callers.
+        All (IsUnused stm) checked_callers.items) }
+{
+    let note_exchange = NoteExchange::new(alloc, &descs[0], descs.len())?;
+    let Ok(stm) = Arc::new(alloc, stm) else {
+        return Err(Memory);
+    };
+    let Ok(note_exchange) = Arc::new(alloc, note_exchange) else {
+        return Err(Memory);
+    };
+    enlist(alloc, &stm, &note_exchange, descs)
 }
 
 /// A caller for each descriptor, in their order.
@@ -95,7 +125,7 @@ fn enlist(
     requires ready { All (IsReady (arc_value stm.now)) descs.items }
     ensures descs { IfOk result (λ checked_callers. descs_in checked_callers.items ≡ descs.items) }
     ensures unused { IfOk result (λ checked_callers.
-        All (IsUnused (arc_value stm.now).config) checked_callers.items) }
+        All (IsUnused (arc_value stm.now)) checked_callers.items) }
 {
     let mut checked_callers = Vec::with_capacity(alloc, descs.len())?;
     for desc in descs {

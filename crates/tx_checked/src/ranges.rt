@@ -49,7 +49,7 @@ pub(crate) fn take_out(
         (TakesOut stm.now.config from count (known desc.old) (known desc.new)) }
     ensures kept { OnErr result (Grows (known desc.old) (known desc.new)) }
     ensures rises { OnErr result ((known desc.new).rises ≡ (known desc.old).rises) }
-    ensures installs { OnErr result ((known desc.new).installs ≡ (known desc.old).installs) }
+    ensures installs { (known desc.new).installs ≡ (known desc.old).installs }
     ensures refused { IfErr result (λ e.
         IsTakeRefused stm.now.config (number desc.old) closing from count e (known desc.old)
         (known desc.new)) }
@@ -225,7 +225,7 @@ fn put_back(desc: &mut Desc<AnyMem>, stm: &Stm<AnyMem>, closing: bool) -> Result
     ensures kept { OnErr result (Grows (known desc.old) (known desc.new)) }
     ensures made { OnErr result ((known desc.new).made ≡ (known desc.old).made) }
     ensures rises { OnErr result ((known desc.new).rises ≡ (known desc.old).rises) }
-    ensures installs { OnErr result ((known desc.new).installs ≡ (known desc.old).installs) }
+    ensures installs { (known desc.new).installs ≡ (known desc.old).installs }
     ensures held_up { IfErr result (λ e.
         IsHeldUp stm.now.config (number desc.old) closing e (known desc.old) (known desc.new)) }
 {

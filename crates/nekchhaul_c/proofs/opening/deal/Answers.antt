@@ -1,15 +1,27 @@
-use Rattle.std.proofs.Common.{◌≡◌, ◌<◌, ◌∙◌, ◌++◌, ◌∷◌, [], length, length-append, sym, ap, subst, arith}
-use Rattle.std.proofs.lemmas.List.{length-set}
-use Rattle.tx_checked.specs.Ready.{IsNew}
-use Rattle.nekchhaul_c.specs.Opens.{EachNewBoxed, HoldsNew}
+use Rattle.std.proofs.Common.{ℕ, ◌≡◌, ◌<◌, ◌∙◌, ◌++◌, ◌∷◌, [], List, length, length-append, get_or, sym, ap, subst, arith}
+use Rattle.std.proofs.lemmas.List.{get_or-map, length-set}
+use Rattle.std.specs.declared.alloc.Global.{Global}
+use Rattle.std_alloc.specs.declared.boxed.Box.{Box}
+use Rattle.tx_checked.specs.declared.checked_caller.CheckedCaller.{CheckedCaller}
+use Rattle.nekchhaul_c.specs.Opens.{HoldsAt, IsAt, value_in, values_in}
 use Rattle.nekchhaul_c.proofs.Dealing.{dealt-more, each-first, each-last, at-none}
 use Rattle.nekchhaul_c.proofs.opening.deal.Goals as goal
+
+pub loop-checked_caller-init : goal.loop-checked_caller-init
+loop-checked_caller-init c =
+    let bs = c.args.checked_callers.items in
+    let full = c.requires in
+    record {
+      count = search rules;
+      low = omega (arith, full);
+      new = λ i b lt d. get_or-map value_in bs i b d lt;
+      dealt = λ k d le lt. absurd (omega (arith, full, le, lt));
+    }
 
 pub loop-checked_caller-preserved : goal.loop-checked_caller-preserved
 loop-checked_caller-preserved c =
     let at = c.loop-checked_caller.invariant in
-    let config = c.args.config in
-    let alg = c.args.alg in
+    let ms = values_in c.args.checked_callers.items in
     let callers = c.loop-checked_caller.callers in
     let box = c.in-Some.checked_caller in
     let rest = c.pop.new.self.items in
@@ -20,21 +32,21 @@ loop-checked_caller-preserved c =
     let was = at.low in
     let low : place < length callers = omega (arith, was, many, here) in
     let kept = length-set callers place c.hold.new.self in
-    let all = subst (EachNewBoxed config alg) popped at.new in
-    let last : IsNew config alg (length rest) box.value = each-last (λ i b. IsNew config alg i b.value) rest box all in
+    let all = subst (λ (l : List (Box CheckedCaller Global)). (i : ℕ) (b : Box CheckedCaller Global) → i < length l → IsAt ms i (get_or l i b).value) popped at.new in
+    let last : IsAt ms (length rest) box.value = each-last (λ i b. IsAt ms i b.value) rest box all in
     record {
       count = kept ∙ at.count;
       low = omega (arith, was, many, kept);
-      new = each-first (λ i b. IsNew config alg i b.value) rest box all;
+      new = each-first (λ i b. IsAt ms i b.value) rest box all;
       dealt =
           λ k d le lt.
-          dealt-more (HoldsNew config alg) place callers c.hold.new.self low
-          (box.value, c.hold.ensures, subst (λ j. IsNew config alg j box.value) (sym here) last)
+          dealt-more (HoldsAt ms) place callers c.hold.new.self low
+          (box.value, c.hold.ensures, subst (λ j. IsAt ms j box.value) (sym here) last)
           (λ j e l m. at.dealt j e (omega (arith, l, here, many)) m) k d (omega (arith, le, here)) lt;
     }
 
-pub returns : goal.returns
-returns c =
+pub returns-clause-held : goal.returns-clause-held
+returns-clause-held c =
     let empty = at-none _ _ c.pop.result c.in_default.not-Some c.pop.ensures.cases in
     let long : length c.loop-checked_caller.checked_callers.items ≡ 0 = sym c.loop-checked_caller.checked_callers.ok.0 ∙ empty.0 in
     λ i h lt. c.loop-checked_caller.invariant.dealt i h (omega (arith, long)) lt

@@ -15,13 +15,12 @@ loop-a-preserved c =
     record {
       same = search rules;
       idle = search rules;
-      held = search rules;
-      number = search rules;
+      range = search rules;
       unchanged = search rules;
-      seen = search rules;
       grew = beside-trans (known c.args.desc.now) v w at.grew (beside-stays v w c.direct_read.ensures.reads.stays);
       beyond = λ k le. let ne : k ≢ c.loop-a.a = omega (arith, le, low) in rw get_or-set_other (at.beyond k le);
       made = search rules;
+      installs = search rules;
       long = search rules;
       words = search rules;
     }

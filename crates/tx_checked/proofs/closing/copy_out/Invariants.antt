@@ -11,13 +11,12 @@ abbrev pub invariant-loop-a : goal.invariant-loop-a
 invariant-loop-a l = record {
   same : IsSameCaller l.fn.desc l.desc;
   idle : IsIdle (known l.desc);
-  held : (known l.desc).fenced.held ≡ true;
-  number : (known l.desc).fenced.number ≡ (known l.fn.desc).fenced.number;
+  range : (known l.desc).fenced ≡ record (known l.fn.desc).fenced { log = (known l.desc).fenced.log };
   unchanged : (known l.desc).fenced.log.writes ≡ [];
-  seen : (known l.desc).fenced.seen ≡ (known l.fn.desc).fenced.seen;
   grew : GrowsBeside (known l.fn.desc) (known l.desc);
   beyond : (k : ℕ) → l.stm.config.words ≤ k → slice_index l.words k ≡ slice_index l.fn.words k;
   made : (known l.desc).made ≡ (known l.fn.desc).made;
+  installs : (known l.desc).installs ≡ (known l.fn.desc).installs;
   long : length l.words ≡ length l.fn.words;
   words : (k : ℕ) → k < l.a → slice_index l.words k ≡ slice_index (memory_after (known l.fn.desc).fenced.seen (zeros l.stm.config.words)) k;
 }

@@ -44,10 +44,10 @@ loop-desc-preserved c =
       ready = all-tail (IsReady stm) desc rest (subst (All (IsReady stm)) steps at.invariant.ready);
       descs = ap (λ l. l ++ rest) pushed ∙ (append_assoc (descs_in checked_callers) (desc ∷ []) rest ∙ (ap (λ l. descs_in checked_callers ++ l) (sym steps) ∙ at.invariant.descs));
       unused =
-          subst (All (IsUnused stm.config)) (sym c.push_reserved.ensures.items)
-          (All-push (IsUnused stm.config) checked_callers _ at.invariant.unused
+          subst (All (IsUnused stm)) (sym c.push_reserved.ensures.items)
+          (All-push (IsUnused stm) checked_callers _ at.invariant.unused
           (record {
-            config = ap (λ (s : Stm AnyMem). s.config) c.in-Ok.ensures;
+            memory = c.in-Ok.ensures;
             phase = refl;
             range = refl;
             refusal = refl;

@@ -10,7 +10,7 @@ abbrev pub invariant-loop-desc : goal.invariant-loop-desc
 invariant-loop-desc l = record {
   ready : All (IsReady (arc_value l.stm)) (into_iter_items l.desc-iterator);
   descs : descs_in l.checked_callers.items ++ into_iter_items l.desc-iterator ≡ into_iter_items l.initial.desc-iterator;
-  unused : All (IsUnused (arc_value l.stm).config) l.checked_callers.items;
+  unused : All (IsUnused (arc_value l.stm)) l.checked_callers.items;
   len : into_iter_len l.desc-iterator ≡ length (into_iter_items l.desc-iterator);
   room : vec_len l.checked_callers + length (into_iter_items l.desc-iterator) ≤ vec_capacity l.checked_callers;
 }

@@ -1,23 +1,27 @@
-use Rattle.std.proofs.Common.{◌∙◌, ap, arith, refl, subst}
-use Rattle.std.specs.Prelude.{All}
+use Rattle.std.proofs.Common.{◌∙◌, [], ◌∷◌, ap, arith}
 use Rattle.stm_model.specs.declared.config.Config.{Config}
-use Rattle.stm_model.specs.declared.rule.AnyMem.{AnyMem}
-use Rattle.stm_rule.specs.declared.stm.Stm.{Stm}
-use Rattle.tx_checked.specs.Ready.{IsUnused}
-use Rattle.tx_checked.proofs.Newcomers.{all-new}
+use Rattle.tx_checked.proofs.Newcomers.{all-hindered, all-new, installed-ready}
 use Rattle.tx_checked.proofs.opening.open.Goals as goal
 
-pub returns-in-Ok-enlist-clause-new : goal.returns-in-Ok-enlist-clause-new
-returns-in-Ok-enlist-clause-new c =
-    let checked_callers = c.in-Ok-enlist.checked_callers.items in
-    let sizes = ap (λ (s : Stm AnyMem). s.config) c.in-Ok-new-2.ensures.ok ∙ c.in-Ok.ensures.stm.0 in
-    let unused = subst (λ (k : Config). All (IsUnused k) checked_callers) sizes c.in-Ok-enlist.ensures.unused in
-    all-new c.in-Ok.opened.0 c.args.config c.args.alg c.install_first.new.descs.items checked_callers c.in-Ok-install_first.ensures.fresh c.in-Ok-enlist.ensures.descs unused
-
-pub install_first-requires-clause-some : goal.install_first-requires-clause-some
-install_first-requires-clause-some c =
+pub install_first-installed-requires-clause-some : goal.install_first-installed-requires-clause-some
+install_first-installed-requires-clause-some c =
     let stm = c.in-Ok.opened.0 in
     let count = c.in-Ok.ensures.descs.1 in
     let asked = ap (λ (k : Config). k.callers) c.in-Ok.ensures.stm.0 in
     let least = stm.ranges.callers.0 in
     omega arith
+
+pub returns-in-Ok-installed-clause-new : goal.returns-in-Ok-installed-clause-new
+returns-in-Ok-installed-clause-new c =
+    let shared = c.in-Ok-share.ensures in
+    all-new c.in-Ok.opened.0 c.args.config (c.args.alg ∷ []) c.install_first-installed.new.descs.items c.in-Ok-share.callers.items
+    c.in-Ok.ensures.stm.0 c.in-Ok-installed.ensures.fresh shared.descs shared.unused
+
+pub returns-in-Err-installed-clause-refused : goal.returns-in-Err-installed-clause-refused
+returns-in-Err-installed-clause-refused c =
+    let shared = c.in-Ok-share.ensures in
+    let met = c.in-Err-installed.ensures in (
+      c.in-Ok.ensures.in_range,
+      all-hindered c.in-Ok.opened.0 c.args.config c.in-Err-installed.hindrance c.install_first-installed.new.descs.items c.in-Ok-share.callers.items
+          c.in-Ok.ensures.stm.0 (met.count ∙ c.in-Ok.ensures.descs.1) met.bare met.hindered shared.descs shared.unused,
+    )

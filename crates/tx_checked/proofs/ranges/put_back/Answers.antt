@@ -1,4 +1,4 @@
-use Rattle.std.proofs.Common.{ℕ, subst}
+use Rattle.std.proofs.Common.{ℕ, ◌∙◌, subst}
 use Rattle.stm_tx.specs.Descs.{known, number}
 use Rattle.tx_atomic.specs.AttemptLaws.{same-number}
 use Rattle.tx_checked.specs.Ranges.{GivesBack}
@@ -32,3 +32,10 @@ returns-clause-grew c =
     let w = known c.give_back-answer.new.desc in
     let stays = stays-closed c.args.stm.now.config (number c.close_alone.new.desc) c.give_back-answer.result v w c.give_back-answer.ensures.gives in
     beside-between (known c.args.desc.now) v w (known c.reopen.new.desc) c.close_alone.ensures.grew stays.grows c.reopen.ensures.reopens.grows
+
+pub returns-clause-installs : goal.returns-clause-installs
+returns-clause-installs c =
+    let v = known c.close_alone.new.desc in
+    let w = known c.give_back-answer.new.desc in
+    let stays = stays-closed c.args.stm.now.config (number c.close_alone.new.desc) c.give_back-answer.result v w c.give_back-answer.ensures.gives in
+    c.reopen.ensures.reopens.installs ∙ (stays.installs ∙ c.close_alone.ensures.installs)
