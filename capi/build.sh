@@ -72,9 +72,9 @@ else
     case ${1:-} in --*) has python3 || fail "no python3 is there, which $1 needs: apt-get install python3" ;; esac
     kit=${RATTLE_KIT:-$(dirname "$(rt doc)")}
     case ${1:-} in
-    --unproved) follow "$here/unproved" nekchhaul_c.o ;;
-    --asan) flags=-fsanitize=address to=$to/asan && follow "$here/unproved" nekchhaul_c.o address ;;
-    --tsan) flags=-fsanitize=thread to=$to/tsan && follow "$here/unproved" nekchhaul_c.o thread ;;
+    --unproved) follow "$here/../tools/unproved" object nekchhaul_c.o ;;
+    --asan) flags=-fsanitize=address to=$to/asan && follow "$here/../tools/unproved" object nekchhaul_c.o address ;;
+    --tsan) flags=-fsanitize=thread to=$to/tsan && follow "$here/../tools/unproved" object nekchhaul_c.o thread ;;
     "")
         cd "$crates/nekchhaul_c"
         if [ -d ../tx_checked/out/rlib/tx_checked.rlib ] && ! ls ../*/out/rlib/stamp >"$room/stamps" 2>/dev/null; then
