@@ -8,6 +8,13 @@ use std::alloc::Global;
 use std::sync::Wait;
 use std::test::Fail;
 use std::thread::Threads;
+use stm_cli::reading::Files;
+
+/// A command line that names no file.
+pub const NO_FILES: Files = Files {
+    first: None,
+    report: None,
+};
 
 const HEADER: &str =
     "stm 1\nwords 8\ncallers 1\nrecords 4\nring 4\nreads 256\nwrites 256\nclock 0\nalg CGL\nstructs off\n";
@@ -128,6 +135,7 @@ pub fn told_of(
     room: usize,
 ) -> Result<Option<String>, Fail> {
     let mut source = MemSource::new(text.as_bytes().to_vec(alloc)?, takes.to_vec(alloc)?);
+    let mut report = MemSource::new(Vec::new(alloc), Vec::new(alloc));
     let mut sink = MemSink::new(alloc, room, Vec::new(alloc))?;
     let mut why = None;
     let status = bench(
@@ -135,12 +143,38 @@ pub fn told_of(
         alloc,
         words,
         &mut source,
+        &mut report,
         &mut sink,
         &Open,
         &mut None,
         &mut why,
     );
-    Ok(told(alloc, status, why)?)
+    Ok(told(alloc, status, why, &NO_FILES)?)
+}
+
+/// What `bench` answers and writes over a text and another of a report.
+pub fn outcome_apart(
+    rt: &(impl Threads + Wait + Sync),
+    alloc: Global,
+    words: &[&str],
+    text: &str,
+    told: &str,
+) -> Result<(Status, String), Fail> {
+    let mut source = MemSource::new(text.as_bytes().to_vec(alloc)?, Vec::new(alloc));
+    let mut report = MemSource::new(told.as_bytes().to_vec(alloc)?, Vec::new(alloc));
+    let mut sink = MemSink::new(alloc, 4096, Vec::new(alloc))?;
+    let status = bench(
+        rt,
+        alloc,
+        words,
+        &mut source,
+        &mut report,
+        &mut sink,
+        &Open,
+        &mut None,
+        &mut None,
+    );
+    Ok((status, String::from_utf8(sink.held().to_vec(alloc)?)?))
 }
 
 /// What [`outcome`] gives, through this turnstile.
@@ -154,6 +188,7 @@ pub fn outcome_through(
     turnstile: &(impl Turnstile + Sync),
 ) -> Result<(Status, String), Fail> {
     let mut source = MemSource::new(text.as_bytes().to_vec(alloc)?, takes.to_vec(alloc)?);
+    let mut report = MemSource::new(Vec::new(alloc), Vec::new(alloc));
     let mut sink = MemSink::new(alloc, room, Vec::new(alloc))?;
     let mut last = None;
     let status = bench(
@@ -161,6 +196,7 @@ pub fn outcome_through(
         alloc,
         words,
         &mut source,
+        &mut report,
         &mut sink,
         turnstile,
         &mut last,

@@ -33,12 +33,12 @@ right policy text (Some c) said was =
     )
 
 module _ {S : Type 0} (left : S → Option (List ℕ)) (faults : S → ℕ) {K : Type 0} (held : K → Option (List ℕ)) (broken : K → ℕ) where
-  wrote-right : (source source' : S) (words : List (Bor (List ℕ))) (sink sink' : K) (last last' : Option Ended) (policy : Policy)
-      → Asks (texts_of words) (commands.Run policy) → Wrote left faults source source' words held broken sink sink' last last' Done
+  wrote-right : (source source' report report' : S) (words : List (Bor (List ℕ))) (sink sink' : K) (last last' : Option Ended) (policy : Policy)
+      → Asks (texts_of words) (commands.Run policy) → Wrote left faults source source' report report' words held broken sink sink' last last' Done
       → ReadAndRan left source held sink sink' last' policy
-  wrote-right source source' words sink sink' last last' policy asks w =
+  wrote-right source source' report report' words sink sink' last last' policy asks w =
       let same : commands.Run policy ≡ w.says.command = w.says.alone (commands.Run policy) asks in
-      let says : HasRead left faults source source' most_read (λ text. SaidOf Run policy text Done w.closed w.said) = subst (λ (command : Command). SaysFor left faults source source' command Done w.closed w.said) (sym same) w.says.says in
+      let says : HasRead left faults source source' most_read (λ text. SaidOf Run policy text Done w.closed w.said) = (subst (λ (command : Command). SaysFor left faults source source' report report' command Done w.closed w.said) (sym same) w.says.says).0 in
       let ran = right policy says.text w.closed w.said says.of in
       record {
         text = says.text;
@@ -51,4 +51,4 @@ module _ {S : Type 0} (left : S → Option (List ℕ)) (faults : S → ℕ) {K :
       }
 
   pub headline : Headline left faults held broken
-  headline source source' words sink sink' last last' policy asks outcome = wrote-right source source' words sink sink' last last' policy asks outcome
+  headline source source' report report' words sink sink' last last' policy asks outcome = wrote-right source source' report report' words sink sink' last last' policy asks outcome

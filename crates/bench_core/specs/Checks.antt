@@ -1,8 +1,15 @@
 -- What is said of a text under `check`.
-use Rattle.std.specs.Prelude.{ℕ, ◌≡◌, List}
+use Rattle.std.specs.Prelude.{ℕ, ◌≡◌, List, Option, Ok, Err}
+use Rattle.stm_script.specs.declared.workload.Workload.{Workload}
+use Rattle.stm_text.specs.Grammar.{workload_of}
+use Rattle.stm_text.specs.declared.parse.Mode.TheVariants.{Step as Stepwise}
+use Rattle.stm_check.specs.Apart.{FindsApart}
 use Rattle.stm_check.specs.Checks.{IsYes, IsNo, IsFaulty}
+use Rattle.stm_check.specs.declared.checking.Finding.{Finding}
+use Rattle.stm_check.specs.declared.checking.Finding.TheVariants as findings
+use Rattle.stm_check.specs.declared.wanted.Wanted.{Wanted}
 use Rattle.bench_core.specs.declared.status.Status.{Status}
-use Rattle.bench_core.specs.declared.status.Status.TheVariants.{Ok as Done, Usage, Refused, ReadFault, WriteFault, Memory, ClockFull, No}
+use Rattle.bench_core.specs.declared.status.Status.TheVariants.{Ok as Done, Refused, No}
 use Rattle.bench_core.specs.Messages.{refused_line, yes_line, no_line}
 
 -- `yes` exactly of a workload and a report that replays it, `no` exactly of a workload and a report that doesn't, and else the first fault
@@ -11,3 +18,19 @@ SaidOfCheck text Done said = IsYes text × (said ≡ yes_line)
 SaidOfCheck text (No line) said = IsNo text line × (said ≡ no_line line)
 SaidOfCheck text (Refused line code) said = IsFaulty text line code × (said ≡ refused_line line code)
 SaidOfCheck text status said = ⊥
+
+-- the same of two texts: a check of both comes to this
+abbrev pub Found : List ℕ → List ℕ → Finding → Type 0
+Found text told finding = (wanted : Option Wanted) × FindsApart text told finding wanted
+
+abbrev pub SaidOfApart : List ℕ → List ℕ → Status → List ℕ → Type 0
+SaidOfApart text told Done said = Found text told findings.Yes × (said ≡ yes_line)
+SaidOfApart text told (No line) said = Found text told (findings.No line) × (said ≡ no_line line)
+SaidOfApart text told (Refused line code) said = Found text told (findings.Faulty line code) × (said ≡ refused_line line code)
+SaidOfApart text told status said = ⊥
+
+-- `yes` exactly of a workload's text, and else its first fault
+abbrev pub SaidOfAlone : List ℕ → Status → List ℕ → Type 0
+SaidOfAlone text Done said = ((w : Workload) × (workload_of Stepwise text ≡ Ok w)) × (said ≡ yes_line)
+SaidOfAlone text (Refused line code) said = (workload_of Stepwise text ≡ Err (line, code)) × (said ≡ refused_line line code)
+SaidOfAlone text status said = ⊥

@@ -62,5 +62,5 @@ pub record ReadAndRan {S : Type 0} (left : S → Option (List ℕ)) (source : S)
 -- so it is where the words asked for `run`, and the call answered status 0
 abbrev pub Headline : {S : Type 0} (left : S → Option (List ℕ)) (faults : S → ℕ) {K : Type 0} (held : K → Option (List ℕ)) (broken : K → ℕ) → Type 0
 Headline {S = S} left faults {K = K} held broken =
-    (source source' : S) (words : List (Bor (List ℕ))) (sink sink' : K) (last last' : Option Ended) (policy : Policy) → Asks (texts_of words) (commands.Run policy)
-    → IsOutcome left faults source source' words held broken sink sink' last last' Done → ReadAndRan left source held sink sink' last' policy
+    (source source' report report' : S) (words : List (Bor (List ℕ))) (sink sink' : K) (last last' : Option Ended) (policy : Policy) → Asks (texts_of words) (commands.Run policy)
+    → IsOutcome left faults source source' report report' words held broken sink sink' last last' Done → ReadAndRan left source held sink sink' last' policy

@@ -1,5 +1,5 @@
 -- What a call of `bench` read and wrote, by the status that it answers.
-use Rattle.std.specs.Prelude.{ℕ, ◌≡◌, ◌≤◌, ◌++◌, false, length, List, Option, Some, None, Ok, Err, MatchOption}
+use Rattle.std.specs.Prelude.{ℕ, ◌≡◌, ◌≤◌, ◌++◌, ◌⊎◌, false, length, List, Option, Some, None, Ok, Err, MatchOption}
 use Rattle.std.specs.Borrow.{Bor}
 use Rattle.stm_profile.specs.declared.policy.Policy.{Policy}
 use Rattle.stm_profile.specs.declared.policy.Policy.TheVariants.{Fixed}
@@ -13,9 +13,9 @@ use Rattle.stm_text.specs.declared.parse.Mode.TheVariants.{Run, Step as Stepwise
 use Rattle.stm_text.specs.Grammar.{workload_of}
 use Rattle.stm_text.specs.Reports.{ReportFits, report_bytes}
 use Rattle.bench_core.specs.declared.status.Status.{Status}
-use Rattle.bench_core.specs.declared.status.Status.TheVariants.{Ok as Done, Usage, Refused, ReadFault, WriteFault, Memory, ClockFull, No}
-use Rattle.bench_core.specs.Checks.{SaidOfCheck}
-use Rattle.bench_core.specs.Messages.{usage_line, read_fault_line, refused_line, clock_full_line}
+use Rattle.bench_core.specs.declared.status.Status.TheVariants.{Ok as Done, Help, Usage, Refused, ReadFault, WriteFault, Memory, ClockFull, No}
+use Rattle.bench_core.specs.Checks.{SaidOfCheck, SaidOfAlone, SaidOfApart}
+use Rattle.bench_core.specs.Messages.{help_text, usage_line, read_fault_line, refused_line, clock_full_line}
 use Rattle.stm_driver.specs.Runs.{IsShown, IsFull, IsTraced, IsCut}
 use Rattle.stm_trace.specs.declared.line.Line.{Line}
 use Rattle.stm_trace.specs.Texts.{trace_bytes}
@@ -24,6 +24,8 @@ use Rattle.stm_gen.specs.Summaries.{summary_bytes, summary_for, summary_of}
 use Rattle.stm_cli.specs.declared.command.Command.{Command}
 use Rattle.stm_cli.specs.declared.command.Command.TheVariants as commands
 use Rattle.stm_cli.specs.Asking.{Asks, texts_of}
+use Rattle.stm_cli.specs.Helping.{help_of}
+use Rattle.stm_cli.specs.declared.help.Topic.{Topic}
 
 -- the run went to its end, and what is said is a report that replays the workload and shows the closed memory's history; its numbers are words of the machine
 pub record RanToEnd (policy : Policy) (w : Workload) (closed : Ended) (said : List ℕ) : Type 0 where
@@ -142,29 +144,73 @@ module _ {S : Type 0} (left : S → Option (List ℕ)) (faults : S → ℕ) (sou
   SaysChecked ReadFault closed said = Unread most_checked said × (closed ≡ None)
   SaysChecked status closed said = ⊥
 
+  -- what is to be written by `check` of a workload alone; no closed memory is left
+  abbrev pub SaysAlone : Status → Option Ended → List ℕ → Type 0
+  SaysAlone Done closed said = HasRead most_read (λ text. SaidOfAlone text Done said) × (closed ≡ None)
+  SaysAlone (Refused line code) closed said = HasRead most_read (λ text. SaidOfAlone text (Refused line code) said) × (closed ≡ None)
+  SaysAlone ReadFault closed said = Unread most_read said × (closed ≡ None)
+  SaysAlone status closed said = ⊥
+
+-- two sources: of the text that is read first, and of a report of its own text
+module _ {S : Type 0} (left : S → Option (List ℕ)) (faults : S → ℕ) (source source' report report' : S) where
+  abbrev pub IsUnread : Type 0
+  IsUnread = IsUntouched left faults report report'
+
+  -- both texts were read
+  abbrev pub HasReadBoth : (List ℕ → List ℕ → Type 0) → Type 0
+  HasReadBoth Of = HasRead left faults source source' most_read (λ text. HasRead left faults report report' most_checked (λ told. Of text told))
+
+  -- one of the sources failed, the second only once the first was read
+  abbrev pub OneFailed : List ℕ → Type 0
+  OneFailed said =
+      (Unread left faults source source' most_read said × IsUnread)
+      ⊎ (HasRead left faults source source' most_read (λ text. Unit {0}) × Unread left faults report report' most_checked said)
+
+  -- what is to be written by `check` of two texts; no closed memory is left
+  abbrev pub SaysApart : Status → Option Ended → List ℕ → Type 0
+  SaysApart Done closed said = HasReadBoth (λ text told. SaidOfApart text told Done said) × (closed ≡ None)
+  SaysApart (No line) closed said = HasReadBoth (λ text told. SaidOfApart text told (No line) said) × (closed ≡ None)
+  SaysApart (Refused line code) closed said = HasReadBoth (λ text told. SaidOfApart text told (Refused line code) said) × (closed ≡ None)
+  SaysApart ReadFault closed said = OneFailed said × (closed ≡ None)
+  SaysApart status closed said = ⊥
+
   -- what is to be written by each command; `gen` reads nothing
   abbrev pub SaysFor : Command → Status → Option Ended → List ℕ → Type 0
-  SaysFor (commands.Run policy) status closed said = SaysRead Run policy status closed said
-  SaysFor commands.Step status closed said = SaysRead Stepwise Fixed status closed said
-  SaysFor (commands.Gen n t seed) status closed said = IsUntouched × SaidOfMade n t seed status closed said
-  SaysFor commands.Check status closed said = SaysChecked status closed said
+  SaysFor (commands.Run policy) status closed said = SaysRead left faults source source' Run policy status closed said × IsUnread
+  SaysFor commands.Step status closed said = SaysRead left faults source source' Stepwise Fixed status closed said × IsUnread
+  SaysFor (commands.Gen n t seed) status closed said = SaidOfMade n t seed status closed said × IsUntouched left faults source source' × IsUnread
+  SaysFor commands.Check status closed said = SaysChecked left faults source source' status closed said × IsUnread
+  SaysFor commands.CheckWorkload status closed said = SaysAlone left faults source source' status closed said × IsUnread
+  SaysFor commands.CheckApart status closed said = SaysApart status closed said
 
   module _ (words : List (Bor (List ℕ))) where
-    -- the words ask for no command
+    -- the words ask for no command, and for no help
     pub record Misused (said : List ℕ) : Type 0 where
       pub words_are : (command : Command) → Asks (texts_of words) command → ⊥
-      pub untouched : IsUntouched
+      pub no_help : help_of (texts_of words) ≡ None
+      pub untouched : IsUntouched left faults source source'
+      pub unread : IsUnread
       pub is : said ≡ usage_line
 
-    -- the words ask for this command and no other, and this is to be written by it
+    -- the words ask for this help
+    pub record Helped (said : List ℕ) : Type 0 where
+      pub topic : Topic
+      pub words_are : help_of (texts_of words) ≡ Some topic
+      pub untouched : IsUntouched left faults source source'
+      pub unread : IsUnread
+      pub is : said ≡ help_text topic
+
+    -- the words ask for no help, but for this command and no other, and this is to be written by it
     pub record Asked (status : Status) (closed : Option Ended) (said : List ℕ) : Type 0 where
       pub command : Command
       pub words_are : Asks (texts_of words) command
+      pub no_help : help_of (texts_of words) ≡ None
       pub alone : (other : Command) → Asks (texts_of words) other → other ≡ command
       pub says : SaysFor command status closed said
 
     -- what is to be written by each status, and why
     abbrev pub Says : Status → Option Ended → List ℕ → Type 0
+    Says Help closed said = Helped said × (closed ≡ None)
     Says Usage closed said = Misused said × (closed ≡ None)
     Says ReadFault closed said = Asked ReadFault closed said
     Says Done closed said = Asked Done closed said
@@ -174,12 +220,15 @@ module _ {S : Type 0} (left : S → Option (List ℕ)) (faults : S → ℕ) (sou
     Says WriteFault closed said = ⊥
     Says Memory closed said = ⊥
 
-    -- a call that was refused memory took at most the first 150,994,945 bytes, but for `check` the first 16,777,217, and under `gen` none; no take of it failed
+    -- a call that was refused memory took at most the first 150,994,945 bytes of a source, but for `check` of one text the first 16,777,217 of the first one, and of the second one none but for `check` of two; under `gen` it took none; no take failed
     pub record Spared : Type 0 where
       pub lost : TookSome most_checked (left source) (left source')
       pub run : (Asks (texts_of words) commands.Check → ⊥) → TookSome most_read (left source) (left source')
       pub calm : faults source' ≡ faults source
-      pub drawn : (n t seed : ℕ) → Asks (texts_of words) (commands.Gen n t seed) → IsUntouched
+      pub drawn : (n t seed : ℕ) → Asks (texts_of words) (commands.Gen n t seed) → IsUntouched left faults source source'
+      pub second : TookSome most_checked (left report) (left report')
+      pub second_calm : faults report' ≡ faults report
+      pub unread : (Asks (texts_of words) commands.CheckApart → ⊥) → IsUnread
 
     module _ {K : Type 0} (held : K → Option (List ℕ)) (broken : K → ℕ) (sink sink' : K) (last last' : Option Ended) where
       -- the whole text was written, no put failed, and the closed memory of the run is kept, where there was a run
@@ -210,6 +259,7 @@ module _ {S : Type 0} (left : S → Option (List ℕ)) (faults : S → ℕ) (sou
 
       abbrev pub IsOutcome : Status → Type 0
       IsOutcome Done = Wrote Done
+      IsOutcome Help = Wrote Help
       IsOutcome Usage = Wrote Usage
       IsOutcome (Refused line code) = Wrote (Refused line code)
       IsOutcome ReadFault = Wrote ReadFault

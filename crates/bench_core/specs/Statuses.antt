@@ -1,10 +1,11 @@
 -- The exit status of the program.
 use Rattle.std.specs.Prelude.{ℕ}
 use Rattle.bench_core.specs.declared.status.Status.{Status}
-use Rattle.bench_core.specs.declared.status.Status.TheVariants.{Ok, Usage, Refused, ReadFault, WriteFault, Memory, ClockFull, No}
+use Rattle.bench_core.specs.declared.status.Status.TheVariants.{Ok, Help, Usage, Refused, ReadFault, WriteFault, Memory, ClockFull, No}
 
 abbrev pub exit_code_of : Status → ℕ
 exit_code_of Ok = 0
+exit_code_of Help = 0
 exit_code_of Usage = 1
 exit_code_of (Refused line code) = 2
 exit_code_of ReadFault = 3

@@ -1,39 +1,120 @@
 //! What `check` writes.
-ghost use Rattle.std.specs.Prelude.{◌≤◌, length, IfOk};
+ghost use Rattle.std.specs.Prelude.{◌≡◌, ◌≤◌, length, None, IfOk};
 ghost use Rattle.stm_check.specs.declared.checking.TheConstants.{MOST_CHECKED};
-ghost use Rattle.bench_core.specs.Checks.{SaidOfCheck};
+ghost use Rattle.bench_core.specs.Checks.{SaidOfAlone, SaidOfApart, SaidOfCheck};
 
+use crate::commands::Saying;
 use crate::messages;
 use crate::status::Status;
+use crate::why::Why;
 use std::alloc::Global;
-use stm_check::checking::{Finding, check};
+use stm_check::apart::check_apart;
+use stm_check::checking::{Finding, Part, check};
 use stm_check::wanted::Wanted;
-use stm_faults::report::{checked_fault, wrong_line};
+use stm_faults::report::{checked_fault, told_fault};
+use stm_faults::workload::workload_fault;
+use stm_faults::wrong::{wrong_line, wrong_line_of};
 use stm_model::memory::Memory;
+use stm_text::parse::{Mode, ParseError, parse};
 
-/// The status of a check of a text, what is to be written of it, and what is wrong with it, in a sentence, where memory for
-/// that is there.
-pub(crate) fn judge(alloc: Global, text: &[u8]) -> Result<(Status, Vec<u8>, Option<String>), Memory>
+/// What is to be written of a check of a text, and what is wrong with it.
+pub(crate) fn judge(alloc: Global, text: &[u8]) -> Result<Saying, Memory>
     requires { length text.now ≤ MOST_CHECKED }
-    ensures { IfOk result (λ s. SaidOfCheck text.now s.0 s.1.items) }
+    ensures said { IfOk result (λ s. SaidOfCheck text.now s.status s.text.items) }
+    ensures closed { IfOk result (λ s. s.closed ≡ None) }
 {
     let checked = check(alloc, text)?;
     match checked.finding {
-        Finding::Yes => Ok((Status::Ok, messages::yes(alloc)?, None)),
-        Finding::No { line } => Ok((
-            Status::No { line },
-            messages::no(alloc, line)?,
-            told(alloc, text, line, checked.wanted),
-        )),
-        Finding::Faulty { line, code } => Ok((
-            Status::Refused { line, code },
-            messages::refused(alloc, line, code)?,
-            checked_fault(alloc, text, line, code).ok(),
-        )),
+        Finding::Yes => Ok(Saying::short(Status::Ok, messages::yes(alloc)?)),
+        Finding::No { line } => Ok(Saying {
+            status: Status::No { line },
+            text: messages::no(alloc, line)?,
+            closed: None,
+            why: why_no(alloc, text, line, checked.wanted),
+        }),
+        Finding::Faulty { line, code } => Ok(Saying {
+            status: Status::Refused { line, code },
+            text: messages::refused(alloc, line, code)?,
+            closed: None,
+            why: Why::of(
+                Part::Workload,
+                checked_fault(alloc, text, checked.part, line, code).ok(),
+            ),
+        }),
+    }
+}
+
+/// The same of a workload and a report, each a text of its own.
+pub(crate) fn judge_apart(alloc: Global, text: &[u8], told: &[u8]) -> Result<Saying, Memory>
+    requires { length told.now ≤ MOST_CHECKED }
+    ensures said { IfOk result (λ s. SaidOfApart text.now told.now s.status s.text.items) }
+    ensures closed { IfOk result (λ s. s.closed ≡ None) }
+{
+    let checked = check_apart(alloc, text, told)?;
+    match checked.finding {
+        Finding::Yes => Ok(Saying::short(Status::Ok, messages::yes(alloc)?)),
+        Finding::No { line } => Ok(Saying {
+            status: Status::No { line },
+            text: messages::no(alloc, line)?,
+            closed: None,
+            why: why_no_of(alloc, text, told, line, checked.wanted),
+        }),
+        Finding::Faulty { line, code } => Ok(Saying {
+            status: Status::Refused { line, code },
+            text: messages::refused(alloc, line, code)?,
+            closed: None,
+            why: why_refused(alloc, text, told, checked.part, line, code),
+        }),
+    }
+}
+
+/// The same of a workload alone.
+pub(crate) fn judge_alone(alloc: Global, text: &[u8]) -> Result<Saying, Memory>
+    ensures said { IfOk result (λ s. SaidOfAlone text.now s.status s.text.items) }
+    ensures closed { IfOk result (λ s. s.closed ≡ None) }
+{
+    match parse(alloc, text, Mode::Step) {
+        Ok(_) => Ok(Saying::short(Status::Ok, messages::yes(alloc)?)),
+        Err(ParseError::Fault { line, code }) => Ok(Saying {
+            status: Status::Refused { line, code },
+            text: messages::refused(alloc, line, code)?,
+            closed: None,
+            why: Why::of(Part::Workload, workload_fault(alloc, text, line, code).ok()),
+        }),
+        Err(ParseError::Memory) => Err(Memory),
     }
 }
 
 /// What the replay wants on a line, in a sentence, where memory for it is there.
-fn told(alloc: Global, text: &[u8], line: usize, wanted: Option<Wanted>) -> Option<String> {
-    wrong_line(alloc, text, line, wanted?).ok()
+fn why_no(alloc: Global, text: &[u8], line: usize, wanted: Option<Wanted>) -> Option<Why> {
+    Why::of(Part::Workload, wrong_line(alloc, text, line, wanted?).ok())
+}
+
+/// The same of a report in a text of its own.
+fn why_no_of(
+    alloc: Global,
+    text: &[u8],
+    told: &[u8],
+    line: usize,
+    wanted: Option<Wanted>,
+) -> Option<Why> {
+    Why::of(
+        Part::Report,
+        wrong_line_of(alloc, text, told, line, wanted?).ok(),
+    )
+}
+
+/// What is wrong with the text of a workload, or another of a report.
+fn why_refused(
+    alloc: Global,
+    text: &[u8],
+    told: &[u8],
+    part: Part,
+    line: usize,
+    code: u32,
+) -> Option<Why> {
+    match part {
+        Part::Workload => Why::of(part, workload_fault(alloc, text, line, code).ok()),
+        Part::Report => Why::of(part, told_fault(alloc, told, line, code).ok()),
+    }
 }

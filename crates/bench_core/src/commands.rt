@@ -10,9 +10,11 @@ ghost use Rattle.stm_text.specs.declared.parse.Mode.TheVariants.{Run, Step};
 use crate::messages;
 use crate::parts::{run_workload, step_workload};
 use crate::status::Status;
+use crate::why::Why;
 use std::alloc::Global;
 use std::sync::Wait;
 use std::thread::Threads;
+use stm_check::checking::Part;
 use stm_driver::outcome::RunOutcome;
 use stm_gen::generate::generate;
 use stm_gen::laws::summary_is_counted;
@@ -26,14 +28,52 @@ use stm_text::report::{report_text, report_text_by};
 use stm_trace::text::trace_text;
 use stm_worker::turnstile::Turnstile;
 
-/// A status, the whole text that it writes, the closed memory of a run, and what is wrong with a text that was read, in a
-/// sentence, where memory for it is there.
+/// A status, the whole text that it writes, the closed memory of a run, and what is wrong, where memory for it is
+/// there.
 #[derive(Drop)]
 pub(crate) struct Saying {
     pub(crate) status: Status,
     pub(crate) text: Vec<u8>,
     pub(crate) closed: Option<Closed>,
-    pub(crate) why: Option<String>,
+    pub(crate) why: Option<Why>,
+}
+
+impl Saying {
+    ghost use Rattle.std.specs.Prelude.{◌≡◌, None};
+    ghost use Rattle.bench_core.specs.declared.status.Status.TheVariants.{ReadFault};
+
+    /// A text of no run, with nothing wrong.
+    pub(crate) fn short(status: Status, text: Vec<u8>) -> Saying
+        ensures status { result.status ≡ status }
+        ensures text { result.text ≡ text }
+        ensures closed { result.closed ≡ None }
+    {
+        Saying {
+            status,
+            text,
+            closed: None,
+            why: None,
+        }
+    }
+
+    /// Where this source failed.
+    pub(crate) fn unread(alloc: Global, part: Part, text: Vec<u8>) -> Saying
+        ensures status { result.status ≡ ReadFault }
+        ensures text { result.text ≡ text }
+        ensures closed { result.closed ≡ None }
+    {
+        Saying {
+            status: Status::ReadFault,
+            text,
+            closed: None,
+            why: Why::of(
+                part,
+                "it could not be read; here stands a text"
+                    .to_string(alloc)
+                    .ok(),
+            ),
+        }
+    }
 }
 
 /// What is to be written of a workload under `run` and this policy.

@@ -5,12 +5,14 @@
 pub mod bench;
 mod checks;
 mod commands;
+mod input;
 pub mod laws;
 mod messages;
 mod parts;
 pub mod program;
 pub mod status;
 pub mod telling;
+pub mod why;
 
 pub use stm_io::ends::{Sink, Source};
 pub use stm_io::memory::{MemSink, MemSource};

@@ -6,10 +6,12 @@ ghost use Rattle.std.specs.Prelude.{◌≡◌};
 pub enum Status {
     /// The report, under `step` after the trace; under `gen` the summary; under `check` `yes`.
     Ok,
-    /// The usage line: the words aren't a command.
+    /// The help that the words ask for.
+    Help,
+    /// The usage line: the words aren't a command, and ask for no help.
     Usage,
-    /// `refused L C name`: the text read isn't a workload, or under `check` not a workload and after it a report;
-    /// `line` and `code` are those of its first fault. Lines count from 1; line 0 stands for the whole text, under
+    /// `refused L C name`: the text read isn't a workload, or under `check` not a workload and a report; `line` and `code`
+    /// are those of its first fault. Lines count from 1 in the text at fault; line 0 stands for the whole text, under
     /// `check` for the whole of the part that is too long.
     Refused { line: usize, code: u32 },
     /// `read fault`: the source failed.
@@ -21,19 +23,19 @@ pub enum Status {
     /// `clock full C`: a call found the clock at its limit, 2^62.
     ClockFull { clock: u64 },
     /// `no L`: the report that was read doesn't replay its workload; `line` is the first line at fault, counted from 1
-    /// in the whole text.
+    /// in the text that has the report.
     No { line: usize },
 }
 
 impl Status {
     ghost use Rattle.bench_core.specs.Statuses.{exit_code_of};
 
-    /// The exit status of a program that ends so: 0 for `Ok`, then 1 to 7 in the order above.
+    /// The exit status of a program that ends so: 0 for `Ok` and `Help`, then 1 to 7 in the order above.
     pub fn exit_code(self) -> u8
         ensures { result ≡ exit_code_of self }
     {
         match self {
-            Status::Ok => 0,
+            Status::Ok | Status::Help => 0,
             Status::Usage => 1,
             Status::Refused { .. } => 2,
             Status::ReadFault => 3,

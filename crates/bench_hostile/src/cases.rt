@@ -1,7 +1,7 @@
 //! Workloads in short, and what `bench` comes to over any ends.
 use bench_core::bench::bench;
 use bench_core::status::Status;
-use bench_core::{MemSink, MemSource, Open, Sink, Source};
+use bench_core::{MemSink, MemSource, Open, Sink};
 use std::alloc::Global;
 use std::sync::Wait;
 use std::test::Fail;
@@ -64,11 +64,22 @@ pub(crate) fn status_over(
     rt: &(impl Threads + Wait + Sync),
     alloc: Global,
     words: &[&str],
-    source: &mut impl Source,
+    source: &mut S,
     sink: &mut impl Sink,
 ) -> (Status, bool) {
     let mut last = None;
-    let status = bench(rt, alloc, words, source, sink, &Open, &mut last, &mut None);
+    let mut report = MemSource::new(Vec::new(alloc), Vec::new(alloc));
+    let status = bench(
+        rt,
+        alloc,
+        words,
+        source,
+        &mut report,
+        sink,
+        &Open,
+        &mut last,
+        &mut None,
+    );
     (status, last.is_some())
 }
 

@@ -1,7 +1,7 @@
 //! `check` over a workload and a report.
 use crate::{report_tests, structure_tests};
 use bench_cases::Status;
-use bench_cases::cases::{check, header, lines, outcome, workload};
+use bench_cases::cases::{check, header, lines, outcome, outcome_apart, workload};
 use std::alloc::Global;
 use std::process::Abort;
 use std::sync::Wait;
@@ -182,5 +182,75 @@ fn ends_in_the_order_of_the_statuses(rt: HostRuntime) -> Result<(), Fail> {
         assert_eq!(rt; held.as_str(), said);
     }
     assert_eq!(rt; Status::No { line: 22 }.exit_code(), 7);
+    Ok(())
+}
+
+/// Of the reports above the one that replays, below a trace, and wrong ones: lines count in the report's own text.
+const APART: [(&str, Status, &str); 5] = [
+    (
+        "report 1 / W 1 0 0 : 1 / W 2 0 1 : 2 / R 2 0 2 : 2 / mem 3 2 / end",
+        Status::Ok,
+        "yes\n",
+    ),
+    (
+        "0 begin CGL / finish / report 1 / W 1 0 0 : 1 / W 2 0 1 : 2 / R 2 0 2 : 2 / mem 3 2 / end",
+        Status::Ok,
+        "yes\n",
+    ),
+    (
+        "report 1 / W 1 0 0 : 1 / W 2 0 1 : 2 / R 2 0 2 : 1 / mem 3 2 / end",
+        Status::No { line: 4 },
+        "no 4\n",
+    ),
+    (
+        "0 begin CGL / finish / report 1 / W 1 0 0 : 1 / W 2 0 1 : 3 / R 2 0 2 : 2 / mem 3 2 / end",
+        Status::No { line: 5 },
+        "no 5\n",
+    ),
+    (
+        "0 begin CGL / finish / report 1 / W 1 0 0 1 / end",
+        Status::Refused { line: 4, code: 12 },
+        "refused 4 12 report\n",
+    ),
+];
+
+/// A report in a text of its own, which the trace of `step` may stand above.
+#[test]
+fn two_texts_are_checked(rt: HostRuntime) -> Result<(), Fail> {
+    let alloc = rt.alloc();
+    let words = ["stm_bench", "check", "w", "r"];
+    let text = workload(alloc, "", THREE)?;
+    for (report, status, said) in APART {
+        let told = lines(alloc, report)?;
+        let (ended, held) = outcome_apart(&rt, alloc, &words, text.as_str(), told.as_str())?;
+        assert_eq!(rt; (ended, held.as_str()), (status, said), "{report}");
+    }
+    let wrong = workload(alloc, "", "tx 1 {add 3 1}")?;
+    let (ended, _) = outcome_apart(&rt, alloc, &words, wrong.as_str(), "")?;
+    assert_eq!(rt; ended, Status::Refused { line: 11, code: 6 });
+    Ok(())
+}
+
+/// A workload alone, and help.
+#[test]
+fn a_workload_alone_is_checked(rt: HostRuntime) -> Result<(), Fail> {
+    let alloc = rt.alloc();
+    let words = ["stm_bench", "check", "w"];
+    let text = workload(alloc, "", THREE)?;
+    let (ended, held) = outcome(&rt, alloc, &words, text.as_str(), &[], 4096)?;
+    assert_eq!(rt; (ended, held.as_str()), (Status::Ok, "yes\n"));
+    let text = workload(alloc, "", "tx 0 {add 3}")?;
+    let (ended, held) = outcome(&rt, alloc, &words, text.as_str(), &[], 4096)?;
+    assert_eq!(rt;
+        (ended, held.as_str()),
+        (Status::Refused { line: 12, code: 4 }, "refused 12 4 word\n")
+    );
+    let words = ["stm_bench", "--version"];
+    let (ended, held) = outcome(&rt, alloc, &words, "", &[], 4096)?;
+    assert_eq!(rt; (ended, held.as_str()), (Status::Help, "stm_bench 1.0.0\n"));
+    let words = ["stm_bench", "run", "--help"];
+    let (ended, held) = outcome(&rt, alloc, &words, "", &[], 4096)?;
+    assert_eq!(rt; ended, Status::Help);
+    assert!(rt; held.starts_with("usage: stm_bench run [--policy P] [FILE]\n"));
     Ok(())
 }

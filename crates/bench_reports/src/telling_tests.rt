@@ -1,8 +1,11 @@
 //! What is told on standard error, status by status.
-use bench_cases::cases::{told_of, workload};
+use bench_cases::cases::{NO_FILES, told_of, workload};
 use bench_core::status::Status;
 use bench_core::telling::told;
+use bench_core::why::Why;
 use std::test::Fail;
+use stm_check::checking::Part;
+use stm_cli::reading::Files;
 
 /// The words, the header's changes, the body of the workload, what stands after it, the takes that fail, the sink's room,
 /// and what is told.
@@ -34,8 +37,7 @@ const TABLE: [Told<'static>; 8] = [
         &[],
         4096,
         Some(
-            "line 12, `ad 3 1`: its first word isn't allowed here; here stands an operation of the transaction or \
-             its end: `read A`, `write A V`, `add A V`, `move A B V`, `irrev`, `emit A`, `cancel`, `end`",
+            "line 12, `ad 3 1`: no line here begins with `ad`; here stands `add A V`, `read A`, `end`, `move A B V`, `write A V`, `irrev`, `cancel`",
         ),
     ),
     (
@@ -45,7 +47,9 @@ const TABLE: [Told<'static>; 8] = [
         "",
         &[],
         4096,
-        Some("line 11, `schedule`: `run` takes no schedule; `step` does"),
+        Some(
+            "line 11, `schedule`: `run` takes no schedule, `step` does; here stands `done`, `switch C ALG`, `tx C`",
+        ),
     ),
     (
         &["stm_bench", "run"],
@@ -54,7 +58,7 @@ const TABLE: [Told<'static>; 8] = [
         "",
         &[0],
         4096,
-        Some("standard input could not be read"),
+        Some("standard input: it could not be read; here stands a text"),
     ),
     (
         &["stm_bench", "run"],
@@ -73,7 +77,7 @@ const TABLE: [Told<'static>; 8] = [
         &[],
         4096,
         Some(
-            "a call found the clock at its limit, 4611686018427387904; the line `clock C` of the workload leaves too little below it",
+            "a call found the clock at its limit, 4611686018427387904; here stands a lesser `clock C` on line 8",
         ),
     ),
     (
@@ -84,9 +88,7 @@ const TABLE: [Told<'static>; 8] = [
         &[],
         4096,
         Some(
-            "in the report, after the workload's 14 lines: line 2, `W 1 0 0 1`: the line isn't in its form; here \
-             stands a row, `K PLACE CALLER SEQ : REPLIES` with K one of W, R, C, and after it ` ! EMITS` where \
-             there are emits; or `mem ADDRESS VALUE`, or `end`",
+            "line 16 (2 of the report), `W 1 0 0 1`: `1` can't stand there; here stands `W PLACE CALLER SEQ : REPLIES`, with emits ` ! EMITS` too",
         ),
     ),
     (
@@ -97,7 +99,7 @@ const TABLE: [Told<'static>; 8] = [
         &[],
         4096,
         Some(
-            "in the report, after the workload's 14 lines: line 2, which is line 16 of the whole text, `W 1 0 0 : 2`: wanted  W 1 0 0 : 1  by its script, on the memory that the rows above leave",
+            "line 16 (2 of the report), `W 1 0 0 : 2`: reply 1 (`add 3 1`, line 12 of the workload): stands `2`, wanted `1`; here stands `W 1 0 0 : 1`",
         ),
     ),
 ];
@@ -111,7 +113,7 @@ fn each_end_is_told(rt: HostRuntime) -> Result<(), Fail> {
         let said = told_of(&rt, alloc, words, text.as_str(), takes, room)?;
         assert_eq!(rt; said.as_ref().map(|said| said.as_str()), why, "{body}");
     }
-    let memory = told(alloc, Status::Memory, None)?;
+    let memory = told(alloc, Status::Memory, None, &NO_FILES)?;
     assert_eq!(rt;
         memory.as_ref().map(|said| said.as_str()),
         Some("memory was refused, and nothing was written")
@@ -119,22 +121,78 @@ fn each_end_is_told(rt: HostRuntime) -> Result<(), Fail> {
     Ok(())
 }
 
-/// The commands, with an example, where the words are none of them.
+/// Words that are no command, and what is told of them.
+const WRONG_WORDS: [(&[&str], &str); 9] = [
+    (
+        &[],
+        "no command is named; here stands one of `run`, `gen`, `step`, `check`, `--help`, `--version`",
+    ),
+    (
+        &["stpe"],
+        "`stpe` is no command; here stands `step`, `gen`, `run`, `check`, `--help`, `--version`",
+    ),
+    (
+        &["run", "--polcy", "fixed"],
+        "`--polcy` is no option of `run`; here stands `--policy P` or a file's name",
+    ),
+    (
+        &["run", "--policy", "foo"],
+        "`foo` is no policy; here stands `fixed`, `expert`, `round:N`, N from 1 to 65536, or `state:N`, N from 1 to 16",
+    ),
+    (
+        &["run", "--policy"],
+        "no policy follows `--policy`; here stands `fixed`, `expert`, `round:N`, N from 1 to 65536, or `state:N`, N from 1 to 16",
+    ),
+    (
+        &["gen", "50001", "1", "1"],
+        "`50001` is out of its range; here stands N from 1 to 50000",
+    ),
+    (
+        &["gen", "9", "2"],
+        "SEED is missing; here stands `gen N T SEED`, SEED from 0 to 18446744073709551615",
+    ),
+    (
+        &["step", "a", "b"],
+        "`b` is a word too many; here stands one file's name at most",
+    ),
+    (
+        &["check", "a", "b", "c"],
+        "`c` is a word too many; here stands two files' names at most",
+    ),
+];
+
+/// Which word of a command line is wrong.
 #[test]
-fn the_commands_are_told(rt: HostRuntime) -> Result<(), Fail> {
+fn a_wrong_word_is_told(rt: HostRuntime) -> Result<(), Fail> {
     let alloc = rt.alloc();
-    let Some(said) = told_of(&rt, alloc, &["stm_bench"], "", &[], 128)? else {
-        return Err(Fail::new("nothing is told"));
+    for (others, why) in WRONG_WORDS {
+        let mut words = Vec::new(alloc);
+        words.push("stm_bench")?;
+        words.extend_from_slice(others)?;
+        let said = told_of(&rt, alloc, words.as_slice(), "", &[], 128)?;
+        assert_eq!(rt; said.as_ref().map(|said| said.as_str()), Some(why));
+    }
+    Ok(())
+}
+
+/// The name of a file stands before a sentence on it.
+#[test]
+fn a_file_is_named(rt: HostRuntime) -> Result<(), Fail> {
+    let alloc = rt.alloc();
+    let names = Files {
+        first: Some("a.stm"),
+        report: Some("a/folder/of/many/reports/of/b.report"),
     };
-    let said = said.as_str();
-    for command in [
-        "  run [--policy P]  ",
-        "  step  ",
-        "  gen N T SEED  ",
-        "  check  ",
-        "  bin/stm_bench run < examples/three-transactions.stm",
+    for (part, wanted) in [
+        (Part::Workload, "a.stm: line 1"),
+        (Part::Report, "..many/reports/of/b.report: line 1"),
     ] {
-        assert!(rt; said.contains(command), "{command}");
+        let why = Why {
+            part,
+            sentence: "line 1".to_string(alloc)?,
+        };
+        let said = told(alloc, Status::No { line: 1 }, Some(why), &names)?;
+        assert_eq!(rt; said.as_ref().map(|said| said.as_str()), Some(wanted));
     }
     Ok(())
 }

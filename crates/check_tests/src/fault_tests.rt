@@ -2,10 +2,11 @@
 use std::alloc::Global;
 use std::process::Abort;
 use std::test::Fail;
-use stm_check::checking::{Finding, MOST_CHECKED, check};
-use stm_faults::report::{checked_fault, wrong_line};
+use stm_check::checking::{Finding, MOST_CHECKED, Part, check};
+use stm_faults::report::checked_fault;
 use stm_faults::trace::trace_fault;
-use stm_faults::workload::workload_fault;
+use stm_faults::workload::{workload_fault, workload_fault_for};
+use stm_faults::wrong::wrong_line;
 use stm_text::parse::{Mode, ParseError, parse};
 
 /// A workload of version 1; ` / ` parts two lines.
@@ -26,124 +27,117 @@ const FAULTS_ONE: [(usize, &str, &str); 23] = [
     (
         1,
         "stm 3",
-        "line 1, `stm 3`: it has a word that isn't allowed; here stands `stm 1` or `stm 2`",
+        "line 1, `stm 3`: `3` can't stand there; here stands `stm 1`, `stm 2`",
     ),
     (
         2,
         "words 0",
-        "line 2, `words 0`: a number is out of its range; here stands `words N`, N a number from 1 to 65536",
+        "line 2, `words 0`: `0` is out of its range; here stands `words N`, N from 1 to 65536",
     ),
     (
         3,
         "caller 1",
-        "line 3, `caller 1`: its first word isn't allowed here; here stands `callers N`, N a number from 1 to 32",
+        "line 3, `caller 1`: no line here begins with `caller`; here stands `callers N`, N from 1 to 32",
     ),
     (
         5,
         "ring 65",
-        "line 5, `ring 65`: a number is out of its range; here stands `ring N`, N a number from 2 to 64",
+        "line 5, `ring 65`: `65` is out of its range; here stands `ring N`, N from 2 to 64",
     ),
     (
         8,
         "clock 01",
-        "line 8, `clock 01`: a word is no number: digits alone, no 0 before another, below 2^64; here stands `clock \
-         N`, N a number from 0 to 4611686018427387904",
+        "line 8, `clock 01`: `01` is no number below 2^64 without a leading 0; here stands `clock N`, N from 0 to 4611686018427387904",
     ),
     (
         9,
         "alg cgl",
-        "line 9, `alg cgl`: no algorithm has this name; here stands `alg ALG`, ALG one of CGL, TML, OrecLazy, OrecEager, RingSW, Serial",
+        "line 9, `alg cgl`: `cgl` is no algorithm; here stands `alg CGL`, `alg TML`, `alg OrecLazy`, `alg OrecEager`, `alg RingSW`, `alg Serial`",
     ),
     (
         10,
         "structs on",
-        "line 10, `structs on`: structures take 1024 words, and line 2 gives 8",
+        "line 10, `structs on`: structures take 1024 words, and line 2 has 8; here stands `structs off`",
     ),
     (
         11,
         "tx 1",
-        "line 11, `tx 1`: a number is out of its range; here stands `tx C`, C a caller from 0 to 0",
+        "line 11, `tx 1`: `1` is out of its range; here stands `tx C`, C 0",
     ),
     (
         11,
         "add 3 1",
-        "line 11, `add 3 1`: its first word isn't allowed here; here stands `tx C`, `switch C ALG`, `schedule`, `done`",
+        "line 11, `add 3 1`: no line here begins with `add`; here stands `tx C`, `done`, `switch C ALG`, `schedule`",
     ),
     (
         12,
         "ad 3 1",
-        "line 12, `ad 3 1`: its first word isn't allowed here; here stands an operation of the transaction or its \
-         end: `read A`, `write A V`, `add A V`, `move A B V`, `irrev`, `emit A`, `cancel`, `end`",
+        "line 12, `ad 3 1`: no line here begins with `ad`; here stands `add A V`, `read A`, `end`, `move A B V`, `write A V`, `irrev`, `cancel`",
     ),
     (
         12,
         "add 3",
-        "line 12, `add 3`: it has too few words; here stands `add A V`, A an address from 0 to 7, V a number below 2^64",
+        "line 12, `add 3`: it has too few words; here stands `add A V`, A from 0 to 7, V below 2^64",
     ),
     (
         12,
         "add  3 1",
-        "line 12, `add  3 1`: one space stands between two words, and none at either end; here stands `add A V`, A an address from 0 to 7, V a number below 2^64",
+        "line 12, `add  3 1`: one space stands between two words, and none at an end; here stands `add A V`, A from 0 to 7, V below 2^64",
     ),
     (
         12,
         "move 1 8 18446744073709551616",
-        "line 12, `move 1 8 18446744073709551616`: a word is no number: digits alone, no 0 before another, below \
-         2^64; here stands `move A B V`, A an address from 0 to 7, B an address from 0 to 7, V a number below 2^64",
+        "line 12, `move 1 8 18446744073709551616`: `18446744073709551616` is no number below 2^64 without a leading 0; here stands `move A B V`, A and B from 0 to 7, V below 2^64",
     ),
     (
         12,
         "",
-        "line 12, ``: the line is empty; here stands an operation of the transaction or its end: `read A`, `write A \
-         V`, `add A V`, `move A B V`, `irrev`, `emit A`, `cancel`, `end`",
+        "line 12, ``: the line is empty; here stands `read A`, `write A V`, `add A V`, `move A B V`, `irrev`, `cancel`, `end`",
     ),
     (
         12,
         "emit 3",
-        "line 12, `emit 3`: an `emit` comes only after an `irrev` of its transaction",
+        "line 12, `emit 3`: an `emit` comes only after an `irrev` of its transaction; here stands `write A V`, `end`, `read A`, `add A V`, `move A B V`, `irrev`, `cancel`",
     ),
     (
         12,
         "ladd 3",
-        "line 12, `ladd 3`: structures are off: line 10 is `structs off`",
+        "line 12, `ladd 3`: structures are off (line 10); here stands `add A V`, `read A`, `end`, `move A B V`, `write A V`, `irrev`, `cancel`",
     ),
     (
         12,
         "add 3 1\r",
-        "line 12, `add 3 1<13>`: its byte 8 is 13, a carriage return; a line has the bytes 32 to 126 alone",
+        "line 12, `add 3 1<13>`: its byte 8 is 13, a carriage return, and a line has those from 32 to 126; here stands `add A V`, A from 0 to 7, V below 2^64",
     ),
     (
         12,
         "0123456789012345678901234567890123456789012345678901234567890",
-        "line 12, `012345678901234567890123456789012345678901234567890123456789 ..`: its first word isn't allowed \
-         here; here stands an operation of the transaction or its end: `read A`, `write A V`, `add A V`, `move A B \
-         V`, `irrev`, `emit A`, `cancel`, `end`",
+        "line 12, `01234567890123456789012345678901234567890123456 ..`: no line here begins with `01234567890123456 ..`; here stands `read A`, `write A V`, `add A V`, `move A B V`, `irrev`, `cancel`, `end`",
     ),
     (
         13,
         "done",
-        "line 13, `done`: its first word isn't allowed here; here stands an operation of the transaction or its \
-         end: `read A`, `write A V`, `add A V`, `move A B V`, `irrev`, `emit A`, `cancel`, `end`",
+        "line 13, `done`: no line here begins with `done`; here stands `move A B V`, `end`, `read A`, `write A V`, `add A V`, `irrev`, `cancel`",
     ),
     (
         14,
         "schedule / go 1 1 / done",
-        "line 15, `go 1 1`: a number is out of its range; here stands `go C N`, C a caller from 0 to 0, N a number from 1 to 1000000",
+        "line 15, `go 1 1`: `1` is out of its range; here stands `go C N`, C 0, N from 1 to 1000000",
     ),
     (
         14,
         "schedule / go 0 1000000 / go 0 1 / done",
-        "line 16, `go 0 1`: the turns of a schedule are at most 1000000 in all",
+        "line 16, `go 0 1`: a schedule has at most 1000000 turns in all; here stands `done`",
     ),
     (
         14,
         "done / done",
-        "line 15, `done`: nothing follows the line `done`",
+        "line 15, `done`: nothing follows the line `done`; here stands the end of the text",
     ),
     (
         14,
         "tx 0 / end",
-        "line 16: the workload ends before its line `done`; here stands `tx C`, `switch C ALG`, `schedule`, `done`",
+        "line 16: the text ends before its line `done`; here stands `tx C`, `switch C ALG`, `schedule`, `done`",
     ),
 ];
 
@@ -152,44 +146,37 @@ const FAULTS_TWO: [(usize, &str, &str); 7] = [
     (
         10,
         "regions 17",
-        "line 10, `regions 17`: a number is out of its range; here stands `regions N`, N a number from 0 to 16",
+        "line 10, `regions 17`: `17` is out of its range; here stands `regions N`, N from 0 to 16",
     ),
     (
         11,
         "region stack 0 4",
-        "line 11, `region stack 0 4`: it has a word that isn't allowed; here stands `region KIND AT SIZE`, KIND one \
-         of counter, list, hash, tree, queue, summap, AT its first word, SIZE a number from 1 to 4096, of a counter \
-         to 64",
+        "line 11, `region stack 0 4`: `stack` can't stand there; here stands `region counter 0 1`, `region list 0 1`, `region hash 0 1`, `region tree 0 1`, `region queue 0 1` ..",
     ),
     (
         12,
         "region queue 3 3",
-        "line 12, `region queue 3 3`: a region begins where the one above it ends or later, and ends within the 100 \
-         words; a counter has SIZE words, a list 1 + 2 SIZE, a hash 16 + 2 SIZE, a tree 1 + 3 SIZE, a queue 2 + \
-         SIZE, a summap 1 + 5 SIZE; this one would begin at 3 and end before 8, and the one above it ends before 4",
+        "line 12, `region queue 3 3`: it begins at 3, and the first free word is 4; here stands `region queue 4 SIZE`, SIZE from 1 to 94",
     ),
     (
         13,
         "policy round:0",
-        "line 13, `policy round:0`: a number is out of its range; here stands `policy P`, P one of fixed, expert, \
-         round:N with N from 1 to 65536, state:N with N from 1 to 16",
+        "line 13, `policy round:0`: `round:0` is out of its range; here stands `policy round:N`, N from 1 to 65536",
     ),
     (
         14,
         "reserve 0 1",
-        "line 14, `reserve 0 1`: it has too few words; here stands `reserve C X Y`, C a caller from 0 to 1, X a \
-         read log's length from 1 to 4096, Y a write log's length from 1 to 4096",
+        "line 14, `reserve 0 1`: it has too few words; here stands `reserve C X Y`, C from 0 to 1, X and Y from 1 to 4096",
     ),
     (
         15,
         "count 1 1 2",
-        "line 15, `count 1 1 2`: the operation isn't one on its region, which is that of line 12, `region queue 10 3`",
+        "line 15, `count 1 1 2`: region `1` is a queue (line 12); here stands `count R S V`, R 0, S from 0 to 3, V below 2^64",
     ),
     (
         15,
         "read 10",
-        "line 15, `read 10`: the address is one of a structure's words; here stands `read A`, A an address from 0 \
-         to 99 that is in no region",
+        "line 15, `read 10`: `10` is a structure's word; here stands `read A`, A from 4 to 9 or from 15 to 99",
     ),
 ];
 
@@ -198,37 +185,32 @@ const FAULTS_REPORT: [(usize, &str, &str); 6] = [
     (
         1,
         "report 2",
-        "in the report, after the workload's 14 lines: line 1, `report 2`: the line isn't in its form; here stands `report 1`",
+        "line 15 (1 of the report), `report 2`: `2` can't stand there; here stands `report 1`",
     ),
     (
         2,
         "W 1 0 0 : 1\r",
-        "in the report, after the workload's 14 lines: line 2, `W 1 0 0 : 1<13>`: its byte 12 is 13, a carriage \
-         return; a line has the bytes 32 to 126 alone",
+        "line 16 (2 of the report), `W 1 0 0 : 1<13>`: its byte 12 is 13, a carriage return, and a line has those from 32 to 126; here stands `W PLACE CALLER SEQ : REPLIES`, with emits ` ! EMITS` too",
     ),
     (
         2,
         "W 1 0 : 1",
-        "in the report, after the workload's 14 lines: line 2, `W 1 0 : 1`: the line isn't in its form; here stands \
-         a row, `K PLACE CALLER SEQ : REPLIES` with K one of W, R, C, and after it ` ! EMITS` where there are \
-         emits; or `mem ADDRESS VALUE`, or `end`",
+        "line 16 (2 of the report), `W 1 0 : 1`: `:` is no number below 2^64 without a leading 0; here stands `W PLACE CALLER SEQ : REPLIES`, with emits ` ! EMITS` too",
     ),
     (
         3,
         "mem 3 1 / mem 3 1",
-        "in the report, after the workload's 14 lines: line 4, `mem 3 1`: the line isn't in its form; here stands \
-         `mem ADDRESS VALUE`, the address above that of the line before and the value not 0, or `end`",
+        "line 18 (4 of the report), `mem 3 1`: address `3` isn't above that of the line before, 3; here stands `mem A V`, A from 4 on, V from 1 on, both below 2^64",
     ),
     (
         4,
         "end / end",
-        "in the report, after the workload's 14 lines: line 5, `end`: the line isn't in its form; nothing follows `end`",
+        "line 19 (5 of the report), `end`: nothing follows the line `end`; here stands the end of the text",
     ),
     (
         4,
         "mem 4 1",
-        "in the report, after the workload's 14 lines: line 5: the report ends before its line `end`; here stands \
-         `mem ADDRESS VALUE`, the address above that of the line before and the value not 0, or `end`",
+        "line 19 (5 of the report): the text ends before its line `end`; here stands `mem 5 1`, `end`",
     ),
 ];
 
@@ -242,57 +224,51 @@ const THREE: &str =
 const WRONG_REPORTS: [(&str, &str); 12] = [
     (
         "report 1 / W 1 0 0 : 2 / end",
-        "in the report, after the workload's 23 lines: line 2, which is line 25 of the whole text, `W 1 0 0 : 2`: wanted  W 1 0 0 : 1  by its script, on the memory that the rows above leave",
+        "line 25 (2 of the report), `W 1 0 0 : 2`: reply 1 (`add 3 1`, line 12 of the workload): stands `2`, wanted `1`; here stands `W 1 0 0 : 1`",
     ),
     (
         "report 1 / R 1 0 0 : 1 / end",
-        "in the report, after the workload's 23 lines: line 2, which is line 25 of the whole text, `R 1 0 0 : 1`: wanted  W 1 0 0 : 1  by its script, on the memory that the rows above leave",
+        "line 25 (2 of the report), `R 1 0 0 : 1`: its kind: stands `R`, wanted `W`; here stands `W 1 0 0 : 1`",
     ),
     (
         "report 1 / C 1 0 0 : 1 / end",
-        "in the report, after the workload's 23 lines: line 2, which is line 25 of the whole text, `C 1 0 0 : 1`: wanted  W 1 0 0 : 1  by its script, on the memory that the rows above leave",
+        "line 25 (2 of the report), `C 1 0 0 : 1`: its kind: stands `C`, wanted `W`; here stands `W 1 0 0 : 1`",
     ),
     (
         "report 1 / W 1 0 0 : 1 / C 1 0 1 : 1 / end",
-        "in the report, after the workload's 23 lines: line 3, which is line 26 of the whole text, `C 1 0 1 : 1`: wanted  C 1 0 1 : 1 1  by its script, on the memory that the rows above leave",
+        "line 26 (3 of the report), `C 1 0 1 : 1`: reply 2 (`cancel`, line 16 of the workload): stands none, wanted `1`; here stands `C 1 0 1 : 1 1`",
     ),
     (
         "report 1 / W 1 0 0 : 1 / C 1 0 1 : 1 1 / W 2 1 0 : 2 1 2 / end",
-        "in the report, after the workload's 23 lines: line 4, which is line 27 of the whole text, `W 2 1 0 : 2 1 2`: wanted  W 2 1 0 : 2 1 2 ! 2  by its script, on the memory that the rows above leave",
+        "line 27 (4 of the report), `W 2 1 0 : 2 1 2`: emit 1 (`emit 3`, line 21 of the workload): stands none, wanted `2`; here stands `W 2 1 0 : 2 1 2 ! 2`",
     ),
     (
         "report 1 / W 1 0 0 : 1 / W 0 1 0 : 2 1 2 ! 2 / end",
-        "in the report, after the workload's 23 lines: line 3, which is line 26 of the whole text, `W 0 1 0 : 2 1 2 \
-         ! 2`: wanted a row that comes after the one above it: by place, W before R and C, then by caller, then by \
-         number",
+        "line 26 (3 of the report), `W 0 1 0 : 2 1 2 ! 2`: it doesn't come after the row above it; here stands a row that does: by place, then W before R and C, then by caller, then by number",
     ),
     (
         "report 1 / W 1 0 0 : 1 / W 1 1 0 : 2 1 2 ! 2 / end",
-        "in the report, after the workload's 23 lines: line 3, which is line 26 of the whole text, `W 1 1 0 : 2 1 2 \
-         ! 2`: wanted another place than that of the W row above it",
+        "line 26 (3 of the report), `W 1 1 0 : 2 1 2 ! 2`: the W row above it has the place 1 too; here stands a place above 1",
     ),
     (
         "report 1 / W 1 0 0 : 1 / C 1 0 2 : 1 1 / end",
-        "in the report, after the workload's 23 lines: line 3, which is line 26 of the whole text, `C 1 0 2 : 1 1`: \
-         wanted its caller's transaction 1, which is next, if the workload has it",
+        "line 26 (3 of the report), `C 1 0 2 : 1 1`: transaction 1 of caller 0 is next, and this is 2; here stands the number 1",
     ),
     (
         "report 1 / W 1 0 0 : 1 / W 2 1 0 : 2 1 2 ! 2 / mem 3 2 / end",
-        "in the report, after the workload's 23 lines: line 4, which is line 27 of the whole text, `mem 3 2`: \
-         transaction 1 of caller 0 has no row; transactions count from 0; here stands `R PLACE 0 1 : REPLIES`, with \
-         W for R where it wrote, and C where it was cancelled",
+        "line 27 (4 of the report), `mem 3 2`: transaction 1 of caller 0 (line 14 of the workload) has no row; here stands `K PLACE 0 1 : REPLIES`, K one of W, R, C",
     ),
     (
         "report 1 / W 1 0 0 : 1 / C 1 0 1 : 1 1 / W 2 1 0 : 2 1 2 ! 2 / mem 3 1 / end",
-        "in the report, after the workload's 23 lines: line 5, which is line 28 of the whole text, `mem 3 1`: wanted  mem 3 2  by the memory that the rows leave",
+        "line 28 (5 of the report), `mem 3 1`: the rows leave 2 in the word 3, which is next; here stands `mem 3 2`",
     ),
     (
         "report 1 / W 1 0 0 : 1 / C 1 0 1 : 1 1 / W 2 1 0 : 2 1 2 ! 2 / end",
-        "in the report, after the workload's 23 lines: line 5, which is line 28 of the whole text, `end`: wanted  mem 3 2  by the memory that the rows leave",
+        "line 28 (5 of the report), `end`: the rows leave 2 in the word 3, which is next; here stands `mem 3 2`",
     ),
     (
         "report 1 / W 1 0 0 : 1 / C 1 0 1 : 1 1 / W 2 1 0 : 2 1 2 ! 2 / mem 3 2 / mem 4 1 / end",
-        "in the report, after the workload's 23 lines: line 6, which is line 29 of the whole text, `mem 4 1`: wanted  end  as no further word isn't 0",
+        "line 29 (6 of the report), `mem 4 1`: no further word isn't 0; here stands `end`",
     ),
 ];
 
@@ -301,18 +277,17 @@ const FAULTS_TRACE: [(&str, usize, &str); 3] = [
     (
         "0 begin CGL / 0 red 3",
         2,
-        "line 2, `0 red 3`: the line isn't one that `stm_bench step` writes; here stands a turn, as `0 begin CGL` \
-         or `1 read 5`, or `finish`, or after the trace a report from `report 1` on, or `clock full C`",
+        "line 2, `0 red 3`: `step` writes no such line; here stands a turn, as `0 begin CGL` or `1 read 5`, or `finish`, or then `report 1` or `clock full C`",
     ),
     (
         "finish / report 1 / end / end",
         4,
-        "in the report, which begins on line 2: line 3, `end`: the line isn't in its form; nothing follows `end`",
+        "line 4 (3 of the report), `end`: nothing follows the line `end`; here stands the end of the text",
     ),
     (
         "finish / clock full 4611686018427387904 / finish",
         3,
-        "line 3, `finish`: nothing follows the line `clock full C`",
+        "line 3, `finish`: nothing follows the line `clock full C`; here stands the end of the text",
     ),
 ];
 
@@ -343,10 +318,11 @@ fn said_of_check(alloc: Global, text: &str) -> Result<String, Fail> {
     if MOST_CHECKED < text.len() {
         return Err(Fail::new("a text that is too long"));
     }
-    let Finding::Faulty { line, code } = check(alloc, text.as_bytes())?.finding else {
+    let checked = check(alloc, text.as_bytes())?;
+    let Finding::Faulty { line, code } = checked.finding else {
         return Err(Fail::new("a text without a fault"));
     };
-    Ok(checked_fault(alloc, text.as_bytes(), line, code)?)
+    Ok(checked_fault(alloc, text.as_bytes(), checked.part, line, code)?)
 }
 
 /// What is said of a workload and a report that doesn't replay it.
@@ -410,30 +386,30 @@ fn the_other_faults_are_told(rt: HostRuntime) -> Result<(), Fail> {
     let alloc = rt.alloc();
     let text = changed(alloc, ONE, 14, "schedule / done")?;
     assert_eq!(rt;
-        workload_fault(alloc, text.as_bytes(), 14, 4)?.as_str(),
-        "line 14, `schedule`: `run` takes no schedule; `step` does"
+        workload_fault_for(alloc, Mode::Run, text.as_bytes(), 14, 4)?.as_str(),
+        "line 14, `schedule`: `run` takes no schedule, `step` does; here stands `done`, `switch C ALG`, `tx C`"
     );
     assert_eq!(rt;
         workload_fault(alloc, b"stm 1\nwords 8", 2, 3)?.as_str(),
-        "line 2, `words 8`: the line has no LF, and each line of a workload ends with one"
+        "line 2, `words 8`: the line has no LF at its end; here stands `words N`, N from 1 to 65536"
     );
     assert_eq!(rt;
         workload_fault(alloc, b"", 0, 1)?.as_str(),
-        "the workload has more than 16777216 bytes"
+        "the text has more than 16777216 bytes; here stands a workload of at most so many"
     );
     assert_eq!(rt;
-        checked_fault(alloc, b"", 0, 13)?.as_str(),
-        "the report has more than 134217728 bytes"
+        checked_fault(alloc, b"", Part::Report, 0, 13)?.as_str(),
+        "the report has more than 134217728 bytes; here stands one of at most so many"
     );
     let text = changed(alloc, ONE, 0, "")?;
     assert_eq!(rt;
         said_of_check(alloc, text.as_str())?.as_str(),
-        "in the report, after the workload's 14 lines: line 1: the report ends before its line `end`; here stands `report 1`"
+        "line 15 (1 of the report): the text ends before its line `end`; here stands `report 1`"
     );
     let text = changed(alloc, ONE, 14, "tx 0 / end")?;
     assert_eq!(rt;
         said_of_check(alloc, text.as_str())?.as_str(),
-        "line 16: the workload ends before its line `done`; here stands `tx C`, `switch C ALG`, `schedule`, `done`"
+        "line 16: the text ends before its line `done`; here stands `tx C`, `switch C ALG`, `schedule`, `done`"
     );
     Ok(())
 }

@@ -2,7 +2,8 @@
 use std::alloc::{AllocError, Global};
 use std::test::Fail;
 use stm_cli::command::Command;
-use stm_cli::reading::read_words;
+use stm_cli::help::{Topic, help_of};
+use stm_cli::reading::{read_files, read_words};
 use stm_profile::policy::Policy;
 
 /// Lines after the program's name, and what they ask for.
@@ -37,8 +38,17 @@ const COMMANDS: &[(&str, Command)] = &[
             policy: Policy::State(16),
         },
     ),
+    (
+        "run x --policy fixed",
+        Command::Run {
+            policy: Policy::Fixed,
+        },
+    ),
     ("step", Command::Step),
+    ("step x", Command::Step),
     ("check", Command::Check),
+    ("check x", Command::CheckWorkload),
+    ("check x y", Command::CheckApart),
     (
         "gen 8 2 1",
         Command::Gen {
@@ -71,7 +81,7 @@ const REFUSED: &[&str] = &[
     "help",
     "--help",
     "-h",
-    "run x",
+    "run x y",
     "run --help",
     "run --policy",
     "run --policy round:0",
@@ -83,8 +93,9 @@ const REFUSED: &[&str] = &[
     "run --policy fixed --policy fixed",
     "run --policies fixed",
     "step --policy fixed",
-    "step x",
-    "check x",
+    "step x y",
+    "check x y z",
+    "check --policy fixed",
     "gen",
     "gen 0 1 1",
     "gen 1 33 1",
@@ -98,7 +109,6 @@ const REFUSED: &[&str] = &[
     "gen 1 1 01",
     "gen -1 1 1",
     "bench",
-    "run step",
 ];
 
 /// The words of a command line: the program's name, and those of this line after it.
@@ -131,5 +141,45 @@ fn other_lines_are_refused(rt: HostRuntime) -> Result<(), Fail> {
         assert_eq!(rt; read_words(rt.alloc(), words.as_slice())?, None, "{line}");
     }
     assert_eq!(rt; read_words(rt.alloc(), &[])?, None);
+    Ok(())
+}
+
+/// Lines, and the files that they name.
+const FILES: [(&str, Option<&str>, Option<&str>); 5] = [
+    ("run", None, None),
+    ("run --policy fixed x", Some("x"), None),
+    ("step x", Some("x"), None),
+    ("check x y", Some("x"), Some("y")),
+    ("run x y", None, None),
+];
+
+#[test]
+fn files_are_read(rt: HostRuntime) -> Result<(), Fail> {
+    for (line, first, report) in FILES {
+        let words = words(rt.alloc(), line)?;
+        let files = read_files(rt.alloc(), words.as_slice())?;
+        assert_eq!(rt; (files.first, files.report), (first, report), "{line}");
+    }
+    Ok(())
+}
+
+/// Lines, and the help that they ask for.
+const HELPED: [(&str, Option<Topic>); 8] = [
+    ("", None),
+    ("--help", Some(Topic::All)),
+    ("help", Some(Topic::All)),
+    ("-V", Some(Topic::Version)),
+    ("gen --help", Some(Topic::Gen)),
+    ("help check", Some(Topic::Check)),
+    ("stpe --help", None),
+    ("run --policy fixed --help", None),
+];
+
+#[test]
+fn help_is_asked_for(rt: HostRuntime) -> Result<(), Fail> {
+    for (line, topic) in HELPED {
+        let words = words(rt.alloc(), line)?;
+        assert_eq!(rt; help_of(words.as_slice()), topic, "{line}");
+    }
     Ok(())
 }

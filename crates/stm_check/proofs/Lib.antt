@@ -14,3 +14,4 @@ pub mod FindingLaws
 pub mod AfterLaws
 pub mod FaultLaws
 pub mod WantedLaws
+pub mod ApartLaws

@@ -6,7 +6,7 @@ use Rattle.stm_text.specs.LineLaws.{cut-at, lines_of-first, lines_of-last}
 use Rattle.stm_check.specs.Grammar.{Reading, step_by, line_by, go_on, read}
 
 -- a line and then the rest
-first-line : (s : List ℕ) (i : ℕ) (r : List ℕ) → Lacks 10 (take i s) → drop i s ≡ 10 ∷ r → lines_of s ≡ record { bytes = take i s; ended = true } ∷ lines_of r
+pub first-line : (s : List ℕ) (i : ℕ) (r : List ℕ) → Lacks 10 (take i s) → drop i s ≡ 10 ∷ r → lines_of s ≡ record { bytes = take i s; ended = true } ∷ lines_of r
 first-line s i r h at = ap lines_of (cut-at i s 10 r at) ∙ lines_of-first (take i s) r h
 
 module _ (d : Reading) (k : ℕ) (s : List ℕ) (i : ℕ) (r : List ℕ) (h : Lacks 10 (take i s)) (at : drop i s ≡ 10 ∷ r) where

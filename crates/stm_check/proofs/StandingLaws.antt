@@ -168,6 +168,13 @@ rows-beyond n callers above r le lt none =
     let test : (r.caller == n) ≡ false = grind (arith, nat_tests) in
     rows-append n above (r ∷ []) ∙ (ap (λ b. rows_of n above ++ (if b then r ∷ [] else [])) test ∙ (append-nil (rows_of n above) ∙ none))
 
+-- a transaction of the caller is left
+pub some-left : (w : Workload) (above : List Row) (n : ℕ) (c : Cursor) (x : List Op) (rest : List (List Op)) → IsAt w.items above n c → scripts_of n (drop c.item w.items) ≡ x ∷ rest
+    → length (rows_of n above) < length (scripts_of n w.items)
+some-left w above n c x rest at found =
+    let h = (first-of (scripts_of n w.items) c.seq x rest x (sym at.left ∙ found)).0 in
+    let r = at.rows in omega arith
+
 -- no transaction of the caller is left
 pub none-left : (w : Workload) (above : List Row) (n : ℕ) (c : Cursor) → IsAt w.items above n c → scripts_of n (drop c.item w.items) ≡ [] → length (rows_of n above) ≡ length (scripts_of n w.items)
 none-left w above n c at none =

@@ -1,5 +1,5 @@
 -- What is wanted is of a row that has a fault.
-use Rattle.std.proofs.Common.{ℕ, zero, suc, ◌≡◌, List, [], ◌∷◌, ◌++◌, Bool, true, false, refl, sym, ◌∙◌}
+use Rattle.std.proofs.Common.{ℕ, zero, suc, ◌≡◌, List, [], ◌∷◌, ◌++◌, arith, length, Bool, true, false, refl, sym, ◌∙◌}
 use Rattle.tx_regions.specs.declared.region.Region.{Region}
 use Rattle.stm_script.specs.declared.op.Op.{Op}
 use Rattle.stm_script.specs.declared.report.Kind.{Kind}
@@ -43,7 +43,9 @@ wanted-row regions script m r C ran can own replies emits wrote = record { fits 
 wants-wrong : (w : Workload) (above : List Row) (m : List ℕ) (r : Row) (wanted : Wanted) → WantsOf w above m r wanted → IsRight w above m r → ⊥
 wants-wrong w above m r wants.Later h right = h right.ordered
 wants-wrong w above m r wants.Apart h right = h right.apart
-wants-wrong w above m r (wants.Next seq) h right = h.1 (right.next ∙ sym h.0) right.exists
+wants-wrong w above m r (wants.Next seq) h right = h.2 (right.next ∙ sym h.0)
+wants-wrong w above m r (wants.Over count) h right =
+    let next = right.next in let exists = right.exists in let had = h.0 in let most = h.1 in omega arith
 wants-wrong w above m r (wants.Row want) h right = h.0 right.fits
 wants-wrong w above m r (wants.Missing caller seq) h right = h
 wants-wrong w above m r (wants.Word address value) h right = h

@@ -9,6 +9,8 @@ use Rattle.stm_check.specs.Grammar.{report_of}
 use Rattle.stm_check.specs.Verdicts.{Judges}
 use Rattle.stm_check.specs.declared.checking.Finding.{Finding}
 use Rattle.stm_check.specs.declared.checking.Finding.TheVariants as findings
+use Rattle.stm_check.specs.declared.checking.Part.{Part}
+use Rattle.stm_check.specs.declared.checking.Part.TheVariants as parts
 use Rattle.stm_check.specs.Wanted.{IsWanted}
 use Rattle.stm_check.specs.declared.wanted.Wanted.{Wanted}
 use Rattle.stm_check.specs.declared.verdict.Verdict.TheVariants.{Yes, No}
@@ -27,48 +29,70 @@ abbrev pub with_workload : Result Workload (ℕ × ℕ) → ℕ → List ℕ →
 with_workload (Ok w) above rest = with_report above w (report_of rest)
 with_workload (Err fault) above rest = Err fault
 
--- THE TWO TEXTS: the workload up to and with the first line `done`, and the report after it; or the line and the code of the first fault
+-- a workload's text and a report's, which has so many lines above it: both, or the line and the code of the first fault
+abbrev pub pair_by : List ℕ → ℕ → List ℕ → Result (Workload × Report) (ℕ × ℕ)
+pair_by head above rest = with_workload (workload_of Stepwise head) above rest
+
+-- THE TWO TEXTS: the workload up to and with the first line `done`, and the report after it
 abbrev pub pair_of : List ℕ → Result (Workload × Report) (ℕ × ℕ)
-pair_of text = with_workload (workload_of Stepwise (to_done text)) (lines_to_done text) (after_done text)
+pair_of text = pair_by (to_done text) (lines_to_done text) (after_done text)
 
--- the text is a workload's and then that of a report that replays it
-pub record IsYes (text : List ℕ) : Type 0 where
-  pub workload : Workload
-  pub report : Report
-  pub reads : pair_of text ≡ Ok (workload, report)
-  pub judged : Judges workload report Yes
+module _ (pair : Result (Workload × Report) (ℕ × ℕ)) where
+  -- they are a workload's and a report's that replays it
+  pub record IsYesOf : Type 0 where
+    pub workload : Workload
+    pub report : Report
+    pub reads : pair ≡ Ok (workload, report)
+    pub judged : Judges workload report Yes
 
--- the text is a workload's and then that of a report that doesn't replay it; the line is the first at fault
-pub record IsNo (text : List ℕ) (line : ℕ) : Type 0 where
-  pub workload : Workload
-  pub report : Report
-  pub reads : pair_of text ≡ Ok (workload, report)
-  pub at : ℕ
-  pub judged : Judges workload report (No at)
-  pub shift : line ≡ lines_to_done text + at
+  -- they are a workload's and a report's that doesn't replay it; the line is the first at fault
+  pub record IsNoOf (above line : ℕ) : Type 0 where
+    pub workload : Workload
+    pub report : Report
+    pub reads : pair ≡ Ok (workload, report)
+    pub at : ℕ
+    pub judged : Judges workload report (No at)
+    pub shift : line ≡ above + at
 
--- the text isn't a workload's and then a report's; this is its first fault
+  -- what a check of them comes to
+  abbrev pub FindsOf : ℕ → Finding → Type 0
+  FindsOf above findings.Yes = IsYesOf
+  FindsOf above (findings.No line) = IsNoOf above line
+  FindsOf above (findings.Faulty line code) = pair ≡ Err (line, code)
+
+  -- they are a workload's and a report's, and this is wanted on the report's first line at fault
+  pub record IsWantedOf (wanted : Wanted) : Type 0 where
+    pub workload : Workload
+    pub report : Report
+    pub reads : pair ≡ Ok (workload, report)
+    pub wants : IsWanted workload report wanted
+
+  -- something is wanted exactly where the report doesn't replay the workload
+  abbrev pub FindsWantedOf : Finding → Option Wanted → Type 0
+  FindsWantedOf findings.Yes wanted = wanted ≡ None
+  FindsWantedOf (findings.No line) wanted = MatchOption wanted ⊥ IsWantedOf
+  FindsWantedOf (findings.Faulty line code) wanted = wanted ≡ None
+
+-- the same of one text
+abbrev pub IsYes : List ℕ → Type 0
+IsYes text = IsYesOf (pair_of text)
+
+abbrev pub IsNo : List ℕ → ℕ → Type 0
+IsNo text line = IsNoOf (pair_of text) (lines_to_done text) line
+
 abbrev pub IsFaulty : List ℕ → ℕ → ℕ → Type 0
 IsFaulty text line code = pair_of text ≡ Err (line, code)
 
--- what a check of a text comes to
 abbrev pub Finds : List ℕ → Finding → Type 0
-Finds text findings.Yes = IsYes text
-Finds text (findings.No line) = IsNo text line
-Finds text (findings.Faulty line code) = IsFaulty text line code
+Finds text finding = FindsOf (pair_of text) (lines_to_done text) finding
 
--- the text is a workload's and then a report's, and this is wanted on the report's first line at fault
-pub record IsWantedIn (text : List ℕ) (wanted : Wanted) : Type 0 where
-  pub workload : Workload
-  pub report : Report
-  pub reads : pair_of text ≡ Ok (workload, report)
-  pub wants : IsWanted workload report wanted
-
--- something is wanted exactly where the report doesn't replay the workload
 abbrev pub FindsWanted : List ℕ → Finding → Option Wanted → Type 0
-FindsWanted text findings.Yes wanted = wanted ≡ None
-FindsWanted text (findings.No line) wanted = MatchOption wanted ⊥ (IsWantedIn text)
-FindsWanted text (findings.Faulty line code) wanted = wanted ≡ None
+FindsWanted text finding wanted = FindsWantedOf (pair_of text) finding wanted
+
+-- a finding is of the workload's text where that has a fault, and else of the report's
+abbrev pub IsPart : Result Workload (ℕ × ℕ) → Part → Type 0
+IsPart (Ok w) part = part ≡ parts.Report
+IsPart (Err fault) part = part ≡ parts.Workload
 
 -- a text has one finding: where one is right no other is
 abbrev pub OneFindingPerText : Type 0

@@ -7,3 +7,4 @@ pub mod Texts
 pub mod Checks
 pub mod Limits
 pub mod Wanted
+pub mod Apart

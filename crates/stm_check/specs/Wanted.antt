@@ -1,5 +1,5 @@
 -- What the replay wants on a report's first line at fault.
-use Rattle.std.specs.Prelude.{ℕ, zero, suc, ◌≡◌, ◌≢◌, ◌<◌, ◌+◌, ◌⊎◌, List, [], ◌∷◌, ◌++◌, length, get_or, Option, None, IfSome, MatchOption}
+use Rattle.std.specs.Prelude.{ℕ, zero, suc, ◌≡◌, ◌≢◌, ◌<◌, ◌≤◌, ◌+◌, ◌⊎◌, List, [], ◌∷◌, ◌++◌, length, get_or, Option, None, IfSome, MatchOption}
 use Rattle.std.specs.List.{last_or}
 use Rattle.tx_regions.specs.declared.region.Region.{Region}
 use Rattle.stm_script.specs.declared.op.Op.{Op}
@@ -33,8 +33,10 @@ abbrev pub WantsOf : Workload → List Row → List ℕ → Row → Wanted → T
 WantsOf w above m r wants.Later = IfSome (last_or None above) (λ x. IsBefore x r) → ⊥
 -- another place than that of the W row above
 WantsOf w above m r wants.Apart = by_kind r.kind (IfSome (last_or None (writers above)) (λ place. place ≢ r.place)) (Unit {0}) → ⊥
--- its caller's next transaction, which has this number, if it exists
-WantsOf w above m r (wants.Next seq) = (seq ≡ length (rows_of r.caller above)) × (r.seq ≡ seq → r.seq < length (scripts_of r.caller w.items) → ⊥)
+-- its caller's next transaction, which has this number
+WantsOf w above m r (wants.Next seq) = (seq ≡ length (rows_of r.caller above)) × (seq < length (scripts_of r.caller w.items)) × (r.seq ≢ seq)
+-- no row of its caller, each of whose transactions has one
+WantsOf w above m r (wants.Over count) = (count ≡ length (rows_of r.caller above)) × (length (scripts_of r.caller w.items) ≤ count)
 WantsOf w above m r (wants.Row want) = IsWantedFor (regions_of w.header) (script_of w.items r) m r want
 WantsOf w above m r (wants.Missing caller seq) = ⊥
 WantsOf w above m r (wants.Word address value) = ⊥
@@ -64,6 +66,7 @@ WantsAfter w r last wants.End = AllHaveRows w r.rows × (alike r.memory (nonzero
 WantsAfter w r last wants.Later = ⊥
 WantsAfter w r last wants.Apart = ⊥
 WantsAfter w r last (wants.Next seq) = ⊥
+WantsAfter w r last (wants.Over count) = ⊥
 WantsAfter w r last (wants.Row want) = ⊥
 
 -- WHAT IS WANTED on the first line at fault

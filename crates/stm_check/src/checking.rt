@@ -1,6 +1,9 @@
 //! A workload and a report in one text, checked.
 ghost use Rattle.std.specs.Prelude.{◌≡◌, ◌≤◌, ◌<◌, ◌+◌, ◌^◌, length, None, IfOk};
-ghost use Rattle.stm_check.specs.Checks.{Finds, FindsWanted, shifted};
+ghost use Rattle.stm_check.specs.Checks.{Finds, FindsWanted, FindsOf, FindsWantedOf, IsPart, pair_by, shifted};
+ghost use Rattle.stm_text.specs.Grammar.{workload_of};
+ghost use Rattle.stm_text.specs.Parting.{to_done};
+ghost use Rattle.stm_text.specs.declared.parse.Mode.TheVariants.{Step};
 ghost use Rattle.stm_check.specs.declared.checking.Finding.TheVariants.{Faulty};
 ghost use Rattle.stm_check.specs.declared.checking.TheConstants.{MOST_CHECKED};
 
@@ -30,21 +33,31 @@ pub enum Finding {
     Faulty { line: usize, code: u32 },
 }
 
-/// A finding, and of a `No` what the replay wants on that line.
+/// Which of the two texts a finding is of.
+#[derive(Clone, Copy, Drop, Debug, PartialEq, Eq)]
+pub enum Part {
+    Workload,
+    Report,
+}
+
+/// A finding, the text that it is of, and of a `No` what the replay wants on that line.
 #[derive(Drop, Debug)]
 pub struct Checked {
     pub finding: Finding,
+    pub part: Part,
     pub wanted: Option<Wanted>,
 }
 
 impl Checked {
-    /// Of a text that isn't a workload and a report.
-    fn faulty(line: usize, code: u32) -> Checked
+    /// Of texts that aren't a workload and a report.
+    fn faulty(part: Part, line: usize, code: u32) -> Checked
         ensures finding { result.finding ≡ Faulty line code }
+        ensures part { result.part ≡ part }
         ensures wanted { result.wanted ≡ None }
     {
         Checked {
             finding: Finding::Faulty { line, code },
+            part,
             wanted: None,
         }
     }
@@ -59,21 +72,42 @@ pub fn check(alloc: Global, text: &[u8]) -> Result<Checked, Memory>
     requires { length text.now ≤ MOST_CHECKED }
     ensures finding { IfOk result (λ c. Finds text.now c.finding) }
     ensures wanted { IfOk result (λ c. FindsWanted text.now c.finding c.wanted) }
+    ensures part { IfOk result (λ c. IsPart (workload_of Step (to_done text.now)) c.part) }
+{
+    text_is_parted();
+    let (head, behind) = part_at_done(text);
+    check_parts(alloc, head, count_lines(head), behind)
+}
+
+/// Checks the text of a workload, and that of a report, which has so many lines above it.
+///
+/// # Errors
+/// Memory, where it is refused.
+pub(crate) fn check_parts(
+    alloc: Global,
+    head: &[u8],
+    above: usize,
+    behind: &[u8],
+) -> Result<Checked, Memory>
+    requires { above + length behind.now + 2 < 2 ^ 64 }
+    ensures finding { IfOk result (λ c. FindsOf (pair_by head.now above behind.now) above c.finding) }
+    ensures wanted { IfOk result (λ c.
+        FindsWantedOf (pair_by head.now above behind.now) c.finding c.wanted) }
+    ensures part { IfOk result (λ c. IsPart (workload_of Step head.now) c.part) }
 {
     parsed_workloads_fit();
-    text_is_parted();
     report_is_written();
-    let (head, behind) = part_at_done(text);
     let workload = match parse(alloc, head, Mode::Step) {
         Ok(workload) => workload,
-        Err(ParseError::Fault { line, code }) => return Ok(Checked::faulty(line, code)),
+        Err(ParseError::Fault { line, code }) => {
+            return Ok(Checked::faulty(Part::Workload, line, code));
+        }
         Err(ParseError::Memory) => return Err(Memory),
     };
-    let above = count_lines(head);
     let report = match read_report(alloc, behind) {
         Ok(report) => report,
         Err(ParseError::Fault { line, code }) => {
-            return Ok(Checked::faulty(shifted(above, line), code));
+            return Ok(Checked::faulty(Part::Report, shifted(above, line), code));
         }
         Err(ParseError::Memory) => return Err(Memory),
     };
@@ -84,6 +118,7 @@ pub fn check(alloc: Global, text: &[u8]) -> Result<Checked, Memory>
     };
     Ok(Checked {
         finding,
+        part: Part::Report,
         wanted: judged.wanted,
     })
 }

@@ -1,6 +1,7 @@
 //! Reports, read from their text and judged: does one thread that runs their rows get what they say?
 #![tactic(auto)]
 
+pub mod apart;
 pub mod checking;
 pub mod laws;
 mod ledger;

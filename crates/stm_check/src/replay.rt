@@ -89,14 +89,22 @@ fn pass(standing: &mut Standing, row: &Row, item: usize)
     }
 }
 
-/// How many rows a caller has above.
-fn rows_had(standing: &Standing, caller: usize) -> usize
-    ensures { (w : Workload) (above : List Row) → StandsAfter w above standing.now
-        → result ≡ length (rows_of caller above) }
+/// What is wanted in the place of a row that isn't its caller's next: the next one, or none where each has its row.
+fn wanted_next(workload: &Workload, standing: &Standing, above: &[Row], row: &Row) -> Wanted
+    requires items { ItemsFit (regions_of workload.now.header) workload.now.header
+        workload.now.items }
+    requires stands { StandsAfter workload.now above.now standing.now }
+    requires wrong { row.now.seq ≡ length (rows_of row.now.caller above.now)
+        → row.now.seq < length (scripts_of row.now.caller workload.now.items) → ⊥ }
+    ensures { (m : List ℕ) → WantsOf workload.now above.now m row.now result }
 {
-    match standing.cursors.get(caller) {
-        Some(cursor) => cursor.seq,
-        None => 0,
+    if standing.cursors.len() <= row.caller {
+        return Wanted::Over { count: 0 };
+    }
+    let cursor = standing.cursors[row.caller];
+    match next_script(workload.items.as_slice(), row.caller, cursor.item) {
+        Some(_) => Wanted::Next { seq: cursor.seq },
+        None => Wanted::Over { count: cursor.seq },
     }
 }
 
@@ -135,8 +143,7 @@ fn wanted_for(
         return Ok(Some(Wanted::Apart));
     }
     let Some((item, script)) = next_of(workload, standing, above, row) else {
-        let seq = rows_had(standing, row.caller);
-        return Ok(Some(Wanted::Next { seq }));
+        return Ok(Some(wanted_next(workload, standing, above, row)));
     };
     if let Some(wanted) = wanted_row(alloc, &mut standing.ledger, regions, script, row)? {
         return Ok(Some(Wanted::Row(wanted)));

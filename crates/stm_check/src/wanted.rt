@@ -8,8 +8,10 @@ pub enum Wanted {
     Later,
     /// A W row at another place than that of the W row above it.
     Apart,
-    /// The row of its caller's next transaction, which has this number, if there is one more.
+    /// The row of its caller's next transaction, which has this number.
     Next { seq: usize },
+    /// No row of its caller, which has no more transactions than these.
+    Over { count: usize },
     /// This row, which tells what the transaction's script does on the memory so far.
     Row(Row),
     /// The row of this transaction, which has none.

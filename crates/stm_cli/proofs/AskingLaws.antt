@@ -1,6 +1,6 @@
 -- Words ask for one command at most.
 use Rattle.std.proofs.Common.{ℕ, ◌≡◌, ◌<◌, ◌≤◌, ◌^◌, List, [], Option, Some, None, get_or, drop, refl, sym, ap, ◌∙◌, subst, arith, lit<}
-use Rattle.std.specs.Prelude.{codes}
+use Rattle.std.specs.Prelude.{codes, is_some, true, false}
 use Rattle.std.specs.Fmt.{decimal}
 use Rattle.std.proofs.lemmas.Fmt.{decimal_injective}
 use Rattle.clap.specs.Words.{Row, Text, first_of}
@@ -8,7 +8,7 @@ use Rattle.stm_profile.specs.declared.policy.Policy.{Policy}
 use Rattle.stm_profile.specs.declared.policy.Policy.TheVariants.{Fixed, Round, Expert, State}
 use Rattle.stm_profile.specs.PolicyWords.{HasWord, policy_word}
 use Rattle.stm_cli.specs.declared.command.Command.{Command}
-use Rattle.stm_cli.specs.declared.command.Command.TheVariants.{Run, Step, Gen, Check}
+use Rattle.stm_cli.specs.declared.command.Command.TheVariants.{Run, Step, Gen, Check, CheckWorkload, CheckApart}
 use Rattle.stm_cli.specs.Asking.{AsksBy, AskOnce, IsGen, NamesPolicy, subcommand_name}
 
 abbrev text_in : Option Text → Text
@@ -68,23 +68,46 @@ same-named : (found : Option Text) (p q : Policy) → NamesPolicy found p → Na
 same-named None p q x y = x ∙ sym y
 same-named (Some word) p q x y = same-policy p q x.0 y.0 (sym x.1 ∙ y.1)
 
+none-some : {A : Type 0} (o : Option A) → o ≡ None → is_some o ≡ true → ⊥
+none-some o none some = let e : false ≡ true = sym (ap is_some none) ∙ some in absurd cc
+
 same-command : (rows : List Row) (a b : Command) → subcommand_name a ≡ subcommand_name b → AsksBy rows a → AsksBy rows b → a ≡ b
 same-command rows (Run p) (Run q) e x y = ap Run (same-named (first_of (codes "policy") rows) p q x y)
 same-command rows (Run p) Step e x y = absurd (apart 114 115 (lit< tt) (ap first e))
 same-command rows (Run p) (Gen n t v) e x y = absurd (apart 103 114 (lit< tt) (sym (ap first e)))
+same-command rows (Run p) Check e x y = absurd (apart 99 114 (lit< tt) (sym (ap first e)))
+same-command rows (Run p) CheckWorkload e x y = absurd (apart 99 114 (lit< tt) (sym (ap first e)))
+same-command rows (Run p) CheckApart e x y = absurd (apart 99 114 (lit< tt) (sym (ap first e)))
 same-command rows Step (Run q) e x y = absurd (apart 114 115 (lit< tt) (sym (ap first e)))
 same-command rows Step Step e x y = refl
 same-command rows Step (Gen n t v) e x y = absurd (apart 103 115 (lit< tt) (sym (ap first e)))
+same-command rows Step Check e x y = absurd (apart 99 115 (lit< tt) (sym (ap first e)))
+same-command rows Step CheckWorkload e x y = absurd (apart 99 115 (lit< tt) (sym (ap first e)))
+same-command rows Step CheckApart e x y = absurd (apart 99 115 (lit< tt) (sym (ap first e)))
 same-command rows (Gen m s u) (Run q) e x y = absurd (apart 103 114 (lit< tt) (ap first e))
 same-command rows (Gen m s u) Step e x y = absurd (apart 103 115 (lit< tt) (ap first e))
 same-command rows (Gen m s u) (Gen n t v) e x y = same-gen rows m n s t u v x y
-same-command rows (Run p) Check e x y = absurd (apart 99 114 (lit< tt) (sym (ap first e)))
-same-command rows Step Check e x y = absurd (apart 99 115 (lit< tt) (sym (ap first e)))
 same-command rows (Gen m s u) Check e x y = absurd (apart 99 103 (lit< tt) (sym (ap first e)))
+same-command rows (Gen m s u) CheckWorkload e x y = absurd (apart 99 103 (lit< tt) (sym (ap first e)))
+same-command rows (Gen m s u) CheckApart e x y = absurd (apart 99 103 (lit< tt) (sym (ap first e)))
 same-command rows Check (Run q) e x y = absurd (apart 99 114 (lit< tt) (ap first e))
 same-command rows Check Step e x y = absurd (apart 99 115 (lit< tt) (ap first e))
 same-command rows Check (Gen n t v) e x y = absurd (apart 99 103 (lit< tt) (ap first e))
 same-command rows Check Check e x y = refl
+same-command rows Check CheckWorkload e x y = absurd (none-some (first_of (codes "FILE") rows) x.1 y.1)
+same-command rows Check CheckApart e x y = absurd (none-some (first_of (codes "REPORT") rows) x.0 y)
+same-command rows CheckWorkload (Run q) e x y = absurd (apart 99 114 (lit< tt) (ap first e))
+same-command rows CheckWorkload Step e x y = absurd (apart 99 115 (lit< tt) (ap first e))
+same-command rows CheckWorkload (Gen n t v) e x y = absurd (apart 99 103 (lit< tt) (ap first e))
+same-command rows CheckWorkload Check e x y = absurd (none-some (first_of (codes "FILE") rows) y.1 x.1)
+same-command rows CheckWorkload CheckWorkload e x y = refl
+same-command rows CheckWorkload CheckApart e x y = absurd (none-some (first_of (codes "REPORT") rows) x.0 y)
+same-command rows CheckApart (Run q) e x y = absurd (apart 99 114 (lit< tt) (ap first e))
+same-command rows CheckApart Step e x y = absurd (apart 99 115 (lit< tt) (ap first e))
+same-command rows CheckApart (Gen n t v) e x y = absurd (apart 99 103 (lit< tt) (ap first e))
+same-command rows CheckApart Check e x y = absurd (none-some (first_of (codes "REPORT") rows) y.0 x)
+same-command rows CheckApart CheckWorkload e x y = absurd (none-some (first_of (codes "REPORT") rows) y.0 x)
+same-command rows CheckApart CheckApart e x y = refl
 
 pub ask-once : AskOnce
 ask-once words a b x y =

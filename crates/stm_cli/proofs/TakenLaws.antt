@@ -27,3 +27,8 @@ asks-by words found (Some command) taken e h = record { taken = taken; asks = su
 pub not-taken : (words : List Text) (e : Error) → HasKind (fault_of bench_app words) e → kind_of e ≢ OutOfMemory → (command : Command) → Asks words command → ⊥
 not-taken words e (inl memory) other command asks = other memory
 not-taken words e (inr among) other command asks = subst (IsAmong (kind_of e)) asks.taken among
+
+-- words that clap takes have no fault
+pub no-fault : (words : List Text) (e : Error) → HasKind (fault_of bench_app words) e → kind_of e ≢ OutOfMemory → AreTaken words → ⊥
+no-fault words e (inl memory) other taken = other memory
+no-fault words e (inr among) other taken = subst (IsAmong (kind_of e)) taken among

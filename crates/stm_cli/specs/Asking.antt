@@ -1,5 +1,5 @@
 -- What the words of a command line ask for.
-use Rattle.std.specs.Prelude.{ℕ, ◌≡◌, ◌<◌, ◌^◌, List, Option, Some, None, codes, map}
+use Rattle.std.specs.Prelude.{ℕ, ◌≡◌, ◌<◌, ◌^◌, true, List, Option, Some, None, is_some, codes, map}
 use Rattle.std.specs.Borrow.{Bor}
 use Rattle.std.specs.Fmt.{decimal}
 use Rattle.clap.specs.Words.{Row, Text, first_of, subcommand_of}
@@ -8,7 +8,7 @@ use Rattle.stm_profile.specs.declared.policy.Policy.{Policy}
 use Rattle.stm_profile.specs.declared.policy.Policy.TheVariants.{Fixed}
 use Rattle.stm_profile.specs.PolicyWords.{IsUpTo, IsWordOf}
 use Rattle.stm_cli.specs.declared.command.Command.{Command}
-use Rattle.stm_cli.specs.declared.command.Command.TheVariants.{Run, Step, Gen, Check}
+use Rattle.stm_cli.specs.declared.command.Command.TheVariants.{Run, Step, Gen, Check, CheckWorkload, CheckApart}
 use Rattle.stm_cli.specs.declared.command.TheConstants.{MOST_TRANSACTIONS}
 use Rattle.stm_cli.specs.Grammar.{bench_app, AreTaken}
 
@@ -29,13 +29,17 @@ abbrev pub AsksBy : List Row → Command → Type 0
 AsksBy rows (Run policy) = NamesPolicy (first_of (codes "policy") rows) policy
 AsksBy rows Step = Unit {0}
 AsksBy rows (Gen n t seed) = IsGen rows n t seed
-AsksBy rows Check = Unit {0}
+AsksBy rows Check = (first_of (codes "REPORT") rows ≡ None) × (first_of (codes "FILE") rows ≡ None)
+AsksBy rows CheckWorkload = (first_of (codes "REPORT") rows ≡ None) × (is_some (first_of (codes "FILE") rows) ≡ true)
+AsksBy rows CheckApart = is_some (first_of (codes "REPORT") rows) ≡ true
 
 abbrev pub subcommand_name : Command → Text
 subcommand_name (Run policy) = codes "run"
 subcommand_name Step = codes "step"
 subcommand_name (Gen n t seed) = codes "gen"
 subcommand_name Check = codes "check"
+subcommand_name CheckWorkload = codes "check"
+subcommand_name CheckApart = codes "check"
 
 -- a subcommand and its entries, as clap finds them, ask for this
 pub record AsksIn (found : Option (Text × List Row)) (command : Command) : Type 0 where
@@ -47,6 +51,15 @@ pub record AsksIn (found : Option (Text × List Row)) (command : Command) : Type
 pub record Asks (words : List Text) (command : Command) : Type 0 where
   pub taken : AreTaken words
   pub asks : AsksIn (subcommand_of bench_app words) command
+
+-- the names of the files that a subcommand and its entries give: of the text that is read first, and of a report of its own
+abbrev pub file_in : Option (Text × List Row) → Option Text
+file_in None = None
+file_in (Some found) = first_of (codes "FILE") found.1
+
+abbrev pub report_in : Option (Text × List Row) → Option Text
+report_in None = None
+report_in (Some found) = first_of (codes "REPORT") found.1
 
 -- the texts of words
 abbrev pub texts_of : List (Bor (List ℕ)) → List Text

@@ -1,4 +1,4 @@
--- THE COMMAND LINE'S GRAMMAR: `stm_bench run [--policy P]`, `stm_bench step`, `stm_bench gen N T SEED`, `stm_bench check`.
+-- THE COMMAND LINE'S GRAMMAR: `stm_bench run [--policy P] [FILE]`, `stm_bench step [FILE]`, `stm_bench gen N T SEED`, `stm_bench check [FILE [REPORT]]`.
 use Rattle.std.specs.Prelude.{◌≡◌, true, false, Some, List, [], codes}
 use Rattle.clap.specs.Words.{App, Rule, Text, Shape, app_of, new_app, new_rule, with_rule, with_subcommand}
 use Rattle.clap.specs.Simple.{shape_of, on_top}
@@ -14,11 +14,18 @@ policy_option = record (new_rule (codes "policy")) { long = Some (codes "policy"
 abbrev pub needed : Text → Rule
 needed id = record (new_rule id) { required = true }
 
+-- a file's name, which may be there
+abbrev pub file_word : Rule
+file_word = new_rule (codes "FILE")
+
+abbrev pub report_word : Rule
+report_word = new_rule (codes "REPORT")
+
 abbrev pub run_shape : Shape
-run_shape = (with_rule (new_app (codes "run")) policy_option).top
+run_shape = (with_rule (with_rule (new_app (codes "run")) policy_option) file_word).top
 
 abbrev pub step_shape : Shape
-step_shape = (new_app (codes "step")).top
+step_shape = (with_rule (new_app (codes "step")) file_word).top
 
 -- `gen N T`
 abbrev pub sized_shape : Shape
@@ -28,7 +35,7 @@ abbrev pub gen_shape : Shape
 gen_shape = (with_rule (with_rule (with_rule (new_app (codes "gen")) (needed (codes "N"))) (needed (codes "T"))) (needed (codes "SEED"))).top
 
 abbrev pub check_shape : Shape
-check_shape = (new_app (codes "check")).top
+check_shape = (with_rule (with_rule (new_app (codes "check")) file_word) report_word).top
 
 -- the commands that read the workload that they run
 abbrev pub reading_app : App

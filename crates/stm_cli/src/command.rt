@@ -23,4 +23,8 @@ pub enum Command {
     },
     /// `check`: the workload that is read, and the report after it.
     Check,
+    /// `check WORKLOAD`: a workload alone.
+    CheckWorkload,
+    /// `check WORKLOAD REPORT`: a workload, and a report of its own text.
+    CheckApart,
 }

@@ -6,12 +6,12 @@ ghost use Rattle.stm_cli.specs.Grammar.{bench_app, run_shape, step_shape, sized_
 use clap::{Arg, Command};
 use std::alloc::{AllocError, Global};
 
-/// `stm_bench run [--policy P]`, `stm_bench step`, `stm_bench gen N T SEED` and `stm_bench check`. Each value is a text
-/// to clap.
+/// `stm_bench run [--policy P] [FILE]`, `stm_bench step [FILE]`, `stm_bench gen N T SEED` and
+/// `stm_bench check [FILE [REPORT]]`. Each value is a text to clap.
 pub fn bench_command<'a>(alloc: Global) -> Result<Command<'a>, AllocError>
     ensures { IfOk result (λ c. app_of c ≡ bench_app) }
 {
-    first_commands(alloc)?.subcommand(check_command(alloc))
+    first_commands(alloc)?.subcommand(check_command(alloc)?)
 }
 
 /// Those that run a workload.
@@ -28,20 +28,22 @@ fn reading_commands<'a>(alloc: Global) -> Result<Command<'a>, AllocError>
     Command::new(alloc, "stm_bench")
         .subcommand_required(true)
         .subcommand(run_command(alloc)?)?
-        .subcommand(step_command(alloc))
+        .subcommand(step_command(alloc)?)
 }
 
 fn run_command<'a>(alloc: Global) -> Result<Command<'a>, AllocError>
     ensures { IfOk result (IsLeafCommand run_shape) }
 {
     let policy = Arg::new(alloc, "policy").long("policy");
-    Command::new(alloc, "run").arg(policy)
+    Command::new(alloc, "run")
+        .arg(policy)?
+        .arg(Arg::new(alloc, "FILE"))
 }
 
-fn step_command<'a>(alloc: Global) -> Command<'a>
-    ensures { IsLeafCommand step_shape result }
+fn step_command<'a>(alloc: Global) -> Result<Command<'a>, AllocError>
+    ensures { IfOk result (IsLeafCommand step_shape) }
 {
-    Command::new(alloc, "step")
+    Command::new(alloc, "step").arg(Arg::new(alloc, "FILE"))
 }
 
 fn gen_command<'a>(alloc: Global) -> Result<Command<'a>, AllocError>
@@ -59,8 +61,10 @@ fn sized_command<'a>(alloc: Global) -> Result<Command<'a>, AllocError>
         .arg(Arg::new(alloc, "T").required(true))
 }
 
-fn check_command<'a>(alloc: Global) -> Command<'a>
-    ensures { IsLeafCommand check_shape result }
+fn check_command<'a>(alloc: Global) -> Result<Command<'a>, AllocError>
+    ensures { IfOk result (IsLeafCommand check_shape) }
 {
     Command::new(alloc, "check")
+        .arg(Arg::new(alloc, "FILE"))?
+        .arg(Arg::new(alloc, "REPORT"))
 }

@@ -4,5 +4,7 @@
 
 pub mod command;
 mod grammar;
+pub mod help;
 pub mod laws;
 pub mod reading;
+pub mod wrong;

@@ -1,11 +1,12 @@
 //! The words of a command line, read.
 ghost use Rattle.std.specs.Prelude.{◌≡◌, ◌≢◌, ℕ, IfOk, MatchOption, Some, codes, map, option_map};
 ghost use Rattle.std.specs.Fmt.{decimal};
-ghost use Rattle.clap.specs.Words.{first_of, found_of, rows_of, subcommand_rows_of};
+ghost use Rattle.clap.specs.Words.{first_of, found_of, rows_of, subcommand_of, subcommand_rows_of};
 ghost use Rattle.stm_profile.specs.declared.policy.Policy.{Policy};
 ghost use Rattle.stm_profile.specs.PolicyWords.{IsUpTo};
 ghost use Rattle.stm_cli.specs.declared.command.Command.{Command};
-ghost use Rattle.stm_cli.specs.Asking.{Asks, AsksIn, IsGen, NamesPolicy, texts_of};
+ghost use Rattle.stm_cli.specs.Asking.{Asks, AsksBy, AsksIn, IsGen, NamesPolicy, file_in, report_in, subcommand_name, texts_of};
+ghost use Rattle.stm_cli.specs.Grammar.{AreTaken, bench_app};
 
 use crate::command::{Command, MOST_TRANSACTIONS};
 use crate::grammar::bench_command;
@@ -52,8 +53,69 @@ fn command_of(matches: &ArgMatches<'_>) -> Option<Command>
                 seed,
             })
         }
-        Some(("check", _)) => Some(Command::Check),
+        Some(("check", found)) => Some(check_of(found)),
         _ => None,
+    }
+}
+
+/// What `check` is to read.
+fn check_of(found: &ArgMatches<'_>) -> Command
+    ensures name { subcommand_name result ≡ codes "check" }
+    ensures by { AsksBy (rows_of (found_of found.now)) result }
+{
+    if text_of(found, "REPORT").is_some() {
+        return Command::CheckApart;
+    }
+    if text_of(found, "FILE").is_some() {
+        Command::CheckWorkload
+    } else {
+        Command::Check
+    }
+}
+
+/// The names of files that words give, where they are in the grammar.
+#[derive(Clone, Copy, Drop, Debug, PartialEq, Eq)]
+pub struct Files<'a> {
+    /// Of the text that is read first, in place of standard input.
+    pub first: Option<&'a str>,
+    /// Of a report of its own text.
+    pub report: Option<&'a str>,
+}
+
+/// The names of files that the words give, the first word the program's name. Memory may be refused.
+pub fn read_files<'a>(alloc: Global, words: &'a [&'a str]) -> Result<Files<'a>, Memory>
+    ensures first { AreTaken (texts_of words.now) → IfOk result (λ f. option_map (λ s. s.now) f.first
+        ≡ file_in (subcommand_of bench_app (texts_of words.now))) }
+    ensures report { AreTaken (texts_of words.now) → IfOk result (λ f. option_map (λ s. s.now) f.report
+        ≡ report_in (subcommand_of bench_app (texts_of words.now))) }
+{
+    match bench_command(alloc)?.try_get_matches_from(words) {
+        Ok(matches) => Ok(files_in(&matches)),
+        Err(error) => match error.kind() {
+            ErrorKind::OutOfMemory => Err(Memory),
+            _ => Ok(Files {
+                first: None,
+                report: None,
+            }),
+        },
+    }
+}
+
+/// The names of files that the subcommand has which clap found.
+fn files_in<'a>(matches: &ArgMatches<'a>) -> Files<'a>
+    ensures first { option_map (λ s. s.now) result.first ≡ file_in (subcommand_rows_of matches.now) }
+    ensures report { option_map (λ s. s.now) result.report
+        ≡ report_in (subcommand_rows_of matches.now) }
+{
+    match matches.subcommand() {
+        Some((_, found)) => Files {
+            first: text_of(found, "FILE"),
+            report: text_of(found, "REPORT"),
+        },
+        None => Files {
+            first: None,
+            report: None,
+        },
     }
 }
 

@@ -1,16 +1,14 @@
-//! What may stand on a line of a workload: its forms, in which a capital letter stands for a word, and what each of these
-//! letters may be.
-use crate::spot::{LineKind, Spot};
-use std::alloc::AllocError;
-use stm_check::words::first_word;
+//! The forms of a workload's lines: in each a capital letter stands for a word.
+use crate::known::{Kind, Known, Range, kinds};
+use crate::offer::Offer;
+use crate::spot::LineKind;
+use crate::words::words_of;
+use std::alloc::{AllocError, Global};
 use stm_model::config::{
     CLOCK_LIMIT, MAX_CALLERS, MAX_LOG, MAX_RECORDS, MAX_RING, MAX_WORDS, MIN_RING,
 };
 use stm_profile::policy::{MOST_ROUND, MOST_STATE};
-use stm_script::workload::{
-    MAX_CELLS, MAX_KEY, MAX_REGIONS, MAX_STRIPES, MAX_TURNS, MAX_WORDS_ONE, STRIPES, STRUCTS_BEGIN,
-    STRUCTS_END, Version,
-};
+use stm_script::workload::{MAX_KEY, MAX_REGIONS, MAX_TURNS, MAX_WORDS_ONE, STRIPES, Version};
 use stm_text::lines;
 
 /// Operations of both versions.
@@ -65,235 +63,347 @@ const PLACED: [&str; 19] = [
     "msum R K L",
 ];
 
-/// Items of both versions, and what follows them.
-const ITEMS: [&str; 4] = ["tx C", "switch C ALG", "schedule", "done"];
-
-/// An item of version 2.
-const LONGER: [&str; 1] = ["reserve C X Y"];
+const ITEMS: [&str; 5] = ["tx C", "switch C ALG", "reserve C X Y", "schedule", "done"];
 
 const TURNS: [&str; 2] = ["go C N", "done"];
 
-/// The lines of the header, by their number from 1.
-const HEAD: [&str; 9] = [
-    "stm N",
-    "words N",
-    "callers N",
-    "records N",
-    "ring N",
-    "reads N",
-    "writes N",
-    "clock N",
-    "alg ALG",
+const ALGORITHMS: [&str; 6] = [
+    "alg CGL",
+    "alg TML",
+    "alg OrecLazy",
+    "alg OrecEager",
+    "alg RingSW",
+    "alg Serial",
 ];
 
-/// Of these forms the one that begins with this word.
-fn find(forms: &[&'static str], word: &[u8]) -> Option<&'static str> {
+/// Whether a word is that of an operation on a structure, in some version.
+pub(crate) fn is_structured(word: &[u8]) -> bool {
+    PLACED.iter().any(|form| {
+        let (first, _) = stm_check::words::first_word(form.as_bytes());
+        lines::is(first, word)
+    })
+}
+
+/// The forms that a place has, as far as the text above tells; those that can't stand there in fact are among them. These
+/// are the words of the line that stands there.
+pub(crate) fn candidates(
+    alloc: Global,
+    known: &Known,
+    words: &[&[u8]],
+) -> Result<Vec<Offer>, AllocError> {
+    let mut offers = Vec::new(alloc);
+    match (known.spot.place, known.spot.version) {
+        (LineKind::Head(number), _) => put_head(&mut offers, known, number)?,
+        (LineKind::Region(_), _) => put_regions(&mut offers, known, words)?,
+        (LineKind::Policy, _) => put_policies(&mut offers)?,
+        (LineKind::Items, _) => put_forms(&mut offers, known, words, &ITEMS)?,
+        (LineKind::Ops, version) => {
+            put_forms(&mut offers, known, words, &PLAIN)?;
+            match version {
+                Version::One => put_forms(&mut offers, known, words, &STRUCTURED)?,
+                Version::Two => put_forms(&mut offers, known, words, &PLACED)?,
+            }
+        }
+        (LineKind::Turns, _) => put_forms(&mut offers, known, words, &TURNS)?,
+    }
+    Ok(offers)
+}
+
+/// Appends the forms of the header's line of this number.
+fn put_head(offers: &mut Vec<Offer>, known: &Known, number: usize) -> Result<(), AllocError> {
+    match (number, known.spot.version) {
+        (1, _) => put_lines(offers, &["stm 1", "stm 2"]),
+        (2, Version::One) => put_sized(offers, "words", 1, MAX_WORDS_ONE as u64),
+        (2, Version::Two) => put_sized(offers, "words", 1, MAX_WORDS as u64),
+        (3, _) => put_sized(offers, "callers", 1, MAX_CALLERS as u64),
+        (4, _) => put_sized(offers, "records", 1, MAX_RECORDS as u64),
+        (5, _) => put_sized(offers, "ring", MIN_RING as u64, MAX_RING as u64),
+        (6, _) => put_sized(offers, "reads", 1, MAX_LOG as u64),
+        (7, _) => put_sized(offers, "writes", 1, MAX_LOG as u64),
+        (8, _) => put_sized(offers, "clock", 0, CLOCK_LIMIT),
+        (9, _) => put_lines(offers, &ALGORITHMS),
+        (_, Version::One) => put_lines(offers, &["structs off", "structs on"]),
+        (_, Version::Two) => put_sized(offers, "regions", 0, MAX_REGIONS as u64),
+    }
+}
+
+fn put_lines(offers: &mut Vec<Offer>, forms: &[&'static str]) -> Result<(), AllocError> {
+    let alloc = *offers.allocator();
     for form in forms {
-        let (first, _) = first_word(form.as_bytes());
-        if lines::is(first, word) {
-            return Some(*form);
-        }
-    }
-    None
-}
-
-/// The form of an item, an operation or turns that begins with this word, where one may stand there.
-pub(crate) fn form_of(spot: &Spot, word: &[u8]) -> Option<&'static str> {
-    match (spot.place, spot.version) {
-        (LineKind::Items, Version::One) => find(&ITEMS, word),
-        (LineKind::Items, Version::Two) => find(&ITEMS, word).or(find(&LONGER, word)),
-        (LineKind::Ops, Version::One) => find(&PLAIN, word).or(find(&STRUCTURED, word)),
-        (LineKind::Ops, Version::Two) => find(&PLAIN, word).or(find(&PLACED, word)),
-        (LineKind::Turns, _) => find(&TURNS, word),
-        (LineKind::Head(_) | LineKind::Region(_) | LineKind::Policy, _) => None,
-    }
-}
-
-/// The form of a line that begins with this word, where one may stand there.
-pub(crate) fn begun_by(spot: &Spot, word: &[u8]) -> Option<&'static str> {
-    match (spot.place, spot.version) {
-        (LineKind::Head(10), Version::One) => find(&["structs SWITCH"], word),
-        (LineKind::Head(10), Version::Two) => find(&["regions N"], word),
-        (LineKind::Head(number), _) => {
-            let form = HEAD.get(number.saturating_sub(1))?;
-            find(&[*form], word)
-        }
-        (LineKind::Region(_), _) => find(&["region KIND AT SIZE"], word),
-        (LineKind::Policy, _) => find(&["policy P"], word),
-        _ => form_of(spot, word),
-    }
-}
-
-/// Appends what may stand on a line: the form that begins with its first word, where there is one, with what its letters
-/// stand for, and else every form.
-pub(crate) fn put_expected(said: &mut String, spot: &Spot, word: &[u8]) -> Result<(), AllocError> {
-    said.push_str("; here stands ")?;
-    if let Some(form) = form_of(spot, word) {
-        return put_form(said, spot, form);
-    }
-    match (spot.place, spot.version) {
-        (LineKind::Head(number), _) => put_head(said, spot, number),
-        (LineKind::Region(_), _) => put_region(said),
-        (LineKind::Policy, _) => put_policy(said),
-        (LineKind::Items, Version::One) => put_forms(said, "", &ITEMS),
-        (LineKind::Items, Version::Two) => {
-            put_forms(said, "", &LONGER)?;
-            put_forms(said, ", ", &ITEMS)
-        }
-        (LineKind::Ops, _) => put_operations(said, spot),
-        (LineKind::Turns, _) => put_forms(said, "", &TURNS),
-    }
-}
-
-/// Appends every operation that may stand there.
-fn put_operations(said: &mut String, spot: &Spot) -> Result<(), AllocError> {
-    said.push_str("an operation of the transaction or its end: ")?;
-    put_forms(said, "", &PLAIN)?;
-    if spot.structures {
-        put_forms(said, ", ", &STRUCTURED)?;
-    }
-    if 0 < spot.regions {
-        put_forms(said, ", ", &PLACED)?;
+        offers.push(Offer::line(alloc, form)?)?;
     }
     Ok(())
 }
 
-/// Appends forms, after what parts them from those before.
+/// Appends a line of a name and a number.
+fn put_sized(offers: &mut Vec<Offer>, name: &str, low: u64, high: u64) -> Result<(), AllocError> {
+    let alloc = *offers.allocator();
+    offers.push(Offer {
+        name: format!(in alloc; "{name} N")?,
+        form: format!(in alloc; "`{name} N`, N from {low} to {high}")?,
+        low: format!(in alloc; "{name} {low}")?,
+        high: format!(in alloc; "{name} {high}")?,
+        apart: 0,
+    })?;
+    Ok(())
+}
+
+/// Appends the regions that have room, at the address that the line has, or from the first free word on.
+fn put_regions(offers: &mut Vec<Offer>, known: &Known, words: &[&[u8]]) -> Result<(), AllocError> {
+    let free = known.free();
+    let own = match words.get(2) {
+        Some(word) => lines::number(word).unwrap_or(free),
+        None => free,
+    };
+    for kind in kinds() {
+        match most_of(known, kind, own) {
+            Some(most) => put_region(offers, kind, own, most)?,
+            None => {
+                if let Some(most) = most_of(known, kind, free) {
+                    put_region(offers, kind, free, most)?;
+                }
+            }
+        }
+    }
+    Ok(())
+}
+
+/// The greatest size of a structure that begins at this word.
+fn most_of(known: &Known, kind: Kind, at: u64) -> Option<u64> {
+    if at < known.free() {
+        return None;
+    }
+    let room = known.spot.words.checked_sub(at)?.checked_sub(kind.fixed)?;
+    let most = room.checked_div(kind.each)?.min(kind.most);
+    if most == 0 { None } else { Some(most) }
+}
+
+fn put_region(offers: &mut Vec<Offer>, kind: Kind, at: u64, most: u64) -> Result<(), AllocError> {
+    let alloc = *offers.allocator();
+    let name = kind.name;
+    offers.push(Offer {
+        name: format!(in alloc; "region {name} {at} 1")?,
+        form: format!(in alloc; "`region {name} {at} SIZE`, SIZE from 1 to {most}")?,
+        low: format!(in alloc; "region {name} {at} 1")?,
+        high: format!(in alloc; "region {name} {at} {most}")?,
+        apart: 0,
+    })?;
+    Ok(())
+}
+
+fn put_policies(offers: &mut Vec<Offer>) -> Result<(), AllocError> {
+    put_lines(offers, &["policy fixed", "policy expert"])?;
+    put_policy(offers, "round", MOST_ROUND)?;
+    put_policy(offers, "state", MOST_STATE)
+}
+
+fn put_policy(offers: &mut Vec<Offer>, name: &str, most: u32) -> Result<(), AllocError> {
+    let alloc = *offers.allocator();
+    offers.push(Offer {
+        name: format!(in alloc; "policy {name}:1")?,
+        form: format!(in alloc; "`policy {name}:N`, N from 1 to {most}")?,
+        low: format!(in alloc; "policy {name}:1")?,
+        high: format!(in alloc; "policy {name}:{most}")?,
+        apart: 0,
+    })?;
+    Ok(())
+}
+
+/// Appends those forms of which each letter can stand for something.
 fn put_forms(
-    said: &mut String,
-    parting: &'static str,
+    offers: &mut Vec<Offer>,
+    known: &Known,
+    words: &[&[u8]],
     forms: &[&'static str],
 ) -> Result<(), AllocError> {
-    let mut before = parting;
     for form in forms {
-        write!(said, "{before}`{form}`")?;
-        before = ", ";
-    }
-    Ok(())
-}
-
-/// Appends a form, and what its letters stand for.
-fn put_form(said: &mut String, spot: &Spot, form: &'static str) -> Result<(), AllocError> {
-    write!(said, "`{form}`")?;
-    let (_, mut rest) = first_word(form.as_bytes());
-    for _ in 0..form.len() {
-        if rest.is_empty() {
-            break;
+        if let Some(offer) = described(*offers.allocator(), known, words, form)? {
+            offers.push(offer)?;
         }
-        let (letter, behind) = first_word(lines::past(rest, 0));
-        put_letter(said, spot, letter)?;
-        rest = behind;
     }
     Ok(())
 }
 
-/// Appends what a letter of a form stands for.
-fn put_letter(said: &mut String, spot: &Spot, letter: &[u8]) -> Result<(), AllocError> {
+/// A form with what its letters stand for; none where one of them can stand for nothing.
+fn described(
+    alloc: Global,
+    known: &Known,
+    words: &[&[u8]],
+    form: &'static str,
+) -> Result<Option<Offer>, AllocError> {
+    let letters = words_of(alloc, form.as_bytes())?;
+    let mut offer = Offer {
+        name: form.to_string(alloc)?,
+        form: format!(in alloc; "`{form}`")?,
+        low: String::new(alloc),
+        high: String::new(alloc),
+        apart: 0,
+    };
+    let Some(word) = letters.first() else {
+        return Ok(None);
+    };
+    for byte in *word {
+        offer.low.push(char::from(*byte))?;
+        offer.high.push(char::from(*byte))?;
+    }
+    for letter in letters.iter().skip(1) {
+        if lines::is(letter, b"ALG") {
+            offer.form.push_str(", ALG one of CGL, TML, OrecLazy, OrecEager, RingSW, Serial")?;
+            offer.low.push_str(" CGL")?;
+            offer.high.push_str(" Serial")?;
+            continue;
+        }
+        let ranges = ranges_of(alloc, known, words, word, letter)?;
+        let (Some(first), Some(last)) = (ranges.first(), ranges.last()) else {
+            return Ok(None);
+        };
+        write!(offer.low, " {}", first.0)?;
+        write!(offer.high, " {}", last.1)?;
+        put_letter(&mut offer.form, form, letter, ranges.as_slice())?;
+    }
+    Ok(Some(offer))
+}
+
+/// Appends what a letter of a form stands for; of two alike once.
+fn put_letter(
+    said: &mut String,
+    form: &str,
+    letter: &[u8],
+    ranges: &[Range],
+) -> Result<(), AllocError> {
+    let label = match letter {
+        b"A" => { if form == "move A B V" { "A and B" } else { "A" } }
+        b"K" => { if form == "msum R K L" { "K and L" } else { "K" } }
+        b"X" => "X and Y",
+        b"B" | b"L" | b"Y" => return Ok(()),
+        b"V" => "V",
+        b"R" => "R",
+        b"S" => "S",
+        b"C" => "C",
+        _ => "N",
+    };
+    if ranges.first() == Some(&(0, u64::MAX)) {
+        return write!(said, ", {label} below 2^64");
+    }
+    write!(said, ", {label} ")?;
+    put_ranges(said, ranges)
+}
+
+/// Appends the first and the last of some ranges.
+pub(crate) fn put_ranges(said: &mut String, ranges: &[Range]) -> Result<(), AllocError> {
+    if let Some(first) = ranges.first() {
+        put_range(said, first)?;
+    }
+    if 1 < ranges.len() {
+        if let Some(last) = ranges.last() {
+            said.push_str(" or ")?;
+            put_range(said, last)?;
+        }
+    }
+    Ok(())
+}
+
+fn put_range(said: &mut String, range: &Range) -> Result<(), AllocError> {
+    if range.0 == range.1 {
+        write!(said, "{}", range.0)
+    } else {
+        write!(said, "from {} to {}", range.0, range.1)
+    }
+}
+
+/// What a letter of an operation may stand for; `word` is the operation's own.
+fn ranges_of(
+    alloc: Global,
+    known: &Known,
+    words: &[&[u8]],
+    word: &[u8],
+    letter: &[u8],
+) -> Result<Vec<Range>, AllocError> {
+    let spot = &known.spot;
+    let mut ranges = Vec::new(alloc);
     match letter {
-        b"A" => put_address(said, spot, "A"),
-        b"B" => put_address(said, spot, "B"),
-        b"V" => said.push_str(", V a number below 2^64"),
-        b"K" => write!(said, ", K a number from 0 to {MAX_KEY}"),
-        b"L" => write!(said, ", L a number from 0 to {MAX_KEY}"),
-        b"R" => put_below(said, "R a region", spot.regions),
-        b"S" => put_stripe(said, spot),
-        b"C" => put_below(said, "C a caller", spot.callers),
-        b"N" => write!(said, ", N a number from 1 to {MAX_TURNS}"),
-        b"X" => write!(said, ", X a read log's length from 1 to {MAX_LOG}"),
-        b"Y" => write!(said, ", Y a write log's length from 1 to {MAX_LOG}"),
-        _ => put_algorithms(said),
+        b"A" | b"B" => ranges.extend_from_slice(known.plain.as_slice())?,
+        b"V" => ranges.push((0, u64::MAX))?,
+        b"K" | b"L" => ranges.push((0, MAX_KEY))?,
+        b"X" | b"Y" => ranges.push((1, MAX_LOG as u64))?,
+        b"C" => put_some(&mut ranges, 0, spot.callers.saturating_sub(1))?,
+        b"N" => put_some(&mut ranges, 1, MAX_TURNS.saturating_sub(spot.turns))?,
+        b"S" => match spot.version {
+            Version::One => ranges.push((0, STRIPES as u64 - 1))?,
+            Version::Two => put_stripes(&mut ranges, known, words)?,
+        },
+        _ => put_regions_for(&mut ranges, known, words, word)?,
     }
+    Ok(ranges)
 }
 
-/// Appends what a number below an end is.
-fn put_below(said: &mut String, name: &str, end: u64) -> Result<(), AllocError> {
-    if end == 0 {
-        return write!(said, ", {name}, and there is none");
-    }
-    write!(said, ", {name} from 0 to {}", end - 1)
-}
-
-/// Appends what an address is: one of no structure.
-fn put_address(said: &mut String, spot: &Spot, letter: &str) -> Result<(), AllocError> {
-    let last = spot.words.saturating_sub(1);
-    write!(said, ", {letter} an address from 0 to {last}")?;
-    if spot.structures {
-        return write!(said, " and not from {STRUCTS_BEGIN} to {}", STRUCTS_END - 1);
-    }
-    if 0 < spot.regions {
-        return said.push_str(" that is in no region");
+fn put_some(ranges: &mut Vec<Range>, low: u64, high: u64) -> Result<(), AllocError> {
+    if low <= high {
+        ranges.push((low, high))?;
     }
     Ok(())
 }
 
-fn put_stripe(said: &mut String, spot: &Spot) -> Result<(), AllocError> {
-    match spot.version {
-        Version::One => write!(said, ", S a stripe from 0 to {}", STRIPES - 1),
-        Version::Two => said.push_str(", S a stripe of the region, from 0 on"),
+/// Appends the stripes of the counter that an operation names.
+fn put_stripes(ranges: &mut Vec<Range>, known: &Known, words: &[&[u8]]) -> Result<(), AllocError> {
+    if let Some((_, stripes)) = counter_of(known, words) {
+        put_some(ranges, 0, stripes.saturating_sub(1))?;
     }
+    Ok(())
 }
 
-pub(crate) fn put_algorithms(said: &mut String) -> Result<(), AllocError> {
-    said.push_str(", ALG one of CGL, TML, OrecLazy, OrecEager, RingSW, Serial")
-}
-
-/// Appends what the line of this number of the header is.
-fn put_head(said: &mut String, spot: &Spot, number: usize) -> Result<(), AllocError> {
-    match number {
-        1 => said.push_str("`stm 1` or `stm 2`"),
-        2 => put_sized(said, "words", 1, most_words(spot.version)),
-        3 => put_sized(said, "callers", 1, MAX_CALLERS as u64),
-        4 => put_sized(said, "records", 1, MAX_RECORDS as u64),
-        5 => put_sized(said, "ring", MIN_RING as u64, MAX_RING as u64),
-        6 => put_sized(said, "reads", 1, MAX_LOG as u64),
-        7 => put_sized(said, "writes", 1, MAX_LOG as u64),
-        8 => put_sized(said, "clock", 0, CLOCK_LIMIT),
-        9 => {
-            said.push_str("`alg ALG`")?;
-            put_algorithms(said)
+/// The counter that the second word of a line names, or else the first one: its number, and how many stripes it has.
+fn counter_of(known: &Known, words: &[&[u8]]) -> Option<(u64, u64)> {
+    let named = match words.get(1) {
+        Some(word) => lines::number(word),
+        None => None,
+    };
+    let mut first = None;
+    for (number, region) in known.regions.iter().enumerate() {
+        let number = number as u64;
+        if region.kind.name != "counter" {
+            continue;
         }
-        _ => put_last(said, spot),
-    }
-}
-
-fn most_words(version: Version) -> u64 {
-    match version {
-        Version::One => MAX_WORDS_ONE as u64,
-        Version::Two => MAX_WORDS as u64,
-    }
-}
-
-/// Appends what the tenth line of the header is.
-fn put_last(said: &mut String, spot: &Spot) -> Result<(), AllocError> {
-    match spot.version {
-        Version::One => {
-            write!(
-                said,
-                "`structs off`, or `structs on` with {STRUCTS_END} words at least"
-            )
+        if named == Some(number) {
+            return Some((number, region.size));
         }
-        Version::Two => put_sized(said, "regions", 0, MAX_REGIONS as u64),
+        first = first.or(Some((number, region.size)));
     }
+    first
 }
 
-fn put_sized(said: &mut String, name: &str, low: u64, high: u64) -> Result<(), AllocError> {
-    write!(said, "`{name} N`, N a number from {low} to {high}")
+/// Appends the regions that an operation works on.
+fn put_regions_for(
+    ranges: &mut Vec<Range>,
+    known: &Known,
+    words: &[&[u8]],
+    word: &[u8],
+) -> Result<(), AllocError> {
+    if lines::is(word, b"count") {
+        if let Some((number, _)) = counter_of(known, words) {
+            ranges.push((number, number))?;
+        }
+        return Ok(());
+    }
+    for (number, region) in known.regions.iter().enumerate() {
+        if lines::is(region.kind.name.as_bytes(), kind_for(word)) {
+            let number = number as u64;
+            ranges.push((number, number))?;
+        }
+    }
+    Ok(())
 }
 
-fn put_region(said: &mut String) -> Result<(), AllocError> {
-    said.push_str(
-        "`region KIND AT SIZE`, KIND one of counter, list, hash, tree, queue, summap, AT its first word, ",
-    )?;
-    write!(
-        said,
-        "SIZE a number from 1 to {MAX_CELLS}, of a counter to {MAX_STRIPES}"
-    )
-}
-
-fn put_policy(said: &mut String) -> Result<(), AllocError> {
-    said.push_str("`policy P`, P one of fixed, expert, ")?;
-    write!(
-        said,
-        "round:N with N from 1 to {MOST_ROUND}, state:N with N from 1 to {MOST_STATE}"
-    )
+/// The structure that an operation works on.
+pub(crate) fn kind_for(word: &[u8]) -> &'static [u8] {
+    if lines::is(word, b"count") || lines::is(word, b"total") {
+        return b"counter";
+    }
+    match word.first() {
+        Some(b'l') => b"list",
+        Some(b'h') => b"hash",
+        Some(b't') => b"tree",
+        Some(b'q') => b"queue",
+        _ => b"summap",
+    }
 }

@@ -1,9 +1,17 @@
 //! What a fault of a text is, in a sentence: where it is, what stands there and what may stand there.
 #![tactic(auto)]
 
+mod cause;
+pub mod fault;
 mod form;
+mod known;
+pub mod offer;
+pub mod place;
 pub mod report;
+mod sentence;
 mod shown;
 mod spot;
 pub mod trace;
+mod words;
 pub mod workload;
+pub mod wrong;

@@ -31,6 +31,8 @@ pub(crate) struct Spot {
     pub(crate) regions: u64,
     /// Whether structures are on in version 1.
     pub(crate) structures: bool,
+    /// How many turns the schedule has.
+    pub(crate) turns: u64,
 }
 
 impl Spot {
@@ -43,6 +45,7 @@ impl Spot {
             callers: 0,
             regions: 0,
             structures: false,
+            turns: 0,
         }
     }
 
@@ -55,7 +58,19 @@ impl Spot {
             LineKind::Policy => self.at(LineKind::Items),
             LineKind::Items => self.at(after_item(first)),
             LineKind::Ops => self.at(after_operation(first)),
-            LineKind::Turns => self,
+            LineKind::Turns => self.after_turns(rest),
+        }
+    }
+
+    /// After turns of a caller; what stands after the first word.
+    fn after_turns(self, rest: &[u8]) -> Spot {
+        let turns = match next_word(rest) {
+            Some((_, rest)) => lines::number(second_word(rest)).unwrap_or(0),
+            None => 0,
+        };
+        Spot {
+            turns: self.turns.saturating_add(turns),
+            ..self
         }
     }
 
@@ -109,6 +124,14 @@ pub(crate) fn second_word(rest: &[u8]) -> &[u8] {
     }
     let (word, _) = first_word(lines::past(rest, 0));
     word
+}
+
+/// The next word and what stands after it, where a space stands before it.
+pub(crate) fn next_word(rest: &[u8]) -> Option<(&[u8], &[u8])> {
+    if rest.is_empty() {
+        return None;
+    }
+    Some(first_word(lines::past(rest, 0)))
 }
 
 fn version_of(word: &[u8]) -> Version {

@@ -1,10 +1,18 @@
-//! The fault of a text that isn't one that `step` writes, in a sentence.
-use crate::report::put_report_fault;
-use crate::shown::{first_line, from_line, is_ended, put_line};
+//! The fault of a text that isn't one that `step` writes.
+ghost use Rattle.std.specs.Prelude.{◌≤◌, IfOk, string_len};
+
+use crate::report::report_fault;
+use crate::sentence::{Parts, bounded, told};
+use crate::shown::{first_line, from_line, is_ended};
 use std::alloc::{AllocError, Global};
 use stm_check::words::first_word;
+use stm_model::memory::Memory;
 use stm_text::lines;
 use stm_text::parting::{count_lines, part_at_done};
+
+/// What may stand on a line of a trace.
+const TURNS: &str =
+    "a turn, as `0 begin CGL` or `1 read 5`, or `finish`, or then `report 1` or `clock full C`";
 
 /// What stands above a line.
 #[derive(Clone, Copy, Drop, Debug, PartialEq, Eq)]
@@ -22,92 +30,119 @@ enum Part {
 ///
 /// # Errors
 /// Memory, where it is refused.
-pub fn trace_fault(
-    alloc: Global,
-    text: &[u8],
-    line: usize,
-    most: usize,
-) -> Result<String, AllocError> {
-    let mut said = String::new(alloc);
-    put_fault(&mut said, text, line, most)?;
-    Ok(said)
+pub fn trace_fault(alloc: Global, text: &[u8], line: usize, most: usize) -> Result<String, Memory>
+    ensures { IfOk result (λ s. string_len s ≤ 200) }
+{
+    fault_below(alloc, text, 0, line, most)
 }
 
 /// The same of a trace below its workload; lines count through both, and line 0 is of the whole.
 ///
 /// # Errors
 /// Memory, where it is refused.
-pub fn traced_fault(
-    alloc: Global,
-    text: &[u8],
-    line: usize,
-    most: usize,
-) -> Result<String, AllocError> {
+pub fn traced_fault(alloc: Global, text: &[u8], line: usize, most: usize) -> Result<String, Memory>
+    ensures { IfOk result (λ s. string_len s ≤ 200) }
+{
     let (head, behind) = part_at_done(text);
     let above = count_lines(head);
     if line <= above {
         return trace_fault(alloc, text, 0, most);
     }
-    let mut said = String::new(alloc);
-    put_place(&mut said, above)?;
-    put_fault(&mut said, behind, line - above, most)?;
-    Ok(said)
+    fault_below(alloc, behind, above, line - above, most)
 }
 
 /// What is wrong with a line of a trace that may not come there in the workload above it.
 ///
 /// # Errors
 /// Memory, where it is refused.
-pub fn unfit_line(alloc: Global, text: &[u8], line: usize) -> Result<String, AllocError> {
+pub fn unfit_line(alloc: Global, text: &[u8], line: usize) -> Result<String, Memory>
+    ensures { IfOk result (λ s. string_len s ≤ 200) }
+{
     let (head, behind) = part_at_done(text);
-    let above = count_lines(head);
-    let number = line.saturating_sub(above);
-    let mut said = String::new(alloc);
-    put_place(&mut said, above)?;
-    put_line(&mut said, number, first_line(from_line(behind, number)))?;
-    said.push_str(
-        "this isn't what comes next in that workload: an attempt begins where its caller has a transaction left and no attempt open, an operation is the next one of its script, and the commit comes after the last",
-    )?;
-    Ok(said)
+    let number = line.saturating_sub(count_lines(head));
+    let parts = Parts {
+        place: format!(in alloc; "line {line} ({number} of the trace)")?,
+        why: "this isn't next in the workload".to_string(alloc)?,
+        may: "a begin where none is open and a transaction is left, the script's next operation, or after the last a commit".to_string(
+            alloc,
+        )?,
+    };
+    Ok(told(
+        alloc,
+        &parts,
+        Some(first_line(from_line(behind, number))),
+        0,
+    )?)
 }
 
-/// Appends in which part the line is.
-fn put_place(said: &mut String, above: usize) -> Result<(), AllocError> {
-    write!(said, "in the trace, after the workload's {above} lines: ")
-}
-
-fn put_fault(said: &mut String, text: &[u8], line: usize, most: usize) -> Result<(), AllocError> {
+/// What is wrong with a line of a trace that has so many lines above it.
+fn fault_below(
+    alloc: Global,
+    text: &[u8],
+    above: usize,
+    line: usize,
+    most: usize,
+) -> Result<String, Memory>
+    ensures { IfOk result (λ s. string_len s ≤ 200) }
+{
     if line == 0 {
-        return write!(said, "the text has more than {most} bytes");
+        let said = format!(in alloc;
+            "the text has more than {most} bytes; here stands one of at most so many"
+        )?;
+        return Ok(bounded(alloc, said)?);
     }
     let (part, rest) = part_of(text, line);
     match part {
         Part::Report(first) => {
-            write!(said, "in the report, which begins on line {first}: ")?;
-            put_report_fault(said, rest, line.saturating_sub(first).saturating_add(1))
+            let number = line.saturating_sub(first).saturating_add(1);
+            let above = above.saturating_add(first).saturating_sub(1);
+            Ok(report_fault(alloc, rest, above, number)?.sentence(alloc)?)
         }
-        Part::Closed => {
-            put_line(said, line, first_line(rest))?;
-            said.push_str("nothing follows the line `clock full C`")
-        }
-        Part::Trace => put_trace_fault(said, rest, line),
+        Part::Closed | Part::Trace => Ok(told_trace(alloc, part, rest, above, line)?),
     }
 }
 
-/// Appends what is wrong with a line of a trace; the text begins there.
-fn put_trace_fault(said: &mut String, rest: &[u8], line: usize) -> Result<(), AllocError> {
-    if rest.is_empty() {
-        write!(said, "line {line}: the trace ends")?;
-    } else {
-        put_line(said, line, first_line(rest))?;
-        if !is_ended(rest) {
-            return said.push_str("the line has no LF, and each line ends with one");
+/// What is wrong with a line of a trace; the text begins there.
+fn told_trace(
+    alloc: Global,
+    part: Part,
+    rest: &[u8],
+    above: usize,
+    line: usize,
+) -> Result<String, AllocError>
+    ensures { IfOk result (λ s. string_len s ≤ 200) }
+{
+    let whole = above.saturating_add(line);
+    let (why, may) = match part {
+        Part::Closed => (
+            "nothing follows the line `clock full C`",
+            "the end of the text",
+        ),
+        _ => {
+            if rest.is_empty() {
+                ("the trace ends", TURNS)
+            } else if is_ended(rest) {
+                ("`step` writes no such line", TURNS)
+            } else {
+                ("the line has no LF at its end", TURNS)
+            }
         }
-        said.push_str("the line isn't one that `stm_bench step` writes")?;
-    }
-    said.push_str(
-        "; here stands a turn, as `0 begin CGL` or `1 read 5`, or `finish`, or after the trace a report from `report 1` on, or `clock full C`",
-    )
+    };
+    let parts = Parts {
+        place: if above == 0 {
+            format!(in alloc; "line {whole}")?
+        } else {
+            format!(in alloc; "line {whole} ({line} of the trace)")?
+        },
+        why: why.to_string(alloc)?,
+        may: may.to_string(alloc)?,
+    };
+    let bytes = if rest.is_empty() {
+        None
+    } else {
+        Some(first_line(rest))
+    };
+    told(alloc, &parts, bytes, 0)
 }
 
 /// What stands above a line, and what stands from that report's first line on, or from the line itself.

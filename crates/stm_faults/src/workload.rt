@@ -1,269 +1,305 @@
-//! The fault of a workload's text, in a sentence.
-use crate::form::{begun_by, put_expected};
-use crate::shown::{first_line, from_line, put_bytes, put_line, put_wrong_byte};
-use crate::spot::{LineKind, Spot, second_word, spot_of};
+//! The fault of a workload's text.
+ghost use Rattle.std.specs.Prelude.{◌≤◌, ℕ, All, IfOk, take, string_len};
+ghost use Rattle.stm_faults.specs.Standing.{IsOffered};
+ghost use Rattle.stm_faults.specs.declared.place.Reader.TheVariants.{Workload as OfWorkload};
+
+use crate::cause::{Cause, wrong_byte};
+use crate::fault::Fault;
+use crate::form::{candidates, is_structured, kind_for};
+use crate::known::{Known, extent_of};
+use crate::offer::{Offer, likest};
+use crate::place::{Place, Reader, Tried};
+use crate::sentence::bounded;
+use crate::shown::first_line;
+use crate::spot::{LineKind, spot_of};
+use crate::words::{exchanged, is_spaced, words_of};
 use std::alloc::{AllocError, Global};
-use stm_check::words::first_word;
-use stm_script::workload::{MAX_ITEMS, MAX_OPS, MAX_TURNS, STRUCTS_END, Version};
-use stm_text::parse::MAX_TEXT;
+use stm_model::memory::Memory;
+use stm_script::workload::Version;
+use stm_text::parse::{MAX_TEXT, Mode};
 use stm_text::{code, lines};
 
-/// What is wrong with a text that `parse` refuses with this line and this code: the line, what stands on it, and what may
-/// stand there.
+/// What is wrong with a text for `step` that `parse` refuses with this line and this code, in a sentence: the line, what
+/// stands on it, why that is wrong, and what may stand there.
 ///
 /// # Errors
 /// Memory, where it is refused.
-pub fn workload_fault(
+pub fn workload_fault(alloc: Global, text: &[u8], line: usize, code: u32) -> Result<String, Memory>
+    ensures { IfOk result (λ s. string_len s ≤ 200) }
+{
+    workload_fault_for(alloc, Mode::Step, text, line, code)
+}
+
+/// The same of a text for `run` or for `step`.
+///
+/// # Errors
+/// Memory, where it is refused.
+pub fn workload_fault_for(
     alloc: Global,
+    mode: Mode,
     text: &[u8],
     line: usize,
     code: u32,
-) -> Result<String, AllocError> {
-    let mut said = String::new(alloc);
-    put_fault(&mut said, text, line, code)?;
-    Ok(said)
+) -> Result<String, Memory>
+    ensures { IfOk result (λ s. string_len s ≤ 200) }
+{
+    if code == code::LONG {
+        let said = format!(in alloc;
+            "the text has more than {MAX_TEXT} bytes; here stands a workload of at most so many"
+        )?;
+        return Ok(bounded(alloc, said)?);
+    }
+    Ok(fault_of(alloc, mode, text, line, code)?.sentence(alloc)?)
 }
 
-fn put_fault(said: &mut String, text: &[u8], line: usize, code: u32) -> Result<(), AllocError> {
-    if code == code::LONG {
-        return write!(said, "the workload has more than {MAX_TEXT} bytes");
-    }
+/// The fault of a text that `parse` refuses with this line and this code, but for one that is too long.
+///
+/// # Errors
+/// Memory, where it is refused.
+pub fn fault_of<'a>(
+    alloc: Global,
+    mode: Mode,
+    text: &'a [u8],
+    line: usize,
+    code: u32,
+) -> Result<Fault<'a>, Memory>
+    ensures { IfOk result (λ f.
+        (n : ℕ) × All (IsOffered (OfWorkload mode) (take n text.now) line) f.offers.items) }
+{
     let (spot, rest) = spot_of(text, line);
     let bytes = first_line(rest);
-    if rest.is_empty() {
-        write!(
-            said,
-            "line {line}: the workload ends before its line `done`"
-        )?;
-        return put_expected(said, &spot, bytes);
-    }
-    put_line(said, line, bytes)?;
-    match code {
-        code::BYTES => put_bytes_fault(said, bytes),
-        code::UNENDED => {
-            said.push_str("the line has no LF, and each line of a workload ends with one")
-        }
-        code::EXTRA => said.push_str("nothing follows the line `done`"),
-        _ => put_line_fault(said, text, &spot, bytes, code),
-    }
+    let words = words_of(alloc, bytes)?;
+    let known = Known::of(alloc, text, spot)?;
+    let start = text.len().saturating_sub(rest.len());
+    let place = Place {
+        alloc,
+        reader: Reader::Workload(mode),
+        above: &text[..start],
+        line,
+    };
+    let fitting = candidates(alloc, &known, words.as_slice())?;
+    let offers = offers_at(&place, fitting, words.as_slice(), code)?;
+    let stands = Stands {
+        known: &known,
+        bytes,
+        words: words.as_slice(),
+        is_there: !rest.is_empty(),
+    };
+    let (cause, word) = cause_of(&place, &stands, offers.as_slice(), code)?;
+    Ok(Fault {
+        place: format!(in alloc; "line {line}")?,
+        bytes: if rest.is_empty() { None } else { Some(bytes) },
+        word,
+        cause,
+        offers,
+        nothing: match code {
+            code::EXTRA => "the end of the text",
+            _ => "no line: those above leave no room",
+        },
+    })
 }
 
-/// Appends the fault of a line that has its LF and no wrong byte.
-fn put_line_fault(
-    said: &mut String,
-    text: &[u8],
-    spot: &Spot,
-    bytes: &[u8],
+/// What may stand at a place; nothing after the text's last line.
+fn offers_at(
+    place: &Place,
+    fitting: Vec<Offer>,
+    words: &[&[u8]],
     code: u32,
-) -> Result<(), AllocError> {
-    let (word, _) = first_word(bytes);
-    match code {
-        code::WORD => {
-            if is_schedule_of_run(spot, bytes) {
-                return said.push_str("`run` takes no schedule; `step` does");
+) -> Result<Vec<Offer>, Memory>
+    ensures { IfOk result (λ o.
+        All (IsOffered place.now.reader place.now.above.now place.now.line) o.items) }
+{
+    if code == code::EXTRA {
+        return Ok(Vec::new(place.alloc));
+    }
+    likest(place, fitting, words)
+}
+
+/// What stands on a line, and above it.
+#[derive(Clone, Copy, Drop)]
+struct Stands<'a, 'b> {
+    known: &'b Known,
+    bytes: &'a [u8],
+    words: &'b [&'a [u8]],
+    /// Whether the text goes on to that line.
+    is_there: bool,
+}
+
+/// Why a line is at fault, and which of its words is.
+fn cause_of<'a>(
+    place: &Place,
+    stands: &Stands<'a, '_>,
+    offers: &[Offer],
+    code: u32,
+) -> Result<(Cause<'a>, usize), Memory> {
+    if !stands.is_there {
+        return Ok((Cause::Ends { last: "done" }, 0));
+    }
+    let cause = match code {
+        code::BYTES => match wrong_byte(stands.bytes) {
+            Some((at, byte)) => Cause::WrongByte { at, byte },
+            None => Cause::Empty,
+        },
+        code::UNENDED => Cause::NoLf,
+        code::EXTRA => Cause::After { last: "done" },
+        code::ORDER => Cause::NoIrrev,
+        code::MANY => match stands.known.spot.place {
+            LineKind::Ops => Cause::ManyOps,
+            LineKind::Turns => Cause::ManyTurns,
+            _ => Cause::ManyItems,
+        },
+        code::WORD => return Ok(wrong_words(place, stands, offers)),
+        _ => return wrong_operand(place, stands, offers, code),
+    };
+    Ok((cause, 0))
+}
+
+/// Which word of a line is wrong, or how many it has.
+fn wrong_words<'a>(place: &Place, stands: &Stands<'a, '_>, offers: &[Offer]) -> (Cause<'a>, usize) {
+    let words = stands.words;
+    let (Some(first), false) = (words.first(), stands.bytes.is_empty()) else {
+        return (Cause::Empty, 0);
+    };
+    if !is_spaced(words) {
+        return (Cause::Spaces, 0);
+    }
+    if lines::is(first, b"schedule")
+        && place.reader == Reader::Workload(Mode::Run)
+        && stands.known.spot.place == LineKind::Items
+        && words.len() == 1
+    {
+        return (Cause::NoSchedule, 0);
+    }
+    let Some(wanted) = length_of(offers, first) else {
+        return (Cause::NoForm { word: *first }, 0);
+    };
+    if words.len() < wanted {
+        return (Cause::TooFew, 0);
+    }
+    match words.get(wanted) {
+        Some(word) => (Cause::TooMany { word: *word }, wanted),
+        None => match words.get(1) {
+            Some(word) => (Cause::NotAllowed { word: *word }, 1),
+            None => (Cause::NotAllowed { word: *first }, 0),
+        },
+    }
+}
+
+/// How many words the forms have that begin with this one.
+fn length_of(offers: &[Offer], word: &[u8]) -> Option<usize> {
+    for offer in offers {
+        let (first, rest) = stm_check::words::first_word(offer.low.as_bytes());
+        if lines::is(first, word) {
+            let spaces = rest.iter().filter(|byte| **byte == b' ').count();
+            return Some(spaces.saturating_add(1));
+        }
+    }
+    None
+}
+
+/// Which operand of a line gives it this code, found by trying each alone in a line that may stand there.
+fn wrong_operand<'a>(
+    place: &Place,
+    stands: &Stands<'a, '_>,
+    offers: &[Offer],
+    code: u32,
+) -> Result<(Cause<'a>, usize), Memory> {
+    let words = stands.words;
+    for offer in offers {
+        let own = words_of(place.alloc, offer.low.as_bytes())?;
+        if own.len() != words.len() || own.first() != words.first() {
+            continue;
+        }
+        for (i, word) in words.iter().enumerate().skip(1) {
+            let line = exchanged(place.alloc, own.as_slice(), i, word)?;
+            if place.tried(line.as_str())? == Tried::Refused(code) {
+                return Ok((cause_by(stands, word, i, code), i));
             }
-            said.push_str(wrong_word(spot, bytes))?;
         }
-        code::NUMBER => said.push_str(
-            "a word is no number: digits alone, no 0 before another, below 2^64",
-        )?,
-        code::RANGE => said.push_str("a number is out of its range")?,
-        code::ALG => said.push_str("no algorithm has this name")?,
-        code::REGION => return put_region_fault(said, text, spot, bytes),
-        code::ORDER => {
-            return said.push_str("an `emit` comes only after an `irrev` of its transaction");
-        }
-        _ => return put_many(said, spot),
     }
-    put_expected(said, spot, word)
+    Ok((cause_without(stands, code), 1))
 }
 
-/// Appends which byte is wrong.
-fn put_bytes_fault(said: &mut String, bytes: &[u8]) -> Result<(), AllocError> {
-    let _is_told = put_wrong_byte(said, bytes)?;
-    Ok(())
+/// Why this word gives its line this code.
+fn cause_by<'a>(stands: &Stands<'a, '_>, word: &'a [u8], number: usize, code: u32) -> Cause<'a> {
+    match code {
+        code::NUMBER => Cause::NoNumber { word },
+        code::RANGE => Cause::OutOfRange { word },
+        code::ALG => Cause::NoAlgorithm { word },
+        _ => match stands.known.spot.place {
+            LineKind::Ops => match (stands.words.first(), lines::number(word)) {
+                (Some(first), Some(region)) if number == 1 && is_structured(first) => {
+                    other_region(stands, word, region)
+                }
+                _ => Cause::InStructure { word },
+            },
+            _ => cause_without(stands, code),
+        },
+    }
 }
 
-/// Whether a schedule was refused that `step` takes.
-fn is_schedule_of_run(spot: &Spot, bytes: &[u8]) -> bool {
-    spot.place == LineKind::Items && lines::is(bytes, b"schedule")
+/// The region that an operation names, which is none of its structure.
+fn other_region<'a>(stands: &Stands<'a, '_>, word: &'a [u8], region: u64) -> Cause<'a> {
+    match stands.known.region(region) {
+        Some(region) => Cause::OtherRegion { word, region },
+        None => Cause::OutOfRange { word },
+    }
 }
 
-/// What is wrong with the words of a line.
-fn wrong_word(spot: &Spot, bytes: &[u8]) -> &'static str {
-    if bytes.is_empty() {
-        return "the line is empty";
+/// Why a line has this code, where no word of it alone has.
+fn cause_without<'a>(stands: &Stands<'a, '_>, code: u32) -> Cause<'a> {
+    let known = stands.known;
+    let words = stands.words;
+    match known.spot.place {
+        LineKind::Head(_) if code == code::REGION => Cause::FewWords {
+            words: known.spot.words,
+        },
+        LineKind::Region(_) if code == code::REGION => match extent_of(stands.bytes, 0) {
+            Some(region) if region.first < known.free() => Cause::BeginsEarly {
+                first: region.first,
+                free: known.free(),
+            },
+            _ => Cause::EndsLate {
+                words: known.spot.words,
+            },
+        },
+        LineKind::Ops => operation_without(stands, code),
+        _ => first_wrong(words, code),
     }
-    if has_wrong_space(bytes) {
-        return "one space stands between two words, and none at either end";
-    }
-    let (word, rest) = first_word(bytes);
-    let Some(form) = begun_by(spot, word) else {
-        return "its first word isn't allowed here";
+}
+
+/// The same of an operation of which no form may stand there.
+fn operation_without<'a>(stands: &Stands<'a, '_>, code: u32) -> Cause<'a> {
+    let words = stands.words;
+    let Some(first) = words.first() else {
+        return Cause::Empty;
     };
-    let (_, others) = first_word(form.as_bytes());
-    let had = count_spaces(rest);
-    let wanted = count_spaces(others);
-    if had < wanted {
-        "it has too few words"
-    } else if wanted < had {
-        "it has too many words"
-    } else {
-        "it has a word that isn't allowed"
+    if code == code::NUMBER || !is_structured(first) {
+        return first_wrong(words, code);
     }
-}
-
-/// How many spaces there are, and so how many words after them, where one stands before each.
-fn count_spaces(bytes: &[u8]) -> usize {
-    let mut count = 0usize;
-    for byte in bytes {
-        if *byte == b' ' {
-            count = count.saturating_add(1);
-        }
+    if stands.known.spot.version == Version::One {
+        return Cause::StructuresOff;
     }
-    count
-}
-
-/// Whether a space stands beside another, before the first word or after the last.
-fn has_wrong_space(bytes: &[u8]) -> bool {
-    let mut is_space = true;
-    for byte in bytes {
-        if *byte == b' ' && is_space {
-            return true;
-        }
-        is_space = *byte == b' ';
-    }
-    is_space
-}
-
-/// Appends of what there is too much.
-fn put_many(said: &mut String, spot: &Spot) -> Result<(), AllocError> {
-    match spot.place {
-        LineKind::Ops => write!(said, "a transaction has at most {MAX_OPS} operations"),
-        LineKind::Turns => write!(
-            said,
-            "the turns of a schedule are at most {MAX_TURNS} in all"
-        ),
-        _ => write!(said, "a workload has at most {MAX_ITEMS} items"),
-    }
-}
-
-/// Appends what is wrong with a region, an address or the structure of an operation.
-fn put_region_fault(
-    said: &mut String,
-    text: &[u8],
-    spot: &Spot,
-    bytes: &[u8],
-) -> Result<(), AllocError> {
-    match spot.place {
-        LineKind::Head(_) => {
-            write!(
-                said,
-                "structures take {STRUCTS_END} words, and line 2 gives {}",
-                spot.words
-            )
-        }
-        LineKind::Region(left) => {
-            write!(
-                said,
-                "a region begins where the one above it ends or later, and ends within the {} words; a counter has SIZE words, a list 1 + 2 SIZE, a hash 16 + 2 SIZE, a tree 1 + 3 SIZE, a queue 2 + SIZE, a summap 1 + 5 SIZE",
-                spot.words
-            )?;
-            put_extents(said, text, spot.regions.saturating_sub(left), bytes)
-        }
-        _ => put_operation_fault(said, text, spot, bytes),
-    }
-}
-
-/// Appends which words a region would have, and where the one above it ends; so many stand above it.
-fn put_extents(said: &mut String, text: &[u8], above: u64, bytes: &[u8]) -> Result<(), AllocError> {
-    if let Some((first, behind)) = extent_of(bytes) {
-        write!(
-            said,
-            "; this one would begin at {first} and end before {behind}"
-        )?;
-    }
-    if above == 0 {
-        return Ok(());
-    }
-    // the first region stands on line 11
-    let line = usize::try_from(above).unwrap_or(0).saturating_add(10);
-    match extent_of(first_line(from_line(text, line))) {
-        Some((_, behind)) => write!(said, ", and the one above it ends before {behind}"),
-        None => Ok(()),
-    }
-}
-
-/// The first word of a region, and the one after its last, by its line.
-fn extent_of(bytes: &[u8]) -> Option<(u64, u64)> {
-    let (_, rest) = first_word(bytes);
-    let kind = second_word(rest);
-    let (_, rest) = next_word(rest)?;
-    let (at, rest) = next_word(rest)?;
-    let (size, _) = next_word(rest)?;
-    let first = lines::number(at)?;
-    let words = words_of(kind, lines::number(size)?)?;
-    Some((first, first.saturating_add(words)))
-}
-
-/// The next word and what stands after it, where a space stands before it.
-fn next_word(rest: &[u8]) -> Option<(&[u8], &[u8])> {
-    if rest.is_empty() {
-        return None;
-    }
-    Some(first_word(lines::past(rest, 0)))
-}
-
-/// How many words a region of this kind and size has.
-fn words_of(kind: &[u8], size: u64) -> Option<u64> {
-    let (fixed, each) = match kind {
-        b"counter" => (0, 1),
-        b"list" => (1, 2),
-        b"hash" => (16, 2),
-        b"tree" => (1, 3),
-        b"queue" => (2, 1),
-        b"summap" => (1, 5),
-        _ => return None,
+    let Some(word) = words.get(1) else {
+        return Cause::TooFew;
     };
-    Some(size.saturating_mul(each).saturating_add(fixed))
-}
-
-/// Appends what is wrong with an operation's address, or with the structure that it works on.
-fn put_operation_fault(
-    said: &mut String,
-    text: &[u8],
-    spot: &Spot,
-    bytes: &[u8],
-) -> Result<(), AllocError> {
-    let (word, rest) = first_word(bytes);
-    if is_plain(word) {
-        said.push_str("the address is one of a structure's words")?;
-        return put_expected(said, spot, word);
-    }
-    match spot.version {
-        Version::One => said.push_str("structures are off: line 10 is `structs off`"),
-        Version::Two => put_other_structure(said, text, rest),
+    match lines::number(word) {
+        Some(number) if stands.known.region(number).is_some() => other_region(stands, word, number),
+        _ => Cause::NoRegion {
+            kind: kind_for(first),
+        },
     }
 }
 
-/// Whether an operation works on addresses.
-fn is_plain(word: &[u8]) -> bool {
-    lines::is(word, b"read")
-        || lines::is(word, b"write")
-        || lines::is(word, b"add")
-        || lines::is(word, b"move")
-        || lines::is(word, b"emit")
-}
-
-/// Appends the region that an operation names, which isn't of its structure; `rest` begins at the space before it.
-fn put_other_structure(said: &mut String, text: &[u8], rest: &[u8]) -> Result<(), AllocError> {
-    said.push_str("the operation isn't one on its region")?;
-    let Some(region) = lines::number(second_word(rest)) else {
-        return Ok(());
-    };
-    // the regions stand on the lines from the 11th on
-    let line = usize::try_from(region).unwrap_or(0).saturating_add(11);
-    write!(said, ", which is that of line {line}, `")?;
-    put_bytes(said, first_line(from_line(text, line)))?;
-    said.push_str("`")
+/// The first word after the line's first one that isn't a number, or else the second word.
+fn first_wrong<'a>(words: &[&'a [u8]], code: u32) -> Cause<'a> {
+    for word in words.iter().skip(1) {
+        if code == code::NUMBER && lines::number(word).is_none() {
+            return Cause::NoNumber { word: *word };
+        }
+    }
+    match words.get(1) {
+        Some(word) => Cause::OutOfRange { word: *word },
+        None => Cause::TooFew,
+    }
 }

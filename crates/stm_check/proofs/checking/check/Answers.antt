@@ -1,35 +1,34 @@
-use Rattle.std.proofs.Common.{◌≡◌, ◌≤◌, ◌+◌, ◌∙◌, ap, arith, length, length-append}
-use Rattle.stm_text.specs.Parting.{to_done, after_done}
-use Rattle.stm_text.specs.Reports.{report_bytes}
-use Rattle.stm_check.proofs.CheckLaws.{report-line, judged-line}
+use Rattle.std.proofs.Common.{ℕ, ◌≡◌, ◌≤◌, ◌+◌, ◌∙◌, List, ap, arith, subst, length, length-append}
+use Rattle.std.specs.Prelude.{IfOk}
+use Rattle.stm_text.specs.Lines.{lines_of}
+use Rattle.stm_text.specs.Grammar.{workload_of}
+use Rattle.stm_text.specs.Parting.{to_done, after_done, lines_to_done}
+use Rattle.stm_text.specs.declared.parse.Mode.TheVariants.{Step as Stepwise}
+use Rattle.stm_check.specs.Checks.{FindsOf, FindsWantedOf, IsPart, pair_by}
 use Rattle.stm_check.proofs.checking.check.Goals as goal
 
-pub shifted-requires : goal.shifted-requires
-shifted-requires c =
+along : (P : List ℕ → ℕ → List ℕ → Type 0) (head head' : List ℕ) (n n' : ℕ) (rest rest' : List ℕ) → head ≡ head' → n ≡ n' → rest ≡ rest' → P head n rest → P head' n' rest'
+along P head head' n n' rest rest' a b c p = subst (λ h. P h n' rest') a (subst (λ k. P head k rest') b (subst (λ r. P head n r) c p))
+
+pub check_parts-requires : goal.check_parts-requires
+check_parts-requires c =
     let text = c.args.text.now in
-    let f = c.in-Err-Fault-read_report in
     let behind : length c.part_at_done.result.1.now ≡ length (after_done text) = ap length c.part_at_done.ensures.rest in
     let head : length c.part_at_done.result.0.now ≡ length (to_done text) = ap length c.part_at_done.ensures.head in
     let whole : length text ≡ length (to_done text) + length (after_done text) = ap length (c.text_is_parted.ensures text).whole ∙ length-append (to_done text) (after_done text) in
-    let above = c.count_lines-above.ensures.least in
+    let above = c.count_lines.ensures.least in
     let most = c.requires in
-    let line : f.line ≤ 1 + length c.part_at_done.result.1.now = report-line c.part_at_done.result.1.now f.line f.code (rw f.field-0-is at f.ensures) in
-    let same = f.line-is in
     omega arith
 
-pub replay-requires : goal.replay-requires
-replay-requires c = record { items = c.parsed_workloads_fit.ensures _ _ c.in-Ok.ensures.is_parsed }
-
-pub overflow_add-finding : goal.overflow_add-finding
-overflow_add-finding c =
+pub returns : goal.returns
+returns c =
     let text = c.args.text.now in
-    let report = c.in-Ok-read_report.report in
-    let behind : length c.part_at_done.result.1.now ≡ length (after_done text) = ap length c.part_at_done.ensures.rest in
-    let head : length c.part_at_done.result.0.now ≡ length (to_done text) = ap length c.part_at_done.ensures.head in
-    let whole : length text ≡ length (to_done text) + length (after_done text) = ap length (c.text_is_parted.ensures text).whole ∙ length-append (to_done text) (after_done text) in
-    let above = c.count_lines-above.ensures.least in
-    let most = c.requires in
-    let written : length c.part_at_done.result.1.now ≡ length (report_bytes report) = ap length (c.report_is_written.ensures c.part_at_done.result.1.now report c.in-Ok-read_report.ensures).0 in
-    let judged = rw c.in-No.is at c.in_ok-judged.ensures.verdict in
-    let line : c.in-No.line ≤ 2 + length (report_bytes report) = judged-line c.in-Ok.workload report c.in-No.line judged.1 in
-    omega arith
+    let part = c.part_at_done.ensures in
+    let counted : c.count_lines.result ≡ lines_to_done text = c.count_lines.ensures.count ∙ ap (λ (t : List ℕ). length (lines_of t)) part.head in
+    let h = c.part_at_done.result.0.now in
+    let r = c.part_at_done.result.1.now in
+    record {
+      finding = along (λ h n r. IfOk c.check_parts.result (λ k. FindsOf (pair_by h n r) n k.finding)) h (to_done text) c.count_lines.result (lines_to_done text) r (after_done text) part.head counted part.rest c.check_parts.ensures.finding;
+      wanted = along (λ h n r. IfOk c.check_parts.result (λ k. FindsWantedOf (pair_by h n r) k.finding k.wanted)) h (to_done text) c.count_lines.result (lines_to_done text) r (after_done text) part.head counted part.rest c.check_parts.ensures.wanted;
+      part = subst (λ (t : List ℕ). IfOk c.check_parts.result (λ k. IsPart (workload_of Stepwise t) k.part)) part.head c.check_parts.ensures.part;
+    }

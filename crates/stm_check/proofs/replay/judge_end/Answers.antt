@@ -56,6 +56,7 @@ behind-word w r last left same x right all l s le word end more = inr (last, rig
     behind wants.Later h = absurd h
     behind wants.Apart h = absurd h
     behind (wants.Next seq) h = absurd h
+    behind (wants.Over count) h = absurd h
     behind (wants.Row want) h = absurd h
     behind (wants.Missing caller seq) h = absurd h
 

@@ -37,7 +37,8 @@ returns-clause-stands c = λ yes.
       wrote = p.wrote ∙ wrote-one c.args.above.now r c.args.standing.now.wrote s.wrote;
     }
 
+pub wanted_next-requires-clause-wrong : goal.wanted_next-requires-clause-wrong
+wanted_next-requires-clause-wrong c = c.in_default.ensures.none
+
 pub returns-in_default-clause-wanted : goal.returns-in_default-clause-wanted
-returns-in_default-clause-wanted c =
-    let had = c.rows_had-seq.ensures c.args.workload.now c.args.above.now c.requires.stands in
-    (had, λ same lt. c.in_default.ensures.none (same ∙ had) lt)
+returns-in_default-clause-wanted c = c.wanted_next.ensures (openings c.args.standing.now.ledger)

@@ -1,0 +1,163 @@
+//! What the header above a line has: the regions, and the addresses that are in none.
+use crate::shown::{first_line, from_line};
+use crate::spot::{LineKind, Spot, next_word, second_word};
+use std::alloc::{AllocError, Global};
+use stm_check::words::first_word;
+use stm_script::workload::{MAX_CELLS, MAX_STRIPES, STRUCTS_BEGIN, STRUCTS_END, Version};
+use stm_text::lines;
+
+/// Numbers from the first one to the second.
+pub(crate) type Range = (u64, u64);
+
+/// The line on which the first region stands.
+const FIRST_REGION: usize = 11;
+
+/// A structure, as a line of a region has it, and how many words one of a size has.
+#[derive(Clone, Copy, Drop, Debug, PartialEq, Eq)]
+pub(crate) struct Kind {
+    pub(crate) name: &'static str,
+    /// Words besides those of the stripes or cells.
+    pub(crate) fixed: u64,
+    /// Words of a stripe or cell.
+    pub(crate) each: u64,
+    /// The greatest size.
+    pub(crate) most: u64,
+}
+
+const fn structure(name: &'static str, fixed: u64, each: u64, most: u64) -> Kind {
+    Kind {
+        name,
+        fixed,
+        each,
+        most,
+    }
+}
+
+pub(crate) fn kinds() -> [Kind; 6] {
+    [
+        structure("counter", 0, 1, MAX_STRIPES),
+        structure("list", 1, 2, MAX_CELLS),
+        structure("hash", 16, 2, MAX_CELLS),
+        structure("tree", 1, 3, MAX_CELLS),
+        structure("queue", 2, 1, MAX_CELLS),
+        structure("summap", 1, 5, MAX_CELLS),
+    ]
+}
+
+/// A region of the header.
+#[derive(Clone, Copy, Drop, Debug, PartialEq, Eq)]
+pub(crate) struct Extent {
+    pub(crate) kind: Kind,
+    pub(crate) first: u64,
+    pub(crate) size: u64,
+    /// The word after its last.
+    pub(crate) end: u64,
+    /// Its line.
+    pub(crate) line: usize,
+}
+
+/// What stands above a line, as far as it says what may stand on it.
+#[derive(Drop)]
+pub(crate) struct Known {
+    pub(crate) spot: Spot,
+    pub(crate) regions: Vec<Extent>,
+    /// Addresses that are no structure's.
+    pub(crate) plain: Vec<Range>,
+}
+
+impl Known {
+    pub(crate) fn of(alloc: Global, text: &[u8], spot: Spot) -> Result<Known, AllocError> {
+        let regions = regions_above(alloc, text, &spot)?;
+        let plain = plain_of(alloc, &spot, regions.as_slice())?;
+        Ok(Known {
+            spot,
+            regions,
+            plain,
+        })
+    }
+
+    /// The first word that no region above has.
+    pub(crate) fn free(&self) -> u64 {
+        match self.regions.last() {
+            Some(region) => region.end,
+            None => 0,
+        }
+    }
+
+    /// The region of this number.
+    pub(crate) fn region(&self, number: u64) -> Option<Extent> {
+        let number = usize::try_from(number).ok()?;
+        self.regions.get(number).copied()
+    }
+}
+
+/// The regions that the lines above have.
+fn regions_above(alloc: Global, text: &[u8], spot: &Spot) -> Result<Vec<Extent>, AllocError> {
+    let count = match spot.place {
+        LineKind::Region(left) => spot.regions.saturating_sub(left),
+        _ => spot.regions,
+    };
+    let mut regions = Vec::new(alloc);
+    let mut rest = from_line(text, FIRST_REGION);
+    for number in 0..count.min(16) {
+        let line = FIRST_REGION.saturating_add(number as usize);
+        if let Some(extent) = extent_of(first_line(rest), line) {
+            regions.push(extent)?;
+        }
+        rest = from_line(rest, 2);
+    }
+    Ok(regions)
+}
+
+/// The region of a line.
+pub(crate) fn extent_of(bytes: &[u8], line: usize) -> Option<Extent> {
+    let (_, rest) = first_word(bytes);
+    let name = second_word(rest);
+    let (_, rest) = next_word(rest)?;
+    let (at, rest) = next_word(rest)?;
+    let (size, _) = next_word(rest)?;
+    let first = lines::number(at)?;
+    let size = lines::number(size)?;
+    let kind = kind_of(name)?;
+    let words = size.checked_mul(kind.each)?.checked_add(kind.fixed)?;
+    Some(Extent {
+        kind,
+        first,
+        size,
+        end: first.checked_add(words)?,
+        line,
+    })
+}
+
+pub(crate) fn kind_of(name: &[u8]) -> Option<Kind> {
+    for kind in kinds() {
+        if lines::is(name, kind.name.as_bytes()) {
+            return Some(kind);
+        }
+    }
+    None
+}
+
+/// The addresses that are no structure's.
+fn plain_of(alloc: Global, spot: &Spot, regions: &[Extent]) -> Result<Vec<Range>, AllocError> {
+    let mut plain = Vec::new(alloc);
+    let mut from = 0u64;
+    if spot.version == Version::One && spot.structures {
+        push_range(&mut plain, 0, STRUCTS_BEGIN as u64)?;
+        from = STRUCTS_END as u64;
+    }
+    for region in regions {
+        push_range(&mut plain, from, region.first)?;
+        from = region.end;
+    }
+    push_range(&mut plain, from, spot.words)?;
+    Ok(plain)
+}
+
+/// Appends the numbers from one on below another, where there are some.
+fn push_range(ranges: &mut Vec<Range>, from: u64, end: u64) -> Result<(), AllocError> {
+    if from < end {
+        ranges.push((from, end - 1))?;
+    }
+    Ok(())
+}

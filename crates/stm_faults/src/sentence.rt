@@ -1,0 +1,146 @@
+//! A sentence of at most so many bytes.
+ghost use Rattle.std.specs.Prelude.{◌≤◌, IfOk, string_len};
+
+use std::alloc::{AllocError, Global};
+
+/// The greatest number of bytes of a sentence.
+pub const MOST_SAID: usize = 200;
+
+/// At least so much of a line is shown.
+const LEAST_SHOWN: usize = 16;
+
+/// At most so much of a line is shown.
+const MOST_SHOWN: usize = 60;
+
+/// The first bytes of a text that is too long.
+pub(crate) fn bounded(alloc: Global, said: String) -> Result<String, AllocError>
+    ensures { IfOk result (λ s. string_len s ≤ 200) }
+{
+    if said.len() <= MOST_SAID {
+        return Ok(said);
+    }
+    let mut cut = String::new(alloc);
+    for c in said.chars() {
+        if MOST_SAID < cut.len() + 4 {
+            break;
+        }
+        cut.push(c)?;
+    }
+    Ok(cut)
+}
+
+/// What a sentence says, but for the bytes of the line.
+#[derive(Drop)]
+pub(crate) struct Parts {
+    /// Where the line stands.
+    pub(crate) place: String,
+    pub(crate) why: String,
+    /// What may stand there.
+    pub(crate) may: String,
+}
+
+/// The sentence of these parts, and of the line's bytes, of which those from `focus` on are shown first.
+pub(crate) fn told(
+    alloc: Global,
+    parts: &Parts,
+    bytes: Option<&[u8]>,
+    focus: usize,
+) -> Result<String, AllocError>
+    ensures { IfOk result (λ s. string_len s ≤ 200) }
+{
+    let fixed = parts
+        .place
+        .len()
+        .saturating_add(parts.why.len())
+        .saturating_add(parts.may.len());
+    let room = MOST_SAID
+        .saturating_sub(fixed)
+        .saturating_sub(24)
+        .clamp(LEAST_SHOWN, MOST_SHOWN);
+    let mut said = String::new(alloc);
+    said.push_str(parts.place.as_str())?;
+    if let Some(bytes) = bytes {
+        said.push_str(", `")?;
+        put_cut(&mut said, bytes, focus, room)?;
+        said.push_str("`")?;
+    }
+    write!(said, ": {}; here stands {}", parts.why, parts.may)?;
+    bounded(alloc, said)
+}
+
+/// How many bytes a byte takes where it is shown.
+fn width(byte: u8) -> usize {
+    if may_stand(byte) {
+        1
+    } else if byte < 10 {
+        3
+    } else if byte < 100 {
+        4
+    } else {
+        5
+    }
+}
+
+fn width_of(bytes: &[u8]) -> usize {
+    let mut all = 0usize;
+    for byte in bytes {
+        all = all.saturating_add(width(*byte));
+    }
+    all
+}
+
+/// Appends bytes, as much as there is room for, with those from `focus` on among them; one that no line may have by its
+/// number.
+pub(crate) fn put_cut(
+    said: &mut String,
+    bytes: &[u8],
+    focus: usize,
+    room: usize,
+) -> Result<(), AllocError> {
+    if width_of(bytes) <= room {
+        return put_bytes(said, bytes, room);
+    }
+    // a quarter of what is shown stands before the place that is looked at
+    let start = focus.saturating_sub(room / 4).min(bytes.len());
+    let rest = &bytes[start..];
+    if start == 0 {
+        put_bytes(said, rest, room.saturating_sub(3))?;
+        return said.push_str(" ..");
+    }
+    said.push_str(".. ")?;
+    if width_of(rest) <= room.saturating_sub(3) {
+        return put_bytes(said, rest, room);
+    }
+    put_bytes(said, rest, room.saturating_sub(6))?;
+    said.push_str(" ..")
+}
+
+/// Appends the first bytes, as many as there is room for.
+fn put_bytes(said: &mut String, bytes: &[u8], room: usize) -> Result<(), AllocError> {
+    let mut left = room;
+    for byte in bytes {
+        let width = width(*byte);
+        if left < width {
+            break;
+        }
+        left -= width;
+        if may_stand(*byte) {
+            said.push(char::from(*byte))?;
+        } else {
+            write!(said, "<{byte}>")?;
+        }
+    }
+    Ok(())
+}
+
+/// Whether a byte may stand on a line.
+pub(crate) fn may_stand(byte: u8) -> bool {
+    32 <= byte && byte <= 126
+}
+
+/// A word, as it is shown in a sentence.
+pub(crate) fn put_word(said: &mut String, word: &[u8]) -> Result<(), AllocError> {
+    said.push_str("`")?;
+    put_cut(said, word, 0, 20)?;
+    said.push_str("`")
+}

@@ -1,0 +1,321 @@
+//! A line of a report that doesn't replay its workload, beside what is wanted there.
+ghost use Rattle.std.specs.Prelude.{◌≤◌, IfOk, string_len};
+
+use crate::report::line_name;
+use crate::sentence::{MOST_SAID, Parts, put_cut, put_word, told};
+use crate::shown::{first_line, from_line};
+use crate::words::{start_of, words_of};
+use std::alloc::{AllocError, Global};
+use stm_check::apart::report_in;
+use stm_check::wanted::Wanted;
+use stm_check::words::first_word;
+use stm_model::memory::Memory;
+use stm_script::report::{Pairs, Report, Row, Rows};
+use stm_text::lines;
+use stm_text::parting::{count_lines, part_at_done};
+use stm_text::report::report_text;
+
+/// What is wrong with a workload and a report in one text of which `check` says `no` with this line: what stands on it, and
+/// what the replay wants there.
+///
+/// # Errors
+/// Memory, where it is refused.
+pub fn wrong_line(alloc: Global, text: &[u8], line: usize, wanted: Wanted) -> Result<String, Memory>
+    ensures { IfOk result (λ s. string_len s ≤ 200) }
+{
+    let (head, behind) = part_at_done(text);
+    wrong_below(alloc, head, behind, count_lines(head), line, wanted)
+}
+
+/// The same of a workload, and of a report in a text of its own, which a trace may stand above.
+///
+/// # Errors
+/// Memory, where it is refused.
+pub fn wrong_line_of(
+    alloc: Global,
+    text: &[u8],
+    told: &[u8],
+    line: usize,
+    wanted: Wanted,
+) -> Result<String, Memory>
+    ensures { IfOk result (λ s. string_len s ≤ 200) }
+{
+    let (above, report) = report_in(told);
+    wrong_below(alloc, text, report, above, line, wanted)
+}
+
+/// The same of a report that has so many lines above it, which are counted with its own.
+fn wrong_below(
+    alloc: Global,
+    text: &[u8],
+    report: &[u8],
+    above: usize,
+    line: usize,
+    wanted: Wanted,
+) -> Result<String, Memory>
+    ensures { IfOk result (λ s. string_len s ≤ 200) }
+{
+    let number = line.saturating_sub(above);
+    let bytes = first_line(from_line(report, number));
+    let words = words_of(alloc, bytes)?;
+    let mut parts = Parts {
+        place: line_name(alloc, above, number)?,
+        why: String::new(alloc),
+        may: String::new(alloc),
+    };
+    let at = match wanted {
+        Wanted::Row(row) => put_row(alloc, &mut parts, text, words.as_slice(), row)?,
+        wanted => {
+            put_wanted(&mut parts, text, words.as_slice(), wanted)?;
+            0
+        }
+    };
+    Ok(told(alloc, &parts, Some(bytes), start_of(words.as_slice(), at))?)
+}
+
+/// The number that a word of a line is.
+fn number_at(words: &[&[u8]], at: usize) -> u64 {
+    match words.get(at) {
+        Some(word) => lines::number(word).unwrap_or(0),
+        None => 0,
+    }
+}
+
+/// Appends what the replay wants, where that isn't a row that is known.
+fn put_wanted(
+    parts: &mut Parts,
+    text: &[u8],
+    words: &[&[u8]],
+    wanted: Wanted,
+) -> Result<(), AllocError> {
+    let place = number_at(words, 1);
+    let caller = number_at(words, 2);
+    match wanted {
+        Wanted::Later => {
+            parts
+                .why
+                .push_str("it doesn't come after the row above it")?;
+            parts.may.push_str(
+                "a row that does: by place, then W before R and C, then by caller, then by number",
+            )
+        }
+        Wanted::Apart => {
+            write!(parts.why, "the W row above it has the place {place} too")?;
+            write!(parts.may, "a place above {place}")
+        }
+        Wanted::Next { seq } => {
+            let own = number_at(words, 3);
+            write!(
+                parts.why,
+                "transaction {seq} of caller {caller} is next, and this is {own}"
+            )?;
+            write!(parts.may, "the number {seq}")
+        }
+        Wanted::Over { count } => {
+            write!(
+                parts.why,
+                "caller {caller} has {count} transactions, and each has its row above"
+            )?;
+            write!(parts.may, "no row of caller {caller}")
+        }
+        Wanted::Missing { caller, seq } => {
+            write!(parts.why, "transaction {seq} of caller {caller}")?;
+            if let Some(line) = transaction_line(text, caller as u64, seq as u64) {
+                write!(parts.why, " (line {line} of the workload)")?;
+            }
+            parts.why.push_str(" has no row")?;
+            write!(
+                parts.may,
+                "`K PLACE {caller} {seq} : REPLIES`, K one of W, R, C"
+            )
+        }
+        Wanted::Word { address, value } => {
+            write!(
+                parts.why,
+                "the rows leave {value} in the word {address}, which is next"
+            )?;
+            write!(parts.may, "`mem {address} {value}`")
+        }
+        Wanted::End | Wanted::Row(_) => {
+            parts.why.push_str("no further word isn't 0")?;
+            parts.may.push_str("`end`")
+        }
+    }
+}
+
+/// Where two rows differ first.
+#[derive(Clone, Copy, Drop, Debug, PartialEq, Eq)]
+enum Differing {
+    Kind,
+    /// The reply of this number, from 1.
+    Reply(usize),
+    /// The emit of this number, from 1.
+    Emit(usize),
+}
+
+/// Appends how the row that stands there differs from the one wanted first; and returns the number of that word.
+fn put_row(
+    alloc: Global,
+    parts: &mut Parts,
+    text: &[u8],
+    words: &[&[u8]],
+    row: Row,
+) -> Result<usize, Memory> {
+    let caller = row.caller as u64;
+    let seq = row.seq as u64;
+    let row = row_text(alloc, row)?;
+    let line = first_line(from_line(row.as_slice(), 2));
+    let wants = words_of(alloc, line)?;
+    let at = first_apart(words, wants.as_slice());
+    let (what, at) = difference(words, wants.as_slice(), at);
+    match what {
+        Differing::Kind => parts.why.push_str("its kind")?,
+        Differing::Reply(number) => {
+            write!(parts.why, "reply {number}")?;
+            put_operation(&mut parts.why, text, caller, seq, number, false)?;
+        }
+        Differing::Emit(number) => {
+            write!(parts.why, "emit {number}")?;
+            put_operation(&mut parts.why, text, caller, seq, number, true)?;
+        }
+    }
+    parts.why.push_str(": stands ")?;
+    put_or_none(&mut parts.why, words.get(at))?;
+    parts.why.push_str(", wanted ")?;
+    put_or_none(&mut parts.why, wants.get(at))?;
+    put_whole(parts, line)?;
+    Ok(at)
+}
+
+/// Appends the row wanted, where there is room for it.
+fn put_whole(parts: &mut Parts, line: &[u8]) -> Result<(), AllocError> {
+    let fixed = parts
+        .place
+        .len()
+        .saturating_add(parts.why.len())
+        .saturating_add(56);
+    if MOST_SAID.saturating_sub(fixed) < line.len() {
+        return parts.may.push_str("the row with what is wanted");
+    }
+    parts.may.push_str("`")?;
+    put_cut(&mut parts.may, line, 0, line.len())?;
+    parts.may.push_str("`")
+}
+
+fn put_or_none(said: &mut String, word: Option<&&[u8]>) -> Result<(), AllocError> {
+    match word {
+        Some(word) if !lines::is(word, b"!") => put_word(said, word),
+        _ => said.push_str("none"),
+    }
+}
+
+/// A row as a report has it, on the second line.
+fn row_text(alloc: Global, row: Row) -> Result<Vec<u8>, Memory> {
+    let mut rows = Vec::new(alloc);
+    if rows.push(row).is_err() {
+        return Err(Memory);
+    }
+    let report = Report {
+        rows: Rows::new(rows),
+        memory: Pairs::new(Vec::new(alloc)),
+    };
+    report_text(alloc, &report)
+}
+
+/// The number of the first word that two lines don't share.
+fn first_apart(words: &[&[u8]], wants: &[&[u8]]) -> usize {
+    for (i, word) in words.iter().enumerate() {
+        match wants.get(i) {
+            Some(want) => {
+                if !lines::is(word, want) {
+                    return i;
+                }
+            }
+            None => return i,
+        }
+    }
+    words.len()
+}
+
+/// What the first word apart is, and the number of the word to be shown.
+fn difference(words: &[&[u8]], wants: &[&[u8]], at: usize) -> (Differing, usize) {
+    if at < 5 {
+        return (Differing::Kind, 0);
+    }
+    let own = replies_end(words);
+    let wanted = replies_end(wants);
+    if at < own || at < wanted {
+        return (Differing::Reply(at - 4), at);
+    }
+    // the emits follow the `!`
+    let first = own.saturating_add(1);
+    let at = at.max(first);
+    (Differing::Emit(at.saturating_sub(own)), at)
+}
+
+/// Where the replies of a row end.
+fn replies_end(words: &[&[u8]]) -> usize {
+    for (i, word) in words.iter().enumerate() {
+        if lines::is(word, b"!") {
+            return i;
+        }
+    }
+    words.len()
+}
+
+/// Appends the operation of a transaction that gave this reply or emit, and its line.
+fn put_operation(
+    said: &mut String,
+    text: &[u8],
+    caller: u64,
+    seq: u64,
+    number: usize,
+    is_emit: bool,
+) -> Result<(), AllocError> {
+    let Some(line) = transaction_line(text, caller, seq) else {
+        return Ok(());
+    };
+    let mut rest = from_line(text, line.saturating_add(1));
+    let mut at = line.saturating_add(1);
+    let mut left = number;
+    for _ in 0..text.len() {
+        let bytes = first_line(rest);
+        let (word, _) = first_word(bytes);
+        if rest.is_empty() || lines::is(word, b"end") {
+            break;
+        }
+        if !is_emit || lines::is(word, b"emit") {
+            left = left.saturating_sub(1);
+        }
+        if left == 0 {
+            said.push_str(" (")?;
+            put_word(said, bytes)?;
+            return write!(said, ", line {at} of the workload)");
+        }
+        rest = from_line(rest, 2);
+        at = at.saturating_add(1);
+    }
+    Ok(())
+}
+
+/// The line on which a transaction of a caller begins, by its number from 0.
+fn transaction_line(text: &[u8], caller: u64, seq: u64) -> Option<usize> {
+    let mut rest = text;
+    let mut line = 1usize;
+    let mut left = seq;
+    for _ in 0..text.len() {
+        let (word, others) = first_word(first_line(rest));
+        if lines::is(word, b"tx")
+            && lines::number(crate::spot::second_word(others)) == Some(caller)
+        {
+            if left == 0 {
+                return Some(line);
+            }
+            left -= 1;
+        }
+        let i = lines::find(b'\n', rest)?;
+        rest = lines::past(rest, i);
+        line = line.saturating_add(1);
+    }
+    None
+}
