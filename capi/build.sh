@@ -1,5 +1,5 @@
 #!/bin/sh
-# build.sh [--unproved | --asan | --tsan]: makes capi/build/libnekchhaul.a and libnekchhaul.so.1, of the proved static library
+# build.sh [--unproved | --asan | --tsan]: makes capi/build/libnekchhaul.a and libnekchhaul.so.2, of the proved static library
 # nekchhaul_c, the kit's heap, and the C functions of nekchhaul.h. Needs `rt` of the Rattle kit, a C compiler and binutils.
 #
 # `rt lib` proves what isn't proved yet, which from nothing takes hours. After `rt ci` in a fresh checkout, whose proved
@@ -49,6 +49,12 @@ over_proved() {
 }
 
 has() { command -v "$1" >/dev/null; }
+case $to in /*) ;; *) to=$PWD/$to ;; esac
+case ${NEKCHHAUL_ARCHIVE:+given}${1:-} in
+given*) say "makes a library in $to of an archive that is there" ;;
+--*) say "makes a library in $to, ${1#--}: two to three minutes" ;;
+*) say "makes a library in $to; what isn't proved yet is proved first, which from nothing takes hours" ;;
+esac
 cc=${CC:-}
 for name in gcc clang cc; do
     [ "$cc" ] || ! has $name || cc=$name
@@ -57,7 +63,6 @@ done
 for name in ar ld nm objcopy; do
     has $name || fail "no $name is there: apt-get install binutils"
 done
-case $to in /*) ;; *) to=$PWD/$to ;; esac
 mkdir -p "$to" && [ -w "$to" ] || fail "$to can't be written: set NEKCHHAUL_BUILD to a folder for what is built"
 given=${NEKCHHAUL_ARCHIVE:-}
 case $given in "" | /*) ;; *) given=$PWD/$given ;; esac
@@ -104,8 +109,8 @@ for name in memcpy memmove memset; do objcopy --redefine-sym __tsan_$name=$name 
 ar rcs "$to/libnekchhaul.a" "$room/nekchhaul.o" "$room/functions.o"
 say "$to/libnekchhaul.a is made, for processors of x86-64-v2 (2009 and later)"
 if [ ! "$flags" ]; then
-    "$cc" -shared -Wl,-soname,libnekchhaul.so.1 -Wl,--version-script="$here/nekchhaul.map" -Wl,-Bsymbolic -Wl,-z,defs "$room/nekchhaul.o" \
-        "$room/functions.o" -o "$to/libnekchhaul.so.1"
-    ln -s libnekchhaul.so.1 "$to/libnekchhaul.so"
-    say "$to/libnekchhaul.so.1 is made"
+    "$cc" -shared -Wl,-soname,libnekchhaul.so.2 -Wl,--version-script="$here/nekchhaul.map" -Wl,-Bsymbolic -Wl,-z,defs "$room/nekchhaul.o" \
+        "$room/functions.o" -o "$to/libnekchhaul.so.2"
+    ln -s libnekchhaul.so.2 "$to/libnekchhaul.so"
+    say "$to/libnekchhaul.so.2 is made"
 fi

@@ -32,19 +32,19 @@ static void count(atomic_ulong *counter)
     atomic_store_explicit(counter, atomic_load_explicit(counter, memory_order_relaxed) + 1, memory_order_relaxed);
 }
 
-/* One attempt, by hand: the header's loops run no body beside a range. */
-static void read_once(struct reader *r, struct nekchhaul_pause *pause)
+/* One attempt, by hand, so that its begin and its end can be told. */
+static void read_once(struct reader *r, uint32_t *times)
 {
     uint64_t v;
     uint32_t s = nekchhaul_begin(&r->caller);
     if (s) {
-        nekchhaul_pause_after(pause, s);
+        nekchhaul_wait(times);
         return;
     }
     count(&r->begun);
     for (size_t i = 0; !s && i < r->reads; i++) s = nekchhaul_read(&r->caller, i, &v);
     if (!s) s = nekchhaul_write(&r->caller, WORDS - 1, 1);
-    if (!s) s = nekchhaul_leave(&r->caller, pause);
+    while (!s && (s = nekchhaul_commit(&r->caller)) == NEKCHHAUL_AGAIN) s = NEKCHHAUL_OK, nekchhaul_wait(times);
     if (s == NEKCHHAUL_FENCED) (void)nekchhaul_abandon(&r->caller); /* the memory has ended */
     else if (s > NEKCHHAUL_CONFLICT) abort();
     count(&r->ended);
@@ -53,8 +53,8 @@ static void read_once(struct reader *r, struct nekchhaul_pause *pause)
 static void *read_on(void *argument)
 {
     struct reader *r = argument;
-    struct nekchhaul_pause pause = NEKCHHAUL_PAUSE_INIT;
-    while (!atomic_load(r->end)) read_once(r, &pause);
+    uint32_t times = 32;
+    while (!atomic_load(r->end)) read_once(r, &times);
     return NULL;
 }
 
@@ -76,8 +76,8 @@ static unsigned long ended_of(struct reader *all, size_t readers)
 static void let_begin(struct reader *all, size_t readers)
 {
     unsigned long before = begun_of(all, readers);
-    struct nekchhaul_pause pause = NEKCHHAUL_PAUSE_INIT;
-    while (begun_of(all, readers) == before) nekchhaul_wait(&pause);
+    uint32_t times = 32;
+    while (begun_of(all, readers) == before) nekchhaul_wait(&times);
 }
 
 enum call { SWITCH, FENCE, GIVE_BACK, CLOSE };
@@ -97,7 +97,7 @@ static uint32_t make(nekchhaul_caller *me, enum call call, uint32_t algorithm)
  * the last one. */
 static void until_done(nekchhaul_caller *me, struct reader *all, size_t readers, enum call call, uint32_t algorithm, struct cost *cost)
 {
-    struct nekchhaul_pause pause = NEKCHHAUL_PAUSE_INIT;
+    uint32_t times = 32;
     unsigned long closed = 0, looked = 0;
     uint64_t last = 0;
     uint32_t s;
@@ -108,7 +108,7 @@ static void until_done(nekchhaul_caller *me, struct reader *all, size_t readers,
         if (!busy) closed = looked;
         if (nekchhaul_why(me, &why) || why.first < last) abort();
         last = why.first;
-        nekchhaul_wait(&pause);
+        nekchhaul_wait(&times);
         looked = ended_of(all, readers);
     }
     if (s || looked - closed > readers) abort();

@@ -57,7 +57,7 @@ static void *trade(void *argument)
     for (int i = 0; i < t->moves; i++) {
         uint64_t r = draw(&t->draws);
         struct move m = { r % ACCOUNTS, (r % ACCOUNTS + 1 + (r >> 20) % (ACCOUNTS - 1)) % ACCOUNTS, (r >> 40) % 100 };
-        if (nekchhaul_atomically_for_good(&t->caller, do_move, &m)) abort();
+        if (nekchhaul_atomically(&t->caller, do_move, &m)) abort();
     }
     return NULL;
 }
@@ -76,7 +76,7 @@ static int audit(nekchhaul_caller *auditor, int algorithm, int switching, int au
     int wrong = 0;
     uint64_t found = 0;
     for (int i = 0; i < audits; i++) {
-        if (nekchhaul_atomically_for_good(auditor, do_audit, &found)) abort();
+        if (nekchhaul_atomically(auditor, do_audit, &found)) abort();
         wrong += found != (uint64_t)ACCOUNTS * BALANCE;
         if (switching && i % 16 == 0 && nekchhaul_install(auditor, (uint32_t)(algorithm + i / 16 + 1) % 6)) abort();
     }
@@ -95,7 +95,7 @@ int main(int argc, char **argv)
     if (algorithm < 0 || traders < 1 || traders > MOST || share < 1) return 2;
     if (nekchhaul_open(&sizes, (uint32_t)algorithm, callers, (size_t)traders + 1)) return 3;
     nekchhaul_caller *auditor = &callers[traders];
-    if (nekchhaul_atomically_for_good(auditor, do_fill, NULL)) return 4;
+    if (nekchhaul_atomically(auditor, do_fill, NULL)) return 4;
 
     static pthread_t threads[MOST];
     static struct trader of[MOST];

@@ -16,7 +16,7 @@ void trade(nekchhaul::caller &mine, uint64_t x)
         x ^= x << 17;
         size_t from = x % accounts, to = (from + 1 + (x >> 20) % (accounts - 1)) % accounts;
         uint64_t amount = (x >> 40) % 100;
-        mine.atomically_for_good([&](auto &t) {
+        mine.atomically([&](auto &t) {
             uint64_t payer = t.read(from), payee = t.read(to);
             if (payer < amount) return;
             t.write(from, payer - amount);
@@ -31,7 +31,7 @@ int audit(nekchhaul::caller &auditor, uint32_t algorithm)
     std::vector<size_t> all(accounts);
     for (size_t k = 0; k < accounts; k++) all[k] = k;
     for (uint32_t i = 0; i < 1000; i++) {
-        uint64_t sum = auditor.atomically_for_good([&](auto &t) {
+        uint64_t sum = auditor.atomically([&](auto &t) {
             uint64_t s = 0;
             for (uint64_t word : t.read_many(all)) s += word;
             return s;
@@ -42,12 +42,11 @@ int audit(nekchhaul::caller &auditor, uint32_t algorithm)
     return wrong;
 }
 
-// A misuse is an error, a body's own exception leaves no trace, and under an algorithm that can't take writes back, or while
-// a range is out, such a body isn't run.
+// A misuse is an error, a body's own exception leaves no trace, and a body that meets its caller's own range is an error.
 int refusals(nekchhaul::caller &c)
 {
     int wrong = 0;
-    c.install(nekchhaul::algorithm::serial);
+    c.install(nekchhaul::algorithm::cgl);
     try {
         c.atomically([&](auto &t) { t.read(accounts); });
         wrong++;
@@ -65,25 +64,12 @@ int refusals(nekchhaul::caller &c)
     c.take_range(0, 1);
     c.direct_write(0, c.direct_read(0));
     try {
-        c.atomically([&](auto &) { wrong++; });
+        c.atomically([&](auto &t) { t.write(0, 1); });
         wrong++;
     } catch (const nekchhaul::error &e) {
-        wrong += e.status != NEKCHHAUL_RANGE_TAKEN;
-    }
-    try {
-        c.atomically_for_good([&](auto &) { wrong++; });
-        wrong++;
-    } catch (const nekchhaul::error &e) {
-        wrong += e.status != NEKCHHAUL_RANGE_TAKEN;
+        wrong += e.status != NEKCHHAUL_FENCED;
     }
     c.return_range();
-    c.install(nekchhaul::algorithm::tml);
-    try {
-        c.atomically([&](auto &) { wrong++; });
-        wrong++;
-    } catch (const nekchhaul::error &e) {
-        wrong += e.status != NEKCHHAUL_UNCANCELLABLE;
-    }
     return wrong;
 }
 } // namespace
@@ -94,7 +80,7 @@ int main()
     for (uint32_t a = 0; a < 6; a++) {
         auto callers = nekchhaul::open({accounts, 64, 64, 128, 64, 0}, nekchhaul::algorithm(a), 4);
         auto &auditor = callers[3];
-        auditor.atomically_for_good([&](auto &t) {
+        auditor.atomically([&](auto &t) {
             for (size_t i = 0; i < accounts; i++) t.write(i, balance);
         });
         for (size_t n = 0; n < 3; n++) callers[n].learn(auditor);

@@ -62,9 +62,14 @@ void by_hand(nh::caller &c, nh::caller &other)
         IS(status_of([&] { t.read(1); }) == NEKCHHAUL_NO_ATTEMPT);
     }
     c.begin().write(1, 7);
-    nh::begun t = c.begin();
-    t.write(1, 8);
-    t.cancel();
+    {
+        nh::begun t = c.begin();
+        IS(status_of([&] { t.retry(); }) == NEKCHHAUL_RETRY);
+        IS(status_of([&] { c.atomically([](auto &inner) { inner.retry(); }); }) == NEKCHHAUL_RETRY);
+        IS(t.or_else([](nh::attempt &first) -> int { first.retry(); }, [](auto &) { return 3; }) == 3);
+        t.write(1, 8);
+        t.cancel();
+    }
     IS(c.atomically([](auto &inner) { return inner.read(1); }) == 5);
     IS(status_of([&] { c.atomically([](auto &inner) { inner.write_many({0, 1}, {1}); }); }) == NEKCHHAUL_ROOM);
     other.take_range(0, 1);
@@ -112,7 +117,7 @@ void nesting(nh::caller &c)
         t.write(2, t.read(0));
     });
     IS((c.atomically([&](auto &t) { return t.read_many({0, 1, 2}); }) == std::vector<uint64_t>{5, 0, 5}));
-    // an inner transaction is a part of the outer one: where it stops, all does, and a body that goes on is refused
+    // an inner transaction is such a part
     try {
         c.atomically([&](auto &t) {
             t.write(0, 7);
@@ -123,17 +128,13 @@ void nesting(nh::caller &c)
     } catch (const thrown &e) {
         IS(e.number == 2);
     }
-    IS(status_of([&] {
-        c.atomically([&](auto &t) {
-            t.write(0, 8);
-            try {
-                c.atomically([](auto &) { throw thrown{3}; });
-            } catch (const thrown &) {
-            }
-            c.atomically([](auto &inner) { inner.write(1, 8); });
-        });
-    }) == NEKCHHAUL_NO_ATTEMPT);
-    IS((c.atomically([&](auto &t) { return t.read_many({0, 1}); }) == std::vector<uint64_t>{5, 0}));
+    c.atomically([&](auto &t) {
+        t.write(0, 8);
+        IS(status_of([&] { c.atomically([](auto &inner) { inner.write(1, 9), inner.write(4, 9); }); }) == NEKCHHAUL_ADDRESS);
+        c.atomically([](auto &inner) { inner.write(2, 8); });
+    });
+    IS((c.atomically([&](auto &t) { return t.read_many({0, 1, 2}); }) == std::vector<uint64_t>{8, 0, 8}));
+    c.atomically([](auto &t) { t.write(0, 5); });
     IS(c.atomically([&](auto &t) {
         return t.or_else([](nh::attempt &first) -> int { first.write(0, 9); first.retry(); }, [](auto &second) { return static_cast<int>(second.read(0)); });
     }) == 5);
@@ -144,27 +145,49 @@ void nesting(nh::caller &c)
     IS(runs == 20);
 }
 
-void that_never_stop(nh::caller &c)
+// What was written stands, and the error has the exception in it.
+void irrevocable(nh::caller &c)
 {
-    for (auto a : {nh::algorithm::cgl, nh::algorithm::tml}) {
-        c.install(a);
-        IS(status_of([&] { c.atomically([](auto &) {}); }) == NEKCHHAUL_UNCANCELLABLE);
-        c.atomically_for_good([&](auto &t) {
-            t.write(0, 1);
-            IS(status_of([&] { c.atomically([](auto &inner) { inner.write(0, 2); }); }) == NEKCHHAUL_UNCANCELLABLE);
-            IS(status_of([&] { t.nested([](auto &inner) { inner.write(0, 3); }); }) == NEKCHHAUL_UNCANCELLABLE);
-            c.atomically_for_good([](auto &inner) { inner.write(1, 4); });
-        });
-        IS((c.atomically_for_good([&](auto &t) { return t.read_many({0, 1}); }) == std::vector<uint64_t>{1, 4}));
-        IS(status_of([&] { c.atomically_for_good([](auto &t) { t.write(0, 5); t.retry(); }); }) == NEKCHHAUL_IRREVOCABLE);
-    }
-    c.install(nh::algorithm::orec_lazy);
     c.atomically([&](auto &t) {
         t.become_irrevocable();
         IS(t.state().irrevocable == 1);
-        IS(status_of([&] { c.atomically([](auto &) {}); }) == NEKCHHAUL_UNCANCELLABLE);
+        c.atomically([](auto &inner) { inner.write(0, 4); });
     });
     IS(status_of([&] { c.atomically([](auto &t) { t.become_irrevocable(); t.read(1000); }); }) == NEKCHHAUL_IRREVOCABLE);
+    IS(status_of([&] { c.atomically([](auto &t) { t.become_irrevocable(); t.write(1, 4); t.retry(); }); }) == NEKCHHAUL_IRREVOCABLE);
+    try {
+        c.atomically([](auto &t) {
+            t.become_irrevocable();
+            t.nested([](auto &inner) { inner.write(2, 4); throw thrown{5}; });
+        });
+        IS(false);
+    } catch (const nh::error &e) {
+        IS(e.status == NEKCHHAUL_IRREVOCABLE);
+    }
+    IS((c.atomically([&](auto &t) { return t.read_many({0, 1, 2}); }) == std::vector<uint64_t>{4, 4, 4}));
+}
+
+// After each run of a body one hook, whatever it came to.
+void hooks(nh::caller &c)
+{
+    int runs = 0, committed = 0, aborted = 0;
+    auto with = [&](auto body) {
+        c.atomically_with([&](nh::attempt &t) { runs++, body(t); }, [&] { committed++; }, [&] { aborted++; });
+    };
+    with([](nh::attempt &) {});
+    IS(runs == 1 && committed == 1 && aborted == 0);
+    with([&](nh::attempt &t) { if (runs < 4) t.retry(); });
+    IS(runs == 4 && committed == 2 && aborted == 2);
+    IS(status_of([&] { with([](nh::attempt &t) { t.read(1000); }); }) == NEKCHHAUL_ADDRESS && aborted == 3);
+    try {
+        with([](nh::attempt &) { throw thrown{1}; });
+        IS(false);
+    } catch (const thrown &) {
+    }
+    IS(runs == 6 && committed == 2 && aborted == 4);
+    IS(status_of([&] { with([](nh::attempt &t) { t.become_irrevocable(); throw thrown{1}; }); }) == NEKCHHAUL_IRREVOCABLE && committed == 3);
+    c.atomically([&](auto &) { IS(status_of([&] { with([](nh::attempt &) {}); }) == NEKCHHAUL_IN_ATTEMPT); });
+    IS(runs == 7 && committed == 3 && aborted == 4);
 }
 
 void others(nh::caller &c, nh::caller &other)
@@ -181,7 +204,8 @@ void others(nh::caller &c, nh::caller &other)
     IS(status_of([&] { c.close(4, 1); }) == NEKCHHAUL_BUSY);
     IS(nekchhaul_commit(other.get()) == NEKCHHAUL_OK);
     c.take_range(0, 2);
-    IS(status_of([&] { other.atomically([](auto &) {}); }) == NEKCHHAUL_RANGE_TAKEN);
+    other.atomically([](auto &t) { t.write(2, 1); });
+    IS(status_of([&] { c.atomically([](auto &t) { t.write(3, 1), t.write(1, 1); }); }) == NEKCHHAUL_FENCED);
     IS(status_of([&] { (void)c.direct_read(2); }) == NEKCHHAUL_NO_RANGE);
     c.direct_write(1, 11);
     c.return_range();
@@ -193,8 +217,9 @@ void others(nh::caller &c, nh::caller &other)
     }
     nh::caller moved = std::move(c);
     IS(status_of([&] { c.state(); }) == NEKCHHAUL_NO_CALLER);
-    IS(moved.close(4).at(1) == 11);
-    IS(status_of([&] { moved.atomically([](auto &) {}); }) == NEKCHHAUL_RANGE_TAKEN);
+    auto left = moved.close(4);
+    IS(left.at(1) == 11 && left.at(2) == 1);
+    for (nh::caller *one : {&moved, &other}) IS(status_of([&] { one->atomically([](auto &t) { t.read(0); }); }) == NEKCHHAUL_FENCED);
 }
 } // namespace
 
@@ -208,9 +233,13 @@ int main()
         marks(callers[0]);
         callers[0].atomically([](auto &t) { t.write(0, 0); });
         nesting(callers[0]);
-        that_never_stop(callers[0]);
+        irrevocable(callers[0]);
+        hooks(callers[0]);
         others(callers[0], callers[1]);
     }
+    auto callers = nh::open({4, 16, 16, 16, 16, 0}, nh::algorithm::orec_lazy, 2);
+    nh::caller(std::move(callers[0])).take_range(0, 1); // which the destructor gives back
+    IS(status_of([&] { callers[1].begin().read(0); }) == NEKCHHAUL_OK);
     IS(status_of([] { nh::open({1, 1, 2, 1, 1, 0}, nh::algorithm::serial, 0); }) == NEKCHHAUL_SIZE_CALLERS);
     IS(status_of([] { nh::open({0, 1, 2, 1, 1, 0}, nh::algorithm::serial, 1); }) == NEKCHHAUL_SIZE_WORDS);
     return wrong;

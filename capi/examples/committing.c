@@ -53,7 +53,7 @@ static void in_the_middle(nekchhaul_caller *c)
 }
 
 /* One attempt, which counts where it commits. */
-static void count_once(struct counter *m, struct nekchhaul_pause *pause)
+static void count_once(struct counter *m, uint32_t *times)
 {
     uint64_t v;
     uint32_t s = nekchhaul_begin(&m->caller);
@@ -67,7 +67,7 @@ static void count_once(struct counter *m, struct nekchhaul_pause *pause)
             MUST(s == 0);
             return;
         }
-        nekchhaul_wait(pause);
+        nekchhaul_wait(times);
         s = nekchhaul_commit(&m->caller);
     }
     MUST(s == 0 || s == NEKCHHAUL_CONFLICT);
@@ -77,9 +77,9 @@ static void count_once(struct counter *m, struct nekchhaul_pause *pause)
 static void *work(void *argument)
 {
     struct counter *m = argument;
-    struct nekchhaul_pause pause = NEKCHHAUL_PAUSE_INIT;
+    uint32_t times = 32;
     const double end = now() + 1;
-    for (long i = 0; i < AT_LEAST || (i < AT_MOST && m->again < WANTED && now() < end); i++) count_once(m, &pause);
+    for (long i = 0; i < AT_LEAST || (i < AT_MOST && m->again < WANTED && now() < end); i++) count_once(m, &times);
     return NULL;
 }
 

@@ -119,7 +119,7 @@ static uint32_t one(struct worker *w, struct job *j)
     }
     uint32_t s = NEKCHHAUL_OK;
     if (w->by_mutex) locked(kind, j);
-    else s = nekchhaul_atomically_for_good(&w->caller, bodies[kind], j);
+    else s = nekchhaul_atomically(&w->caller, bodies[kind], j);
     return kind == 4 && j->found != (uint64_t)ACCOUNTS * BALANCE ? 1 : s;
 }
 
@@ -165,7 +165,7 @@ int main(int argc, char **argv)
     if (kind < 0 || algorithm < 0 || n < 1 || n > MOST || count < n) return 2;
     if (nekchhaul_open(&sizes, (uint32_t)algorithm % 6, callers, (size_t)n)) return 3;
     for (size_t at = 0; kind == 1 && at < ACCOUNTS; at += 8)
-        if (nekchhaul_atomically_for_good(&callers[0], do_fill, &at)) return 4;
+        if (nekchhaul_atomically(&callers[0], do_fill, &at)) return 4;
     for (int i = 0; i < ACCOUNTS; i++) plain[i] = BALANCE;
     pthread_barrier_init(&together, NULL, (unsigned)n);
     for (int i = 0; i < n; i++) {

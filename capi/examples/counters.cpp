@@ -105,7 +105,7 @@ int run(nh::algorithm algorithm)
 int main()
 {
     int wrong = 0;
-    for (auto a : {nh::algorithm::orec_lazy, nh::algorithm::orec_eager, nh::algorithm::ring_sw, nh::algorithm::serial}) wrong += run(a);
+    for (auto a : {nh::algorithm::cgl, nh::algorithm::tml, nh::algorithm::orec_lazy, nh::algorithm::orec_eager, nh::algorithm::ring_sw, nh::algorithm::serial}) wrong += run(a);
     if (wrong) std::printf("%d wrong\n", wrong);
     return wrong != 0;
 }

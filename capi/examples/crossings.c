@@ -51,7 +51,7 @@ __attribute__((noinline)) void measure(nekchhaul_caller *caller, nekchhaul_body 
 {
     uint64_t sum = 0;
     for (int i = 0; i < TIMES; i++)
-        if (body ? nekchhaul_atomically_for_good(caller, body, &sum) : nekchhaul_begin(caller) || nekchhaul_commit(caller)) abort();
+        if (body ? nekchhaul_atomically(caller, body, &sum) : nekchhaul_begin(caller) || nekchhaul_commit(caller)) abort();
 }
 
 int main(void)

@@ -20,6 +20,9 @@ static void outside(uint32_t status)
 {
     uint64_t v = 77;
     size_t depth = 77, address = 0, taken = 77;
+    uint32_t pause = 77;
+    IS(nekchhaul_leave(&c[0], 0, &pause), status == NEKCHHAUL_NO_CALLER ? status : (uint32_t)NEKCHHAUL_NO_ATTEMPT);
+    IS(nekchhaul_leave(&c[0], NEKCHHAUL_RETRY, &pause), status == NEKCHHAUL_NO_CALLER ? status : (uint32_t)NEKCHHAUL_NO_ATTEMPT);
     IS(nekchhaul_read(&c[0], 0, &v), status);
     IS(nekchhaul_read_many(&c[0], &address, 1, &v, 1), status);
     IS(nekchhaul_write(&c[0], 0, 1), status);
@@ -31,13 +34,14 @@ static void outside(uint32_t status)
     IS(nekchhaul_checkpoint(&c[0], &depth), status);
     IS(nekchhaul_roll_to(&c[0], 1), status);
     IS(nekchhaul_drop_marks(&c[0], 1), status);
-    IS(v != 77 || depth != 77, 0);
+    IS(v != 77 || depth != 77 || pause != 77, 0);
 }
 /* The calls for a caller in no attempt; where it `gives`, it has closed the gate to give its range back. */
 static void inside(uint32_t status, int gives)
 {
     uint64_t v = 77, words[4] = { 77, 77, 77, 77 };
-    uint32_t under = 77;
+    uint32_t under = 77, pause = 77;
+    IS(nekchhaul_enter(&c[0], &pause), status);
     IS(nekchhaul_begin(&c[0]), status);
     IS(nekchhaul_begin_under(&c[0], &under), status);
     IS(nekchhaul_switch(&c[0], NEKCHHAUL_TML), status);
@@ -50,7 +54,7 @@ static void inside(uint32_t status, int gives)
     if (!gives) IS(nekchhaul_learn(&c[1], &c[0]), status); /* else c[1] is in an attempt */
     IS(nekchhaul_reserve(&c[0], 8, 8), status);
     IS(nekchhaul_release(&c[0]), status);
-    IS(v != 77 || words[0] != 77 || under != 77, 0);
+    IS(v != 77 || words[0] != 77 || under != 77 || pause != 77, 0);
 }
 
 static void opening(void)
@@ -194,6 +198,7 @@ static void ranges(void)
     IS(nekchhaul_fence(&c[0], 1, 1), 0);
     IS(nekchhaul_fence(&c[0], 2, 1), NEKCHHAUL_HOLDS_RANGE);
     IS(nekchhaul_close(&c[0], words, 4), NEKCHHAUL_HOLDS_RANGE);
+    IS(nekchhaul_release(&c[0]), NEKCHHAUL_HOLDS_RANGE);
     IS(nekchhaul_fence(&c[1], 2, 1), NEKCHHAUL_RANGE_TAKEN);
     IS(nekchhaul_close(&c[1], words, 4), NEKCHHAUL_RANGE_TAKEN);
     IS(nekchhaul_direct_read(&c[0], 0, &v), NEKCHHAUL_NO_RANGE);
@@ -318,27 +323,50 @@ static void counting(void)
     for (int i = 0; i < 2; i++) IS(nekchhaul_release(&d[i]), 0);
 }
 
-/* What the header's loop answers, under an algorithm that can't cancel and under one that can. */
-static void loops(void)
+/* An attempt of a loop is ended by nekchhaul_leave alone. */
+static void loop_by_hand(void)
+{
+    uint64_t v = 77;
+    uint32_t pause = 77;
+    IS(nekchhaul_enter(&c[0], &pause), NEKCHHAUL_RUN);
+    inside(NEKCHHAUL_IN_ATTEMPT, 0);
+    IS(nekchhaul_commit(&c[0]), NEKCHHAUL_IN_ATTEMPT);
+    IS(nekchhaul_cancel(&c[0]), NEKCHHAUL_IN_ATTEMPT);
+    IS(nekchhaul_abandon(&c[0]), NEKCHHAUL_IN_ATTEMPT);
+    IS(nekchhaul_write(&c[0], 0, 9), 0);
+    IS(nekchhaul_read(&c[0], 4, &v), NEKCHHAUL_ADDRESS);
+    IS(nekchhaul_read(&c[0], 0, &v), 0);
+    IS(v, 9);
+    IS(nekchhaul_leave(&c[0], NEKCHHAUL_RETRY, &pause), NEKCHHAUL_PAUSE);
+    IS(pause == 77, 0);
+    IS(nekchhaul_leave(&c[0], 0, &pause), NEKCHHAUL_NO_ATTEMPT);
+    IS(nekchhaul_enter(&c[0], &pause), NEKCHHAUL_RUN);
+    IS(nekchhaul_read(&c[0], 0, &v), 0);
+    IS(v, 0);
+    IS(nekchhaul_write(&c[0], 1, 9), 0);
+    IS(nekchhaul_leave(&c[0], NEKCHHAUL_ADDRESS, &pause), NEKCHHAUL_ADDRESS);
+    IS(nekchhaul_enter(&c[0], &pause), NEKCHHAUL_RUN);
+    IS(nekchhaul_read(&c[0], 1, &v), 0);
+    IS(v, 0);
+    IS(nekchhaul_leave(&c[0], 0, &pause), 0);
+    IS(nekchhaul_leave(&c[0], 0, &pause), NEKCHHAUL_NO_ATTEMPT);
+}
+
+/* What the header's loop answers, under each algorithm. */
+static void loops(uint32_t algorithm)
 {
     size_t far = 4;
     uint64_t word = 8, words[4];
-    IS(nekchhaul_open(&sizes, NEKCHHAUL_SERIAL, c, 2), 0);
+    IS(nekchhaul_open(&sizes, algorithm, c, 2), 0);
+    loop_by_hand();
     IS(nekchhaul_atomically(&c[0], misuses, &far), NEKCHHAUL_ADDRESS);
     IS(nekchhaul_atomically(&c[0], stops, &word), NEKCHHAUL_STOP + 3);
     IS(nekchhaul_take_range(&c[1], 1, 1), 0);
-    IS(nekchhaul_atomically(&c[0], stops, &word), NEKCHHAUL_RANGE_TAKEN);
-    IS(nekchhaul_atomically(&c[1], stops, &word), NEKCHHAUL_RANGE_TAKEN);
+    IS(nekchhaul_atomically(&c[0], stops, &word), NEKCHHAUL_STOP + 3);
+    far = 1;
+    IS(nekchhaul_atomically(&c[1], misuses, &far), NEKCHHAUL_FENCED); /* it has the word itself */
     IS(nekchhaul_return_range(&c[1]), 0);
-    IS(nekchhaul_install(&c[0], NEKCHHAUL_CGL), 0);
-    IS(nekchhaul_atomically(&c[0], stops, &word), NEKCHHAUL_UNCANCELLABLE);
-    IS(nekchhaul_atomically_for_good(&c[0], misuses, &far), NEKCHHAUL_IRREVOCABLE);
-    IS(nekchhaul_install(&c[0], NEKCHHAUL_TML), 0);
-    IS(nekchhaul_atomically(&c[0], stops, &word), NEKCHHAUL_UNCANCELLABLE);
-    IS(nekchhaul_atomically_for_good(&c[0], stops, &word), NEKCHHAUL_IRREVOCABLE);
-    IS(nekchhaul_take_range(&c[1], 1, 1), 0);
-    IS(nekchhaul_atomically_for_good(&c[0], stops, &word), NEKCHHAUL_RANGE_TAKEN);
-    IS(nekchhaul_return_range(&c[1]), 0);
+    IS(nekchhaul_atomically(&c[1], misuses, &far), 0);
     IS(nekchhaul_begin(&c[0]), 0);
     IS(nekchhaul_install_within(&c[1], NEKCHHAUL_SERIAL, 3), NEKCHHAUL_BUSY);
     IS(nekchhaul_take_range_within(&c[1], 1, 1, 2), NEKCHHAUL_BUSY);
@@ -346,14 +374,16 @@ static void loops(void)
     IS(nekchhaul_reopen(&c[1]), NEKCHHAUL_NOT_CLOSING);
     IS(nekchhaul_commit(&c[0]), 0);
     IS(nekchhaul_end(&c[1], words, 4), 0);
-    IS(words[0] != 8, 0);
+    IS(words[0] || words[1], 0);
+    for (int i = 0; i < 2; i++) IS(nekchhaul_atomically(&c[i], misuses, &far), NEKCHHAUL_FENCED); /* the memory has ended */
     nekchhaul_caller moved = nekchhaul_move(&c[1]);
     IS(nekchhaul_begin(&c[1]), NEKCHHAUL_NO_CALLER);
+    IS(nekchhaul_atomically(&c[1], misuses, &far), NEKCHHAUL_NO_CALLER);
     IS(nekchhaul_release(&moved), 0);
     IS(nekchhaul_release(&c[0]), 0);
 }
 
-/* At the clock's limit a range isn't given back: its words are read directly, all others by attempts. */
+/* At the clock's limit a range isn't given back: its words are read directly, all others by attempts, and its caller stays. */
 static void full_clock(void)
 {
     nekchhaul_sizes s = sizes;
@@ -370,7 +400,7 @@ static void full_clock(void)
     IS(nekchhaul_read(&c[0], 3, &v), 0);
     IS(v != 0, 0);
     IS(nekchhaul_commit(&c[0]), 0);
-    IS(nekchhaul_release(&c[0]), 0);
+    IS(nekchhaul_release(&c[0]), NEKCHHAUL_HOLDS_RANGE);
     IS(nekchhaul_release(&c[1]), 0);
 }
 
@@ -400,7 +430,7 @@ int main(void)
     IS(nekchhaul_read(&c[0], 0, &v), NEKCHHAUL_NO_CALLER);
     IS(nekchhaul_release(&c[0]), NEKCHHAUL_NO_CALLER);
     IS(nekchhaul_release(&c[1]), 0);
-    loops();
+    for (uint32_t algorithm = 0; algorithm < 6; algorithm++) loops(algorithm);
     full_clock();
     return wrong;
 }

@@ -13,11 +13,10 @@ enum { ACCOUNTS = 16, BALANCE = 1000, THREADS = 4, TRANSFERS = 20000, STOPS = NE
 
 static const char *const names[] = { "CGL", "TML", "OrecLazy", "OrecEager", "RingSW", "Serial" };
 static uint32_t algorithm;
-static int wrong, ran;
+static int wrong;
 
 static uint32_t put(nekchhaul_caller *c, void *word)
 {
-    ran++;
     return nekchhaul_write(c, 1, *(uint64_t *)word);
 }
 
@@ -87,11 +86,11 @@ static uint32_t clear(nekchhaul_caller *c, void *argument)
 static uint64_t left(nekchhaul_caller *c)
 {
     uint64_t w[3];
-    if (nekchhaul_atomically_for_good(c, is, w) || nekchhaul_atomically_for_good(c, clear, NULL)) abort();
+    if (nekchhaul_atomically(c, is, w) || nekchhaul_atomically(c, clear, NULL)) abort();
     return 100 * w[0] + 10 * w[1] + w[2];
 }
 
-static void that_may_stop(nekchhaul_caller *c)
+static void in_loops(nekchhaul_caller *c)
 {
     struct outer joins = { nekchhaul_atomically, put, 1, 0 }, stops = { nekchhaul_atomically, put_and_stop, 1, 0 };
     struct outer ignores = { nekchhaul_atomically, put_and_stop, 0, 0 }, nests = { nekchhaul_nested, put_and_stop, 0, 0 };
@@ -101,8 +100,9 @@ static void that_may_stop(nekchhaul_caller *c)
     IS(left(c), 798);
     IS(nekchhaul_atomically(c, around, &stops), STOPS);
     IS(left(c), 0);
-    IS(nekchhaul_atomically(c, around, &ignores), NEKCHHAUL_NO_ATTEMPT);
-    IS(left(c), 0);
+    IS(nekchhaul_atomically(c, around, &ignores), 0);
+    IS(ignores.answer, STOPS);
+    IS(left(c), 708);
     IS(nekchhaul_atomically(c, around, &nests), 0);
     IS(nests.answer, STOPS);
     IS(left(c), 708);
@@ -117,24 +117,44 @@ static void that_may_stop(nekchhaul_caller *c)
     IS(nekchhaul_atomically(c, ninth, &depth), 0);
 }
 
-/* Inside a body that never stops: one that may stop isn't run where writes can't be taken back. */
-static void that_never_stops(nekchhaul_caller *c)
+/* In an attempt of nekchhaul_begin: where that can't be rolled back, what a part wrote stands. */
+static void by_hand(nekchhaul_caller *c)
 {
-    struct outer joins = { nekchhaul_atomically_for_good, put, 1, 0 }, may_stop = { nekchhaul_atomically, put_and_stop, 0, 0 };
-    struct outer nests = { nekchhaul_nested, put_and_stop, 0, 0 };
+    const int stands = algorithm <= NEKCHHAUL_TML;
     uint64_t word = 9;
-    IS(nekchhaul_atomically_for_good(c, around, &joins), 0);
-    IS(left(c), 798);
     IS(nekchhaul_nested(c, put, &word), NEKCHHAUL_NO_ATTEMPT);
-    IS(nekchhaul_join(c, 1, put, &word), NEKCHHAUL_NO_ATTEMPT);
-    if (algorithm > NEKCHHAUL_TML) return;
-    ran = 0;
-    IS(nekchhaul_atomically_for_good(c, around, &may_stop), 0);
-    IS(may_stop.answer, NEKCHHAUL_UNCANCELLABLE);
-    IS(nekchhaul_atomically_for_good(c, around, &nests), 0);
-    IS(nests.answer, NEKCHHAUL_UNCANCELLABLE);
-    IS(ran, 0);
-    IS(left(c), 708);
+    IS(nekchhaul_or_else(c, put, put, &word), NEKCHHAUL_NO_ATTEMPT);
+    IS(nekchhaul_begin(c), 0);
+    IS(nekchhaul_nested(c, put, &word), 0);
+    IS(nekchhaul_commit(c), 0);
+    IS(left(c), 90);
+    IS(nekchhaul_begin(c), 0);
+    IS(nekchhaul_atomically(c, put_and_stop, &word), stands ? NEKCHHAUL_IRREVOCABLE : STOPS);
+    IS(nekchhaul_commit(c), 0);
+    IS(left(c), stands ? 90 : 0);
+}
+
+/* What a body that made its attempt irrevocable wrote stands, whatever it answers. */
+static uint32_t put_for_good_and_stop(nekchhaul_caller *c, void *word)
+{
+    uint32_t s;
+    while ((s = nekchhaul_become_irrevocable(c)) == NEKCHHAUL_BUSY) nekchhaul_pause(32);
+    return s ? s : put_and_stop(c, word);
+}
+
+static uint32_t nest_for_good(nekchhaul_caller *c, void *word)
+{
+    TRY(nekchhaul_write(c, 0, 7));
+    return nekchhaul_nested(c, put_for_good_and_stop, word);
+}
+
+static void irrevocable(nekchhaul_caller *c)
+{
+    uint64_t word = 9;
+    IS(nekchhaul_atomically(c, put_for_good_and_stop, &word), NEKCHHAUL_IRREVOCABLE);
+    IS(left(c), 90);
+    IS(nekchhaul_atomically(c, nest_for_good, &word), NEKCHHAUL_IRREVOCABLE);
+    IS(left(c), 790);
 }
 
 struct move { size_t from, to; int stops, nested; };
@@ -207,11 +227,10 @@ int main(void)
         nekchhaul_sizes sizes = { 3, 4, 4, 8, 8, 0 };
         nekchhaul_caller c = NEKCHHAUL_NO_CALLER_INIT;
         if (nekchhaul_open(&sizes, algorithm, &c, 1)) return 1;
-        that_never_stops(&c);
-        if (algorithm > NEKCHHAUL_TML) {
-            that_may_stop(&c);
-            trades();
-        }
+        in_loops(&c);
+        by_hand(&c);
+        irrevocable(&c);
+        trades();
         if (nekchhaul_release(&c)) return 1;
     }
     return wrong;

@@ -28,24 +28,23 @@ struct parts {
             if (kind < 2) t.write(first + at, copy[at] = draw());
             else if (kind < 4) wrong |= t.read(first + at) != copy[at];
             else if (kind == 4 && draw() % 32 == 0) throw stop();
-            else if (kind == 5) caller.atomically([&](nh::attempt &inner) { body(inner, draw, depth + 1); });
-            else if (kind == 6) alone(t, draw, depth + 1);
+            else if (kind == 5) alone([&](auto f) { caller.atomically(f); }, draw, depth + 1);
+            else if (kind == 6) alone([&](auto f) { t.nested(f); }, draw, depth + 1);
             else if (kind == 7) either(t, draw, depth + 1);
         }
     }
 
-    // One of which nothing is left where it stops. Where an inner transaction stopped, so does all.
-    void alone(nh::attempt &t, std::mt19937_64 &draw, int depth)
+    // One of which nothing is left where it stops.
+    template <class R> void alone(R run_part, std::mt19937_64 &draw, int depth)
     {
         auto kept = copy;
         try {
-            t.nested([&](nh::attempt &inner) {
+            run_part([&](nh::attempt &inner) {
                 body(inner, draw, depth);
                 if (draw() % 2) throw stop();
             });
         } catch (const stop &) {
             copy = kept;
-            if (t.state().stand == 0) throw;
         }
     }
 
@@ -105,7 +104,7 @@ bool is_right(nh::algorithm algorithm)
 
 int main()
 {
-    for (auto a : {nh::algorithm::orec_lazy, nh::algorithm::orec_eager, nh::algorithm::ring_sw, nh::algorithm::serial}) {
+    for (auto a : {nh::algorithm::cgl, nh::algorithm::tml, nh::algorithm::orec_lazy, nh::algorithm::orec_eager, nh::algorithm::ring_sw, nh::algorithm::serial}) {
         if (is_right(a)) continue;
         std::printf("algorithm %u went wrong\n", static_cast<unsigned>(a));
         return 1;

@@ -6,9 +6,10 @@
  * x86-64-v2.
  *
  * ANSWERS. Every call returns, whatever was called before, and answers a nekchhaul_status. 0 is done. 1 to 15 say what
- * came in the way of the transaction. 16 and up say that the call didn't fit, or that no memory was opened: then nothing
- * has changed. A value behind a pointer is written only where the answer is 0 (nekchhaul_read_many and nekchhaul_write_many
- * say more). No call waits. nekchhaul_open and nekchhaul_reserve alone take memory.
+ * came in the way of the transaction. 16 and up, but for what loops answer, say that the call didn't fit, or that no memory
+ * was opened: then nothing has changed. A value behind a pointer is written only where the answer is 0 (nekchhaul_read_many,
+ * nekchhaul_write_many and the loop's calls say more). No call waits. nekchhaul_open, nekchhaul_reserve and nekchhaul_enter
+ * alone take memory.
  *
  * OWNERSHIP. The two words of a handle are the caller's storage, and the library alone reads and writes them. A handle
  * that is all zero is no caller, and every call on it answers NEKCHHAUL_NO_CALLER, whatever else doesn't fit. A handle is
@@ -19,28 +20,30 @@
  *
  * WHAT IS PROVED, and of what. Each call of the archive meets its contract in crates/nekchhaul_c, which was checked by
  * machine: no order of calls, no address and no number makes one go wrong, and each tells what the library's own calls
- * tell. What this header has in C (nekchhaul_move, the waiting, nekchhaul_atomically), the wrappers above it, the C
- * compiler and the linker are not proved. What the C side owes, since nothing can check it, is in docs/C.md: the
+ * tell. What this header has in C (nekchhaul_move, the pauses, nekchhaul_atomically, which decides nothing), the wrappers above it,
+ * the C compiler and the linker are not proved. What the C side owes, since nothing can check it, is in docs/C.md: the
  * pointers are not null and lead to objects of their own, no copy of a handle is used, no handle is used by two threads
  * at once, and no call is made from a signal handler or in the child of a fork.
  */
 #ifndef NEKCHHAUL_H
 #define NEKCHHAUL_H
 
-#include "nekchhaul_wait.h"
-
+#include <sched.h>
 #include <stddef.h>
 #include <stdint.h>
 
-#define NEKCHHAUL_VERSION_MAJOR 1
-#define NEKCHHAUL_VERSION_MINOR 1
+#define NEKCHHAUL_VERSION_MAJOR 2
+#define NEKCHHAUL_VERSION_MINOR 0
 
 #ifdef __cplusplus
 extern "C" {
 #endif
 
-#if defined(__GNUC__)
+/* Of a call whose answer is not to be lost: (void) says that it may be. */
+#if defined(__clang__)
 #define NEKCHHAUL_CALL __attribute__((nonnull, warn_unused_result))
+#elif defined(__GNUC__) && __GNUC__ >= 10 && (!defined(__cplusplus) || __cplusplus >= 201103L)
+#define NEKCHHAUL_CALL __extension__ [[nodiscard]] __attribute__((nonnull))
 #else
 #define NEKCHHAUL_CALL
 #endif
@@ -59,10 +62,10 @@ typedef enum nekchhaul_status {
     NEKCHHAUL_LOG_FULL = 6,     /* over: a log has its length: reserve, or become irrevocable first */
     NEKCHHAUL_CLOCK_FULL = 7,   /* over: the clock is at 2^62, and nothing more is committed: close this memory, and open
                                    another. Of give_back: the range stays with its caller (docs/C.md: how to get at the words) */
-    NEKCHHAUL_IRREVOCABLE = 8,  /* of cancel and roll_to: the attempt can only be committed */
+    NEKCHHAUL_IRREVOCABLE = 8,  /* of cancel and roll_to: the attempt can only be committed. Of a loop: the body had made it
+                                   irrevocable, and then didn't answer 0; what it wrote stands */
     NEKCHHAUL_DEEP = 9,         /* of checkpoint: 8 marks stand */
-    NEKCHHAUL_RANGE_TAKEN = 10, /* of fence and close: a range is out of the transactions already. Of nekchhaul_atomically and
-                                   nekchhaul_atomically_for_good: one is out, and the body wasn't run */
+    NEKCHHAUL_RANGE_TAKEN = 10, /* of fence and close: a range is out of the transactions already */
 
     /* What doesn't fit. Nothing has changed. */
     NEKCHHAUL_NO_CALLER = 16,   /* the handle is all zero: never opened, or released */
@@ -71,10 +74,12 @@ typedef enum nekchhaul_status {
     NEKCHHAUL_COMMITTING = 19,  /* after AGAIN only commit and cancel go on */
     NEKCHHAUL_ADDRESS = 20,     /* no such word, or no such range */
     NEKCHHAUL_ALGORITHM = 21,   /* no such algorithm */
-    NEKCHHAUL_MEMORY = 23,      /* malloc refused: the one answer from 16 on that is no misuse */
+    NEKCHHAUL_MEMORY = 23,      /* malloc refused, which is no misuse */
     NEKCHHAUL_HOLDS_CALLER = 24, /* of open: a handle holds a caller still */
-    NEKCHHAUL_FENCED = 25,      /* the word was out of the transactions as the attempt began: it goes on without it */
-    NEKCHHAUL_HOLDS_RANGE = 26, /* the caller has a range already */
+    NEKCHHAUL_FENCED = 25,      /* the word was out of the transactions as the attempt began: it goes on without it. A body hands
+                                   it on, and is run again until the range is back; a loop answers it where the caller
+                                   has a range itself, or all words are out, as after nekchhaul_close */
+    NEKCHHAUL_HOLDS_RANGE = 26, /* the caller has a range */
     NEKCHHAUL_NO_RANGES = 27,   /* never: memories opened here take ranges */
     NEKCHHAUL_NO_RANGE = 28,    /* the caller has no range, or the word isn't in it */
     NEKCHHAUL_DEPTH = 30,       /* no such mark stands */
@@ -89,7 +94,14 @@ typedef enum nekchhaul_status {
     NEKCHHAUL_STRANGER = 39,    /* of learn: the callers are not of one memory */
     NEKCHHAUL_CLOSING = 40,     /* the caller has closed the gate for a call that answered BUSY: only that call with the same
                                    arguments goes on, or reopen gives it up */
-    NEKCHHAUL_NOT_CLOSING = 41  /* of reopen: the caller hasn't closed the gate */
+    NEKCHHAUL_NOT_CLOSING = 41, /* of reopen: the caller hasn't closed the gate */
+
+    /* Of loops. */
+    NEKCHHAUL_RETRY = 49,       /* of a body: run it again once others have come further */
+    NEKCHHAUL_ONE_CALLER = 50,  /* of learn, and a misuse: the two handles are one */
+    NEKCHHAUL_RUN = 51,         /* of enter: an attempt is open for the body */
+    NEKCHHAUL_PAUSE = 52,       /* of enter and leave: pause, and enter */
+    NEKCHHAUL_STOP = 256        /* of a body, and more: leave nothing, and answer that */
 } nekchhaul_status;
 
 /* The algorithms. docs/ALGORITHMS.md says which to choose. Under all but CGL and TML an attempt can be cancelled until it
@@ -170,45 +182,64 @@ uint32_t nekchhaul_version(void);
 /* Opens a memory of zeros under an algorithm, and makes `count` callers of it, 1 to 32. Answers ALGORITHM, HOLDS_CALLER,
  * SIZE_WORDS to SIZE_CLOCK or MEMORY, and then no handle has changed; or BUSY where another caller was in the way of the
  * install, which nobody is who hasn't a handle yet: then the memory is open, under CGL, and each handle holds its caller. */
-uint32_t nekchhaul_open(const nekchhaul_sizes *sizes, uint32_t algorithm, nekchhaul_caller *callers, size_t count) NEKCHHAUL_CALL;
+NEKCHHAUL_CALL uint32_t nekchhaul_open(const nekchhaul_sizes *sizes, uint32_t algorithm, nekchhaul_caller *callers, size_t count);
 
 /* Begins an attempt. GATE_CLOSED, HELD, CLOCK_FULL; IN_ATTEMPT, CLOSING. */
-uint32_t nekchhaul_begin(nekchhaul_caller *caller) NEKCHHAUL_CALL;
+NEKCHHAUL_CALL uint32_t nekchhaul_begin(nekchhaul_caller *caller);
 
 /* Begins an attempt, as nekchhaul_begin, and says under which algorithm: `under` is its number, and NEKCHHAUL_BESIDE more where
  * a range was out of the transactions as it began, of which it can't read or write a word. */
-uint32_t nekchhaul_begin_under(nekchhaul_caller *caller, uint32_t *under) NEKCHHAUL_CALL;
+NEKCHHAUL_CALL uint32_t nekchhaul_begin_under(nekchhaul_caller *caller, uint32_t *under);
 #define NEKCHHAUL_BESIDE 8u
 
 /* Reads a word: the attempt's last write of it, else the memory at its start. CONFLICT, LOG_FULL; NO_ATTEMPT,
  * COMMITTING, ADDRESS, FENCED. */
-uint32_t nekchhaul_read(nekchhaul_caller *caller, size_t address, uint64_t *value) NEKCHHAUL_CALL;
+NEKCHHAUL_CALL uint32_t nekchhaul_read(nekchhaul_caller *caller, size_t address, uint64_t *value);
 
 /* Reads the words at `count` addresses, in turn, into the first places of `values`, of which there are `places`: one
  * crossing for many reads. It answers as nekchhaul_read does for the first that is refused, and ROOM where there are fewer
  * places than addresses. The places from there on, and those after the last address, are as they were; after any answer
  * but 0 the values are of no use. A misuse after the first address leaves the words before it read. */
-uint32_t nekchhaul_read_many(nekchhaul_caller *caller, const size_t *addresses, size_t count, uint64_t *values, size_t places) NEKCHHAUL_CALL;
+NEKCHHAUL_CALL uint32_t nekchhaul_read_many(nekchhaul_caller *caller, const size_t *addresses, size_t count, uint64_t *values, size_t places);
 
 /* Writes a word, for this attempt until it commits. CONFLICT, LOG_FULL, CLOCK_FULL; NO_ATTEMPT, COMMITTING, ADDRESS,
  * FENCED. */
-uint32_t nekchhaul_write(nekchhaul_caller *caller, size_t address, uint64_t value) NEKCHHAUL_CALL;
+NEKCHHAUL_CALL uint32_t nekchhaul_write(nekchhaul_caller *caller, size_t address, uint64_t value);
 
 /* Writes the values at `values`, of which there are `places`, to the words at `count` addresses, in turn: one crossing for many
  * writes. It answers as nekchhaul_write does for the first that is refused, after which none is made, and ROOM where there are
  * fewer values than addresses. `taken` is how many were made: `count` with 0, none with ROOM. After a misuse the attempt goes on
  * with them. */
-uint32_t nekchhaul_write_many(nekchhaul_caller *caller, const size_t *addresses, size_t count, const uint64_t *values, size_t places, size_t *taken) NEKCHHAUL_CALL;
+NEKCHHAUL_CALL uint32_t nekchhaul_write_many(nekchhaul_caller *caller, const size_t *addresses, size_t count, const uint64_t *values, size_t places, size_t *taken);
 
 /* Commits the attempt: with 0 it took effect at one moment. CONFLICT, AGAIN, CLOCK_FULL; NO_ATTEMPT. */
-uint32_t nekchhaul_commit(nekchhaul_caller *caller) NEKCHHAUL_CALL;
+NEKCHHAUL_CALL uint32_t nekchhaul_commit(nekchhaul_caller *caller);
 
 /* Ends the attempt without a trace. IRREVOCABLE; NO_ATTEMPT. */
-uint32_t nekchhaul_cancel(nekchhaul_caller *caller) NEKCHHAUL_CALL;
+NEKCHHAUL_CALL uint32_t nekchhaul_cancel(nekchhaul_caller *caller);
 
 /* From 0 on the attempt can only be committed, and no call that fits is refused. BUSY and GATE_CLOSED leave it running;
  * with BUSY ask again, with GATE_CLOSED cancel it. CONFLICT, CLOCK_FULL; NO_ATTEMPT, COMMITTING. */
-uint32_t nekchhaul_become_irrevocable(nekchhaul_caller *caller) NEKCHHAUL_CALL;
+NEKCHHAUL_CALL uint32_t nekchhaul_become_irrevocable(nekchhaul_caller *caller);
+
+/* THE LOOP: nekchhaul_enter, a body of reads and writes, nekchhaul_leave with what the body answered, and again until one of the two
+ * says otherwise. All that there is to decide is decided there: nekchhaul_atomically is such a loop, and in another language it is
+ * as short. A body may stop, be retried and use marks under each algorithm, since what it writes is kept in a log where the
+ * algorithm couldn't take it back. It hands on each answer that ends its attempt, and runs again; nekchhaul_begin,
+ * nekchhaul_commit and nekchhaul_cancel answer IN_ATTEMPT in it. */
+
+/* Begins an attempt for a body. RUN: run it, and call nekchhaul_leave. PAUSE: another is in the way; nekchhaul_pause(*pause), and
+ * enter again. 0: the commit that nekchhaul_leave put off is done. Any other answer ends the loop, with nothing left:
+ * CLOCK_FULL; MEMORY where a full log couldn't be made longer; IN_ATTEMPT, CLOSING. */
+NEKCHHAUL_CALL uint32_t nekchhaul_enter(nekchhaul_caller *caller, uint32_t *pause);
+
+/* Ends that attempt by `how`, which is what the body answered: 0, the status of a call, RETRY, or NEKCHHAUL_STOP + n. 0: it took
+ * effect at one moment. PAUSE: the attempt left nothing, or its commit is put off; nekchhaul_pause(*pause), and enter again. Any
+ * other answer ends the loop, with nothing left: what the body answered where that was STOP + n, a misuse, DEEP or RANGE_TAKEN,
+ * and FENCED only where the caller has a range itself or all words are out; LOG_FULL where it writes more words than a log of
+ * 4,096 items has; CLOCK_FULL. With IRREVOCABLE what it wrote stands: nekchhaul_become_irrevocable had answered 0, and then the
+ * body didn't. After PAUSE a `how` other than 0 gives the loop up. NO_ATTEMPT: no attempt of a loop is open. */
+NEKCHHAUL_CALL uint32_t nekchhaul_leave(nekchhaul_caller *caller, uint32_t how, uint32_t *pause);
 
 /* THE CALLS THAT MUST BE ALONE: nekchhaul_switch, nekchhaul_fence, nekchhaul_give_back and nekchhaul_close. Each closes the
  * gate, so that no attempt of others begins, and looks once whether those that run have ended. Where one hasn't, the answer
@@ -219,56 +250,55 @@ uint32_t nekchhaul_become_irrevocable(nekchhaul_caller *caller) NEKCHHAUL_CALL;
  * this one holds nothing. nekchhaul_install and its like, below, call until done. */
 
 /* Installs an algorithm, for attempts that begin from then on. GATE_CLOSED, BUSY; ALGORITHM, IN_ATTEMPT, CLOSING. */
-uint32_t nekchhaul_switch(nekchhaul_caller *caller, uint32_t algorithm) NEKCHHAUL_CALL;
+NEKCHHAUL_CALL uint32_t nekchhaul_switch(nekchhaul_caller *caller, uint32_t algorithm);
 
 /* Gives up the call that answered BUSY: the gate is open again. IN_ATTEMPT, NOT_CLOSING. */
-uint32_t nekchhaul_reopen(nekchhaul_caller *caller) NEKCHHAUL_CALL;
+NEKCHHAUL_CALL uint32_t nekchhaul_reopen(nekchhaul_caller *caller);
 
 /* Marks what the attempt has written; `depth` counts the marks. DEEP; NO_ATTEMPT, COMMITTING. */
-uint32_t nekchhaul_checkpoint(nekchhaul_caller *caller, size_t *depth) NEKCHHAUL_CALL;
+NEKCHHAUL_CALL uint32_t nekchhaul_checkpoint(nekchhaul_caller *caller, size_t *depth);
 
 /* Rolls the attempt back to mark `depth`, which stands: what it wrote since is as if it had not been written.
  * IRREVOCABLE; NO_ATTEMPT, COMMITTING, DEPTH. */
-uint32_t nekchhaul_roll_to(nekchhaul_caller *caller, size_t depth) NEKCHHAUL_CALL;
+NEKCHHAUL_CALL uint32_t nekchhaul_roll_to(nekchhaul_caller *caller, size_t depth);
 
 /* Drops the marks from `depth` on, and keeps what was written. NO_ATTEMPT, COMMITTING, DEPTH. */
-uint32_t nekchhaul_drop_marks(nekchhaul_caller *caller, size_t depth) NEKCHHAUL_CALL;
+NEKCHHAUL_CALL uint32_t nekchhaul_drop_marks(nekchhaul_caller *caller, size_t depth);
 
 /* Takes `count` words from `from` on out of the transactions: this caller alone reads and writes them until it gives
  * them back. GATE_CLOSED, BUSY, RANGE_TAKEN; IN_ATTEMPT, HOLDS_RANGE, ADDRESS, CLOSING. */
-uint32_t nekchhaul_fence(nekchhaul_caller *caller, size_t from, size_t count) NEKCHHAUL_CALL;
+NEKCHHAUL_CALL uint32_t nekchhaul_fence(nekchhaul_caller *caller, size_t from, size_t count);
 
 /* Reads and writes a word of the caller's range, outside attempts. IN_ATTEMPT, NO_RANGE, CLOSING. */
-uint32_t nekchhaul_direct_read(nekchhaul_caller *caller, size_t address, uint64_t *value) NEKCHHAUL_CALL;
-uint32_t nekchhaul_direct_write(nekchhaul_caller *caller, size_t address, uint64_t value) NEKCHHAUL_CALL;
+NEKCHHAUL_CALL uint32_t nekchhaul_direct_read(nekchhaul_caller *caller, size_t address, uint64_t *value);
+NEKCHHAUL_CALL uint32_t nekchhaul_direct_write(nekchhaul_caller *caller, size_t address, uint64_t value);
 
 /* Gives the range back; what was written there takes effect at one moment. GATE_CLOSED, BUSY, CLOCK_FULL; IN_ATTEMPT,
  * NO_RANGE, CLOSING. */
-uint32_t nekchhaul_give_back(nekchhaul_caller *caller) NEKCHHAUL_CALL;
+NEKCHHAUL_CALL uint32_t nekchhaul_give_back(nekchhaul_caller *caller);
 
 /* Ends the memory: takes all its words out of the transactions for good, and writes them to the first places of
  * `words`. They are the memory after one history of all that its callers had committed. From then on every read and
  * write of every caller is FENCED; release the callers. `count` is how many places there are, at least as many as words.
  * GATE_CLOSED, BUSY, RANGE_TAKEN; IN_ATTEMPT, HOLDS_RANGE, ROOM, CLOSING. */
-uint32_t nekchhaul_close(nekchhaul_caller *caller, uint64_t *words, size_t count) NEKCHHAUL_CALL;
+NEKCHHAUL_CALL uint32_t nekchhaul_close(nekchhaul_caller *caller, uint64_t *words, size_t count);
 
 /* Makes the caller's logs longer, each 1 to 4,096. One that is as long already stays. MEMORY, and then all is as
  * before; IN_ATTEMPT, LOGS, CLOSING. */
-uint32_t nekchhaul_reserve(nekchhaul_caller *caller, size_t reads, size_t writes) NEKCHHAUL_CALL;
+NEKCHHAUL_CALL uint32_t nekchhaul_reserve(nekchhaul_caller *caller, size_t reads, size_t writes);
 
 /* nekchhaul_learn, below, of two handles that are known to be two. */
-uint32_t nekchhaul_learn_of_another(nekchhaul_caller *to, nekchhaul_caller *from) NEKCHHAUL_CALL;
+NEKCHHAUL_CALL uint32_t nekchhaul_learn_of_another(nekchhaul_caller *to, nekchhaul_caller *from);
 
 /* Where the caller stands, and what came in its way last. */
-uint32_t nekchhaul_state(nekchhaul_caller *caller, nekchhaul_state_of *state) NEKCHHAUL_CALL;
-uint32_t nekchhaul_why(nekchhaul_caller *caller, nekchhaul_cause *cause) NEKCHHAUL_CALL;
+NEKCHHAUL_CALL uint32_t nekchhaul_state(nekchhaul_caller *caller, nekchhaul_state_of *state);
+NEKCHHAUL_CALL uint32_t nekchhaul_why(nekchhaul_caller *caller, nekchhaul_cause *cause);
 
 /* What the caller's calls came to since it was opened, counted without an atomic step. */
-uint32_t nekchhaul_counts(nekchhaul_caller *caller, nekchhaul_counts_of *counts) NEKCHHAUL_CALL;
+NEKCHHAUL_CALL uint32_t nekchhaul_counts(nekchhaul_caller *caller, nekchhaul_counts_of *counts);
 
-/* Lets a caller go that is in no attempt; the handle is no caller then. A range that it has stays out of the
- * transactions. IN_ATTEMPT, CLOSING. */
-uint32_t nekchhaul_release(nekchhaul_caller *caller) NEKCHHAUL_CALL;
+/* Lets a caller go that is in no attempt; the handle is no caller then. IN_ATTEMPT, HOLDS_RANGE, CLOSING. */
+NEKCHHAUL_CALL uint32_t nekchhaul_release(nekchhaul_caller *caller);
 
 /* ---- From here on it is C, and not proved. ------------------------------------------------------------------------ */
 
@@ -277,17 +307,9 @@ uint32_t nekchhaul_release(nekchhaul_caller *caller) NEKCHHAUL_CALL;
 #define NEKCHHAUL_INLINE static inline
 #endif
 
-/* What a body answers: 0 to commit, the status that a call gave it to have it run again where that serves, RETRY to have it
- * run again once others have come further, or NEKCHHAUL_STOP + n to cancel and have that answered. */
+/* A body, which answers as nekchhaul_leave says. It may run more than once. */
 typedef uint32_t (*nekchhaul_body)(nekchhaul_caller *caller, void *argument);
 
-/* Answers of the functions below, and of bodies. */
-enum {
-    NEKCHHAUL_UNCANCELLABLE = 48, /* the attempt couldn't take writes back (always under CGL and TML). The body wasn't run */
-    NEKCHHAUL_RETRY = 49,         /* of a body */
-    NEKCHHAUL_ONE_CALLER = 50,    /* of learn: the two handles are one */
-    NEKCHHAUL_STOP = 256          /* of a body, and more */
-};
 
 /* The name of a status without its first word, "CONFLICT" of NEKCHHAUL_CONFLICT; of a number that is no status "STOP" from
  * NEKCHHAUL_STOP on, else "UNKNOWN". */
@@ -330,9 +352,10 @@ NEKCHHAUL_INLINE const char *nekchhaul_status_name(uint32_t status)
     NEKCHHAUL_NAME(STRANGER)
     NEKCHHAUL_NAME(CLOSING)
     NEKCHHAUL_NAME(NOT_CLOSING)
-    NEKCHHAUL_NAME(UNCANCELLABLE)
     NEKCHHAUL_NAME(RETRY)
     NEKCHHAUL_NAME(ONE_CALLER)
+    NEKCHHAUL_NAME(RUN)
+    NEKCHHAUL_NAME(PAUSE)
     default: return status >= NEKCHHAUL_STOP ? "STOP" : "UNKNOWN";
     }
 #undef NEKCHHAUL_NAME
@@ -363,193 +386,52 @@ NEKCHHAUL_INLINE uint32_t nekchhaul_learn(nekchhaul_caller *to, nekchhaul_caller
     return to->tag_ ? (uint32_t)NEKCHHAUL_ONE_CALLER : (uint32_t)NEKCHHAUL_NO_CALLER;
 }
 
-/* Ends an attempt that is to leave no trace. Where it can only be committed (always under CGL, under TML after its first
- * write, and once irrevocable), it is, and the answer is IRREVOCABLE: what it wrote stands. */
+/* Pauses the processor so many times, and from 1,024 on lets another thread run. */
+NEKCHHAUL_INLINE void nekchhaul_pause(uint32_t times)
+{
+    for (uint32_t i = 0; i < times; i++)
+#if defined(__x86_64__)
+        __builtin_ia32_pause();
+#else
+        __asm__ volatile("" ::: "memory");
+#endif
+    if (times >= 1024) sched_yield();
+}
+
+/* Pauses twice as long each time, up to 1,024; `*times` is 32 at first. */
+static inline void nekchhaul_wait(uint32_t *times)
+{
+    nekchhaul_pause(*times);
+    if (*times < 1024) *times *= 2;
+}
+
+/* Ends an attempt of nekchhaul_begin that is to leave no trace. Where it can only be committed (always under CGL, under TML after
+ * its first write, and once irrevocable), it is, and the answer is IRREVOCABLE: what it wrote stands. */
 NEKCHHAUL_INLINE uint32_t nekchhaul_abandon(nekchhaul_caller *caller)
 {
-    uint32_t s = nekchhaul_cancel(caller);
-    if (s == NEKCHHAUL_IRREVOCABLE) {
-        struct nekchhaul_pause pause = NEKCHHAUL_PAUSE_INIT;
-        while (nekchhaul_commit(caller) == NEKCHHAUL_AGAIN) nekchhaul_wait(&pause);
-    }
+    uint32_t s = nekchhaul_cancel(caller), times = 32;
+    if (s == NEKCHHAUL_IRREVOCABLE)
+        while (nekchhaul_commit(caller) == NEKCHHAUL_AGAIN) nekchhaul_wait(&times);
     return s;
 }
 
-/* Whether a body may run in the attempt that is open: NO_ATTEMPT where none is; RANGE_TAKEN where a range is out, since the
- * body might stop at a word of it; of one that `may_stop` UNCANCELLABLE. */
-static inline uint32_t nekchhaul_may_run(nekchhaul_caller *caller, int may_stop)
-{
-    nekchhaul_state_of at;
-    uint32_t s = nekchhaul_state(caller, &at);
-    if (s != NEKCHHAUL_OK) return s;
-    if (at.stand == 0) return NEKCHHAUL_NO_ATTEMPT;
-    if (at.range & 2) return NEKCHHAUL_RANGE_TAKEN;
-    if (may_stop && (at.irrevocable || at.algorithm == NEKCHHAUL_TML)) return NEKCHHAUL_UNCANCELLABLE;
-    return NEKCHHAUL_OK;
-}
-
-/* Runs a body as a part of the attempt that is open; with any answer but 0 that has ended. */
-static inline uint32_t nekchhaul_run(nekchhaul_caller *caller, nekchhaul_body body, void *argument)
-{
-    uint32_t s = body(caller, argument);
-    if (s != NEKCHHAUL_OK && nekchhaul_abandon(caller) == NEKCHHAUL_IRREVOCABLE) return NEKCHHAUL_IRREVOCABLE;
-    return s;
-}
-
-/* What nekchhaul_atomically (where it `may_stop`) and nekchhaul_atomically_for_good do with a body inside a body of the same
- * caller: it is a part of the attempt that is open. With UNCANCELLABLE, RANGE_TAKEN or NO_ATTEMPT it wasn't run, and the
- * attempt is as it was; with any other answer but 0 the attempt has ended, and the body around hands that answer on. */
-NEKCHHAUL_INLINE uint32_t nekchhaul_join(nekchhaul_caller *caller, int may_stop, nekchhaul_body body, void *argument)
-{
-    uint32_t s = nekchhaul_may_run(caller, may_stop);
-    return s == NEKCHHAUL_OK ? nekchhaul_run(caller, body, argument) : s;
-}
-
-/* Begins an attempt for a body that never stops or, where it `may_stop`, one that can be cancelled whatever the body does.
- * With any answer but 0 none is open, but with IN_ATTEMPT the one that was. */
-static inline uint32_t nekchhaul_enter(nekchhaul_caller *caller, int may_stop)
-{
-    uint32_t under, s = nekchhaul_begin_under(caller, &under);
-    if (s != NEKCHHAUL_OK) return s;
-    if (may_stop ? under > NEKCHHAUL_TML && under < NEKCHHAUL_BESIDE : under < NEKCHHAUL_BESIDE) return s;
-    s = under >= NEKCHHAUL_BESIDE ? (uint32_t)NEKCHHAUL_RANGE_TAKEN : (uint32_t)NEKCHHAUL_UNCANCELLABLE;
-    (void)nekchhaul_abandon(caller); /* which has done nothing */
-    return s;
-}
-
-/* Makes the attempt irrevocable. With any answer but 0 none is open. */
-static inline uint32_t nekchhaul_be_sure(nekchhaul_caller *caller, struct nekchhaul_pause *pause)
-{
-    uint32_t s;
-    while ((s = nekchhaul_become_irrevocable(caller)) == NEKCHHAUL_BUSY) nekchhaul_wait(pause);
-    if (s == NEKCHHAUL_GATE_CLOSED) (void)!nekchhaul_cancel(caller);
-    return s;
-}
-
-/* Commits, again and again where another was faster. */
-static inline uint32_t nekchhaul_leave(nekchhaul_caller *caller, struct nekchhaul_pause *pause)
-{
-    uint32_t s;
-    while ((s = nekchhaul_commit(caller)) != NEKCHHAUL_OK) {
-        if (s != NEKCHHAUL_AGAIN) return s;
-        nekchhaul_wait(pause);
-    }
-    return NEKCHHAUL_OK;
-}
-
-/* After a full log: makes the logs twice as long as that one was. LOG_FULL where it had 4,096 items; MEMORY. */
-static inline uint32_t nekchhaul_lengthen(nekchhaul_caller *caller)
-{
-    nekchhaul_cause why;
-    uint32_t s = nekchhaul_why(caller, &why);
-    if (s != NEKCHHAUL_OK) return s;
-    if (why.first >= 4096) return NEKCHHAUL_LOG_FULL;
-    size_t length = why.first > 2048 ? 4096 : (size_t)(2 * why.first);
-    return nekchhaul_reserve(caller, length, length);
-}
-
-/* Whether it would be in vain to run a body again. */
-static inline int nekchhaul_is_final(uint32_t status)
-{
-    switch (status) {
-    case NEKCHHAUL_CLOCK_FULL: case NEKCHHAUL_IRREVOCABLE: case NEKCHHAUL_DEEP: case NEKCHHAUL_RANGE_TAKEN: return 1;
-    default: return status >= NEKCHHAUL_NO_CALLER;
-    }
-}
-
-/* The count of failed attempts after one more, which ended so; one that didn't begin isn't counted, and a log that was
- * too short will be so again. */
-static inline unsigned nekchhaul_failed(unsigned failed, uint32_t status)
-{
-    if (status == NEKCHHAUL_LOG_FULL) return 16;
-    return status == NEKCHHAUL_GATE_CLOSED || status == NEKCHHAUL_HELD ? failed : failed + 1;
-}
-
-static inline void nekchhaul_pause_after(struct nekchhaul_pause *pause, uint32_t status)
-{
-    if (status == NEKCHHAUL_HELD) nekchhaul_wait_for_lock(pause);
-    else nekchhaul_wait(pause);
-}
-
-/* What is done after an attempt of a body that may stop, which ended so: 0 to try again; else the answer. */
-static inline uint32_t nekchhaul_retry_lightly(nekchhaul_caller *caller, uint32_t status, struct nekchhaul_pause *pause)
-{
-    if (status == NEKCHHAUL_LOG_FULL) return nekchhaul_lengthen(caller);
-    if (status == NEKCHHAUL_CONFLICT) nekchhaul_wait_longer(pause);
-    else if (status == NEKCHHAUL_RETRY) nekchhaul_wait(pause);
-    else if (nekchhaul_is_final(status)) return status;
-    else nekchhaul_pause_after(pause, status);
-    return NEKCHHAUL_OK;
-}
-
-/* Runs `body` in attempts until one commits (0), it stops (its answer), a call didn't fit (its status, from 16 on), the
- * clock is full, a log of 4,096 items is, or it asks for a ninth mark (DEEP). A body that stops leaves nothing: its attempts
- * are never made irrevocable, and where the algorithm can't take writes back, CGL or TML, the answer is UNCANCELLABLE, and it
- * isn't run. Nor is it while a range is out, the caller's own or another's: RANGE_TAKEN, so that no body meets FENCED. A full
- * log is made longer, and after a conflict the pauses grow. It waits, by pausing the processor and yielding. With any
- * answer no attempt is open. A body is left by its return alone, never by longjmp, and uses no other caller of the same memory.
- * While an attempt of the caller is open, of a body's or by nekchhaul_begin, it is nekchhaul_join. */
-NEKCHHAUL_INLINE uint32_t nekchhaul_atomically(nekchhaul_caller *caller, nekchhaul_body body, void *argument)
-{
-    struct nekchhaul_pause pause = NEKCHHAUL_PAUSE_INIT;
-    for (;;) {
-        uint32_t s = nekchhaul_enter(caller, 1);
-        if (s == NEKCHHAUL_IN_ATTEMPT) return nekchhaul_join(caller, 1, body, argument);
-        if (s == NEKCHHAUL_OK) {
-            s = nekchhaul_run(caller, body, argument);
-            if (s == NEKCHHAUL_OK && (s = nekchhaul_leave(caller, &pause)) == NEKCHHAUL_OK) return s;
-        }
-        s = nekchhaul_retry_lightly(caller, s, &pause);
-        if (s != NEKCHHAUL_OK) return s;
-    }
-}
-
-/* The same of a body that never stops: it comes through under every algorithm, since after 16 attempts that failed, or a full
- * log, the next asks to be irrevocable first. Where it does stop, or makes a call that doesn't fit, in an attempt that can't
- * be cancelled, the answer is IRREVOCABLE, and what it wrote until then stands. While a range is out the answer is
- * RANGE_TAKEN, and it isn't run. */
-NEKCHHAUL_INLINE uint32_t nekchhaul_atomically_for_good(nekchhaul_caller *caller, nekchhaul_body body, void *argument)
-{
-    struct nekchhaul_pause pause = NEKCHHAUL_PAUSE_INIT;
-    unsigned failed = 0;
-    for (;;) {
-        uint32_t s = nekchhaul_enter(caller, 0);
-        if (s == NEKCHHAUL_IN_ATTEMPT) return nekchhaul_join(caller, 0, body, argument);
-        if (s == NEKCHHAUL_OK && failed >= 16) s = nekchhaul_be_sure(caller, &pause);
-        if (s == NEKCHHAUL_OK) {
-            s = nekchhaul_run(caller, body, argument);
-            if (s == NEKCHHAUL_OK && (s = nekchhaul_leave(caller, &pause)) == NEKCHHAUL_OK) return s;
-        }
-        if (nekchhaul_is_final(s)) return s;
-        failed = nekchhaul_failed(failed, s);
-        nekchhaul_pause_after(&pause, s);
-    }
-}
-
-/* Sets a mark for a body whose writes are to be rolled back alone where it stops. UNCANCELLABLE, RANGE_TAKEN, NO_ATTEMPT;
- * DEEP, COMMITTING. */
-static inline uint32_t nekchhaul_nest(nekchhaul_caller *caller, size_t *depth)
-{
-    uint32_t s = nekchhaul_may_run(caller, 1);
-    return s == NEKCHHAUL_OK ? nekchhaul_checkpoint(caller, depth) : s;
-}
-
-/* What such a body came to: with 0 the mark is dropped; else all that was written since is rolled back, and the answer is
- * that status, or IRREVOCABLE where the body has made the attempt so. */
+/* What a body inside a body came to: with 0 its mark is dropped; else all that was written since is rolled back, and the answer is
+ * that status, or IRREVOCABLE where it couldn't be. */
 static inline uint32_t nekchhaul_unnest(nekchhaul_caller *caller, size_t depth, uint32_t status)
 {
     if (status == NEKCHHAUL_OK) return nekchhaul_drop_marks(caller, depth);
     uint32_t s = nekchhaul_roll_to(caller, depth);
-    if (s == NEKCHHAUL_OK) (void)!nekchhaul_drop_marks(caller, depth);
+    if (s == NEKCHHAUL_OK) (void)nekchhaul_drop_marks(caller, depth);
     return s == NEKCHHAUL_IRREVOCABLE ? s : status;
 }
 
-/* Inside a body: runs another, of which nothing is left where it answers anything but 0. Where that is RETRY, STOP or a
- * misuse, the attempt goes on without it; a status below 16 is handed on. It takes a mark, of which 8 stand at most. */
+/* Inside a body: runs another, of which nothing is left where it answers anything but 0; the body around hands that on or, where it
+ * is RETRY, STOP or a misuse, may go on without it. It takes a mark: DEEP where 8 stand. NO_ATTEMPT. IRREVOCABLE: what it wrote
+ * stands, since the attempt was made irrevocable, or is one of nekchhaul_begin that can't be rolled back. */
 NEKCHHAUL_INLINE uint32_t nekchhaul_nested(nekchhaul_caller *caller, nekchhaul_body body, void *argument)
 {
     size_t depth = 0;
-    uint32_t s = nekchhaul_nest(caller, &depth);
+    uint32_t s = nekchhaul_checkpoint(caller, &depth);
     return s == NEKCHHAUL_OK ? nekchhaul_unnest(caller, depth, body(caller, argument)) : s;
 }
 
@@ -560,17 +442,57 @@ NEKCHHAUL_INLINE uint32_t nekchhaul_or_else(nekchhaul_caller *caller, nekchhaul_
     return s == NEKCHHAUL_RETRY ? nekchhaul_nested(caller, second, argument) : s;
 }
 
+/* The loop: runs `body` until an attempt took effect, 0, or nothing is left of it, as nekchhaul_enter and nekchhaul_leave answer; it
+ * waits by pauses. A body is left by its return alone, never by longjmp, and uses no other caller of the same memory: it would wait
+ * for itself. Inside a body of the same caller it is nekchhaul_nested. */
+NEKCHHAUL_INLINE uint32_t nekchhaul_atomically(nekchhaul_caller *caller, nekchhaul_body body, void *argument)
+{
+    uint32_t s, times = 0;
+    for (;;) {
+        s = nekchhaul_enter(caller, &times);
+        if (s == NEKCHHAUL_IN_ATTEMPT) return nekchhaul_nested(caller, body, argument);
+        if (s == NEKCHHAUL_RUN) s = nekchhaul_leave(caller, body(caller, argument), &times);
+        if (s != NEKCHHAUL_PAUSE) return s;
+        nekchhaul_pause(times);
+    }
+}
+/* What is to be done outside of the memory, as by an allocator, for each run of a body once: one of the two, with the body's argument.
+ * A hook makes no call of the memory. */
+typedef struct nekchhaul_hooks {
+    void (*committed)(void *argument); /* what the run wrote stands */
+    void (*aborted)(void *argument);   /* nothing of it is left; before the next run */
+} nekchhaul_hooks;
+
+/* The same loop with hooks. Inside a body of the same caller, which may still fail, it isn't run: IN_ATTEMPT. */
+NEKCHHAUL_INLINE uint32_t nekchhaul_atomically_with(nekchhaul_caller *caller, nekchhaul_body body, const nekchhaul_hooks *hooks, void *argument)
+{
+    uint32_t s, times = 0;
+    int ran = 0;
+    for (;;) {
+        s = nekchhaul_enter(caller, &times);
+        if (s == NEKCHHAUL_RUN) {
+            if (ran) hooks->aborted(argument);
+            ran = 1;
+            s = nekchhaul_leave(caller, body(caller, argument), &times);
+        }
+        if (s != NEKCHHAUL_PAUSE) break;
+        nekchhaul_pause(times);
+    }
+    if (ran) (s == NEKCHHAUL_OK || s == NEKCHHAUL_IRREVOCABLE ? hooks->committed : hooks->aborted)(argument);
+    return s;
+}
+
 /* Whether a call that must be alone is to be made again after it answered so: others are in the way, and of `tries` (0: no
  * end of them) one is left. After the last the gate is open again. */
-static inline int nekchhaul_is_to_go_on(nekchhaul_caller *caller, uint32_t status, unsigned long *tries, struct nekchhaul_pause *pause)
+static inline int nekchhaul_is_to_go_on(nekchhaul_caller *caller, uint32_t status, unsigned long *tries, uint32_t *times)
 {
     if (status != NEKCHHAUL_BUSY && status != NEKCHHAUL_GATE_CLOSED) return 0;
     if (*tries == 1) {
-        if (status == NEKCHHAUL_BUSY) (void)!nekchhaul_reopen(caller);
+        if (status == NEKCHHAUL_BUSY) (void)nekchhaul_reopen(caller);
         return 0;
     }
     if (*tries) --*tries;
-    nekchhaul_wait(pause);
+    nekchhaul_wait(times);
     return 1;
 }
 
@@ -578,37 +500,33 @@ static inline int nekchhaul_is_to_go_on(nekchhaul_caller *caller, uint32_t statu
  * last of so many the answer is BUSY or GATE_CLOSED, and the gate is open again. */
 NEKCHHAUL_INLINE uint32_t nekchhaul_install_within(nekchhaul_caller *caller, uint32_t algorithm, unsigned long tries)
 {
-    struct nekchhaul_pause pause = NEKCHHAUL_PAUSE_INIT;
-    uint32_t s;
+    uint32_t s, times = 32;
     do s = nekchhaul_switch(caller, algorithm);
-    while (nekchhaul_is_to_go_on(caller, s, &tries, &pause));
+    while (nekchhaul_is_to_go_on(caller, s, &tries, &times));
     return s;
 }
 
 NEKCHHAUL_INLINE uint32_t nekchhaul_take_range_within(nekchhaul_caller *caller, size_t from, size_t count, unsigned long tries)
 {
-    struct nekchhaul_pause pause = NEKCHHAUL_PAUSE_INIT;
-    uint32_t s;
+    uint32_t s, times = 32;
     do s = nekchhaul_fence(caller, from, count);
-    while (nekchhaul_is_to_go_on(caller, s, &tries, &pause));
+    while (nekchhaul_is_to_go_on(caller, s, &tries, &times));
     return s;
 }
 
 NEKCHHAUL_INLINE uint32_t nekchhaul_return_range_within(nekchhaul_caller *caller, unsigned long tries)
 {
-    struct nekchhaul_pause pause = NEKCHHAUL_PAUSE_INIT;
-    uint32_t s;
+    uint32_t s, times = 32;
     do s = nekchhaul_give_back(caller);
-    while (nekchhaul_is_to_go_on(caller, s, &tries, &pause));
+    while (nekchhaul_is_to_go_on(caller, s, &tries, &times));
     return s;
 }
 
 NEKCHHAUL_INLINE uint32_t nekchhaul_end_within(nekchhaul_caller *caller, uint64_t *words, size_t count, unsigned long tries)
 {
-    struct nekchhaul_pause pause = NEKCHHAUL_PAUSE_INIT;
-    uint32_t s;
+    uint32_t s, times = 32;
     do s = nekchhaul_close(caller, words, count);
-    while (nekchhaul_is_to_go_on(caller, s, &tries, &pause));
+    while (nekchhaul_is_to_go_on(caller, s, &tries, &times));
     return s;
 }
 

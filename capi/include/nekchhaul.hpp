@@ -5,6 +5,7 @@
 #include "nekchhaul.h"
 
 #include <cstring>
+#include <exception>
 #include <optional>
 #include <stdexcept>
 #include <string>
@@ -16,7 +17,7 @@ namespace nekchhaul {
 
 enum class algorithm : uint32_t { cgl, tml, orec_lazy, orec_eager, ring_sw, serial };
 
-// A status that ends a transaction for good, or refuses another call: nekchhaul.h says of each call which.
+// A status that ends a loop, or refuses another call: nekchhaul.h says of each call which.
 struct error : std::runtime_error {
     uint32_t status;
     explicit error(uint32_t s) : std::runtime_error(std::string("nekchhaul: ") + nekchhaul_status_name(s)), status(s) {}
@@ -63,32 +64,35 @@ public:
     size_t size() const { return next_; }
 };
 
-template <class F> class running;
-
-// A running attempt. Where a call is refused it leaves the body by an exception that the loop alone catches: a body lets
-// everything pass that it doesn't know.
+// A running attempt. A call that is refused leaves the body by an exception: by an error where it doesn't fit, else by one
+// that the loop alone catches. A body lets everything pass that it doesn't know.
 class attempt {
     struct over {
         uint32_t status;
     };
     template <class F> using answer = std::decay_t<std::invoke_result_t<F &, attempt &>>;
+    template <class R> using kept = std::optional<std::conditional_t<std::is_void_v<R>, char, R>>;
     nekchhaul_caller *caller_;
-    bool by_hand_ = false;
-    template <class F> friend class running;
+    bool by_hand_; // it is one of caller::begin: each refusal is an error
     friend class caller;
     friend class begun;
 
-    explicit attempt(nekchhaul_caller *c) : caller_(c) {}
+    attempt(nekchhaul_caller *c, bool by_hand) : caller_(c), by_hand_(by_hand) {}
     void ask(uint32_t s)
     {
-        if (by_hand_ && s != NEKCHHAUL_OK) throw error(s);
-        answered(s);
+        if (s == NEKCHHAUL_OK) return;
+        const bool is_the_loops = s < NEKCHHAUL_IRREVOCABLE || s == NEKCHHAUL_FENCED;
+        if (is_the_loops && !by_hand_) throw over{s};
+        throw error(s);
     }
-    static void answered(uint32_t s)
+    template <class F> void run(F &body, kept<answer<F>> &came)
     {
-        // (with these the attempt goes on, and the body may catch the error)
-        if (s == NEKCHHAUL_UNCANCELLABLE || s == NEKCHHAUL_RANGE_TAKEN || s == NEKCHHAUL_DEEP) throw error(s);
-        if (s != NEKCHHAUL_OK) throw over{s};
+        if constexpr (std::is_void_v<answer<F>>) body(*this);
+        else came.emplace(body(*this));
+    }
+    template <class R> static R given(kept<R> &&came)
+    {
+        if constexpr (!std::is_void_v<R>) return std::move(*came);
     }
 
 public:
@@ -132,9 +136,8 @@ public:
     // Waits for the attempts of others; from then on this one can only be committed.
     void become_irrevocable()
     {
-        nekchhaul_pause pause = NEKCHHAUL_PAUSE_INIT;
-        uint32_t s;
-        while ((s = nekchhaul_become_irrevocable(caller_)) == NEKCHHAUL_BUSY) nekchhaul_wait(&pause);
+        uint32_t s, times = 32;
+        while ((s = nekchhaul_become_irrevocable(caller_)) == NEKCHHAUL_BUSY) nekchhaul_wait(&times);
         ask(s);
     }
     nekchhaul_state_of state()
@@ -144,28 +147,28 @@ public:
         return at;
     }
 
-    // Runs the body's part again once others have come further.
-    [[noreturn]] void retry() { throw over{NEKCHHAUL_RETRY}; }
+    // Runs the body's part again once others have come further. Of a begun, which has no body: the error RETRY.
+    [[noreturn]] void retry()
+    {
+        if (by_hand_) throw error(NEKCHHAUL_RETRY);
+        throw over{NEKCHHAUL_RETRY};
+    }
 
     // Runs another body, of which nothing is left where it throws; the exception goes on, and may be caught. The error is
-    // UNCANCELLABLE where writes can't be taken back, and DEEP where 8 marks stand.
+    // DEEP where 8 marks stand, and IRREVOCABLE where it couldn't be rolled back.
     template <class F> answer<F> nested(F &&body)
     {
         size_t depth = 0;
-        ask(nekchhaul_nest(caller_, &depth));
+        ask(nekchhaul_checkpoint(caller_, &depth));
+        kept<answer<F>> came;
         try {
-            if constexpr (std::is_void_v<answer<F>>) {
-                body(*this);
-                ask(nekchhaul_unnest(caller_, depth, NEKCHHAUL_OK));
-            } else {
-                answer<F> came = body(*this);
-                ask(nekchhaul_unnest(caller_, depth, NEKCHHAUL_OK));
-                return came;
-            }
+            run(body, came);
         } catch (...) {
-            if (nekchhaul_unnest(caller_, depth, NEKCHHAUL_STOP) == NEKCHHAUL_IRREVOCABLE) throw over{NEKCHHAUL_IRREVOCABLE};
+            if (nekchhaul_unnest(caller_, depth, NEKCHHAUL_STOP) == NEKCHHAUL_IRREVOCABLE) std::throw_with_nested(error(NEKCHHAUL_IRREVOCABLE));
             throw;
         }
+        ask(nekchhaul_unnest(caller_, depth, NEKCHHAUL_OK));
+        return given<answer<F>>(std::move(came));
     }
 
     // Runs the first body, and where that is to be retried the second in its place.
@@ -175,81 +178,91 @@ public:
             return nested(first);
         } catch (const over &o) {
             if (o.status != NEKCHHAUL_RETRY) throw;
+        } catch (const error &e) {
+            if (e.status != NEKCHHAUL_RETRY) throw;
         }
         return nested(second);
     }
 };
 
-// An attempt that caller::begin began: it goes on beside a range, and its calls throw an error. One that isn't committed leaves no
-// trace where it goes, unless it can only be committed; then it is.
+// An attempt that caller::begin began: its calls throw an error. One that isn't committed leaves no trace where it goes, unless it can
+// only be committed; then it is.
 class begun : public attempt {
     friend class caller;
-    explicit begun(nekchhaul_caller *c) : attempt(c) { by_hand_ = true; }
+    explicit begun(nekchhaul_caller *c) : attempt(c, true) {}
 
 public:
     ~begun() { (void)nekchhaul_abandon(caller_); }
     void commit()
     {
-        nekchhaul_pause pause = NEKCHHAUL_PAUSE_INIT;
-        uint32_t s;
-        while ((s = nekchhaul_commit(caller_)) == NEKCHHAUL_AGAIN) nekchhaul_wait(&pause);
+        uint32_t s, times = 32;
+        while ((s = nekchhaul_commit(caller_)) == NEKCHHAUL_AGAIN) nekchhaul_wait(&times);
         ask(s);
     }
     // IRREVOCABLE where it could only be committed: what it wrote stands.
     void cancel() { ask(nekchhaul_abandon(caller_)); }
 };
 
-// A body with what it answered last, for the loops of nekchhaul.h.
-template <class F> class running {
-    using R = attempt::answer<F>;
-    F &body_;
-    unsigned &depth_;
-    std::optional<std::conditional_t<std::is_void_v<R>, char, R>> answer_;
-
-public:
-    running(F &body, unsigned &depth) : body_(body), depth_(depth) {}
-
-    static uint32_t once(nekchhaul_caller *caller, void *argument)
-    {
-        running &self = *static_cast<running *>(argument);
-        struct inside {
-            unsigned &depth;
-            explicit inside(unsigned &d) : depth(d) { ++depth; }
-            ~inside() { --depth; }
-        } in(self.depth_);
-        try {
-            attempt a(caller);
-            if constexpr (std::is_void_v<R>) self.body_(a);
-            else self.answer_.emplace(self.body_(a));
-            return NEKCHHAUL_OK;
-        } catch (const attempt::over &o) {
-            return o.status;
-        } catch (...) {
-            (void)nekchhaul_abandon(caller);
-            throw;
-        }
-    }
-    R answer()
-    {
-        if constexpr (!std::is_void_v<R>) return std::move(*answer_);
-    }
-};
-
 // A caller that owns its handle. It is moved and never copied, and used by one thread at a time.
 class caller {
     nekchhaul_caller handle_ = NEKCHHAUL_NO_CALLER_INIT;
-    unsigned depth_ = 0; // of bodies that are running
+    bool in_body_ = false;
 
     static void ask(uint32_t s)
     {
         if (s != NEKCHHAUL_OK) throw error(s);
     }
-    template <class F> attempt::answer<F> run(F &body, uint32_t (*loop)(nekchhaul_caller *, nekchhaul_body, void *), int may_stop)
+
+    // Runs the body in the attempt that is open, and leaves it; keeps what it throws.
+    template <class F> uint32_t run_once(F &body, attempt::kept<attempt::answer<F>> &answer, std::exception_ptr &thrown, uint32_t *times)
     {
-        running<F> r(body, depth_);
-        if (depth_) attempt::answered(nekchhaul_join(&handle_, may_stop, &running<F>::once, &r));
-        else ask(loop(&handle_, &running<F>::once, &r));
-        return r.answer();
+        uint32_t how = NEKCHHAUL_OK;
+        in_body_ = true;
+        try {
+            attempt(&handle_, false).run(body, answer);
+        } catch (const attempt::over &o) {
+            how = o.status;
+        } catch (...) {
+            thrown = std::current_exception();
+            how = NEKCHHAUL_STOP;
+        }
+        in_body_ = false;
+        return nekchhaul_leave(&handle_, how, times);
+    }
+
+    // What the body threw goes on where nothing is left of it.
+    [[noreturn]] static void refuse(uint32_t s, const std::exception_ptr &thrown)
+    {
+        if (!thrown) throw error(s);
+        try {
+            std::rethrow_exception(thrown);
+        } catch (...) {
+            if (s == NEKCHHAUL_IRREVOCABLE) std::throw_with_nested(error(s));
+            throw;
+        }
+    }
+
+    // The loop of nekchhaul_atomically_with; one that `nests`, as nekchhaul_atomically's, may stand inside a body.
+    template <bool nests, class F, class C, class A> attempt::answer<F> loop(F &body, C &&committed, A &&aborted)
+    {
+        attempt::kept<attempt::answer<F>> answer;
+        std::exception_ptr thrown;
+        bool ran = false;
+        uint32_t s, times = 0;
+        for (;;) {
+            s = nekchhaul_enter(&handle_, &times);
+            if (nests && s == NEKCHHAUL_IN_ATTEMPT) return attempt(&handle_, !in_body_).nested(body);
+            if (s == NEKCHHAUL_RUN) {
+                if (std::exchange(ran, true)) aborted();
+                s = run_once(body, answer, thrown, &times);
+            }
+            if (s != NEKCHHAUL_PAUSE) break;
+            nekchhaul_pause(times);
+        }
+        if (ran && (s == NEKCHHAUL_OK || s == NEKCHHAUL_IRREVOCABLE)) committed();
+        else if (ran) aborted();
+        if (s != NEKCHHAUL_OK) refuse(s, thrown);
+        return attempt::given<attempt::answer<F>>(std::move(answer));
     }
 
 public:
@@ -264,8 +277,9 @@ public:
     ~caller()
     {
         (void)nekchhaul_abandon(&handle_);
-        (void)!nekchhaul_reopen(&handle_); // which has answered BUSY, and was given up
-        (void)!nekchhaul_release(&handle_);
+        (void)nekchhaul_reopen(&handle_); // which has answered BUSY, and was given up
+        (void)nekchhaul_return_range_within(&handle_, 1000);
+        (void)nekchhaul_release(&handle_);
     }
 
     // The handle, for the calls of nekchhaul.h.
@@ -279,12 +293,18 @@ public:
     }
 
     // What the body answers in the attempt that committed, as nekchhaul_atomically does: it may stop, by an exception of its
-    // own, which goes on, and the attempt has left nothing. Inside a body of the same caller it is a part of that attempt.
-    template <class F> attempt::answer<F> atomically(F &&body) { return run(body, &nekchhaul_atomically, 1); }
+    // own, which goes on, and the attempt has left nothing. The error is IRREVOCABLE, around that exception, where the body had
+    // made the attempt so. Inside a body of the same caller it is attempt::nested.
+    template <class F> attempt::answer<F> atomically(F &&body)
+    {
+        return loop<true>(body, [] {}, [] {});
+    }
 
-    // The same of a body that never stops, as nekchhaul_atomically_for_good does. Where it throws all the same in an attempt
-    // that can't be cancelled, what it wrote until then stands.
-    template <class F> attempt::answer<F> atomically_for_good(F &&body) { return run(body, &nekchhaul_atomically_for_good, 0); }
+    // The same with hooks, as nekchhaul_atomically_with: after each run of the body one of the two, which throws nothing.
+    template <class F, class C, class A> attempt::answer<F> atomically_with(F &&body, C &&committed, A &&aborted)
+    {
+        return loop<false>(body, committed, aborted);
+    }
 
     // The calls that must be alone wait for the attempts of others, or are made so many `tries`; after the last of these the
     // error is BUSY or GATE_CLOSED.
@@ -349,8 +369,10 @@ inline std::vector<caller> open(const nekchhaul_sizes &sizes, algorithm a, size_
     std::vector<nekchhaul_caller> raw(count, nekchhaul_caller NEKCHHAUL_NO_CALLER_INIT);
     std::vector<caller> out;
     out.reserve(count);
-    if (uint32_t s = nekchhaul_open(&sizes, static_cast<uint32_t>(a), raw.data(), count)) throw error(s);
+    uint32_t s = nekchhaul_open(&sizes, static_cast<uint32_t>(a), raw.data(), count);
+    // taken first, so that what a BUSY has opened goes with them
     for (nekchhaul_caller &c : raw) out.emplace_back(std::move(c));
+    if (s) throw error(s);
     return out;
 }
 

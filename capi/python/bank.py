@@ -66,6 +66,48 @@ def is_refused(status, call, *arguments):
     return False
 
 
+def is_raised(kind, call, *arguments):
+    try:
+        call(*arguments)
+    except kind:
+        return True
+    return False
+
+
+def words():
+    """What isn't a word is refused, and nothing is left of its transaction."""
+    caller, = nekchhaul.open(2)
+    for value in True, False, -1, 1 << 64, (1 << 64) + 1, 1.0, "1", None:
+        kind = OverflowError if type(value) is int else TypeError  # pylint: disable=unidiomatic-typecheck
+        assert is_raised(kind, caller.atomically, lambda t, v=value: (t.write(0, 1), t.write(1, v)))
+        assert is_raised(kind, caller.atomically, lambda t, v=value: (t.write(0, 1), t.write_many([1], [v])))
+        assert is_raised(kind, caller.direct_write, 0, value)
+        assert is_raised(kind, nekchhaul.open, value)
+    for address in -1, 2, 1 << 64, -(1 << 64):
+        assert is_refused("ADDRESS", caller.atomically, lambda t, a=address: (t.write(0, 1), t.read(a)))
+        assert is_refused("ADDRESS", caller.atomically, lambda t, a=address: t.write(a, 1))
+        assert is_refused("ADDRESS", caller.atomically, lambda t, a=address: t.read_many([0, a]))
+        assert is_refused("ADDRESS", caller.take_range, address, 1)
+    caller.atomically(lambda t: t.write(1, (1 << 64) - 1))
+    assert caller.close(2) == [0, (1 << 64) - 1]
+
+
+def hooks():
+    """After each run of a body one hook."""
+    caller, = nekchhaul.open(1)
+    told = []
+
+    def run(body):
+        return caller.atomically_with(lambda t: (told.append("run"), body(t)), lambda: told.append("committed"), lambda: told.append("aborted"))
+
+    run(lambda t: t.write(0, 1))
+    run(lambda t: None if len(told) > 5 else t.retry())
+    assert is_raised(ZeroDivisionError, run, lambda t: 1 // 0)
+    assert is_refused("IRREVOCABLE", run, lambda t: (t.become_irrevocable(), 1 // 0))
+    assert told == ["run", "committed", "run", "aborted", "run", "aborted", "run", "committed", "run", "aborted", "run", "committed"]
+    assert caller.atomically(lambda t: is_refused("IN_ATTEMPT", run, lambda inner: None))
+
+
 def parts():
     caller, other = nekchhaul.open(3, callers=2)
 
@@ -85,8 +127,9 @@ def parts():
     waits.join()
     assert is_refused("ADDRESS", caller.atomically, lambda t: t.read(3))
     caller.install(Algorithm.TML)
-    assert is_refused("UNCANCELLABLE", caller.atomically, lambda t: None)
-    caller.atomically_for_good(lambda t: t.write(0, 2))
+    assert is_raised(ZeroDivisionError, caller.atomically, lambda t: (t.write(0, 9), 1 // 0))
+    caller.atomically(lambda t: t.write(0, 2))
+    assert is_refused("IRREVOCABLE", caller.atomically, lambda t: (t.become_irrevocable(), t.write(0, 2), 1 // 0))
     assert other.close(3) == [2, 4, 7]
     assert is_refused("SIZE_WORDS", nekchhaul.open, 0)
 
@@ -105,6 +148,8 @@ def by_hand():
         t.commit()
     with caller.begin() as t:
         t.write(0, 9)
+        assert is_refused("RETRY", t.retry) and is_refused("RETRY", caller.atomically, lambda inner: inner.retry())
+        assert t.or_else(lambda inner: inner.retry(), lambda inner: inner.read(2)) == 3
         t.cancel()
     other.take_range(0, 1)
     with caller.begin() as t:
@@ -117,11 +162,23 @@ def by_hand():
     assert is_refused("LOGS", caller.reserve, 0, 8)
     counts = caller.counts()
     assert (counts.begun, counts.committed, counts.promoted, counts.clock_conflicts) == (4, 2, 1, 0)
-    assert caller.state().stand == 0 and nekchhaul.version() & 0xFFFF0000 == 0x10000 | nekchhaul.version() & 0x80000000
+    assert caller.state().stand == 0 and nekchhaul.version() & 0xFFFF0000 == 0x20000 | nekchhaul.version() & 0x80000000
     assert other.close(3) == [4, 5, 3]
 
 
-for of in (Algorithm.OREC_LAZY, Algorithm.OREC_EAGER, Algorithm.RING_SW, Algorithm.SERIAL):
+def goes_with_a_range():
+    """A caller that goes gives its range back."""
+    caller, other = nekchhaul.open(1, callers=2)
+    caller.take_range(0, 1)
+    del caller
+    with other.begin() as t:
+        assert t.read(0) == 0
+
+
+for of in Algorithm:
     bank(of)
+words()
+hooks()
+goes_with_a_range()
 parts()
 by_hand()

@@ -1,20 +1,36 @@
-"""Nekchhaul for Python, by ctypes over libnekchhaul.so.1. Not proved; the calls below it are.
+"""Nekchhaul for Python, by ctypes over libnekchhaul.so.2. Not proved; the calls below it are.
 
 `open` makes a memory of words of 64 bits and as many callers as there are to be threads. `Caller.atomically` runs a function of an
 attempt until it commits; where that raises an exception of its own nothing is left, and the exception goes on. nekchhaul.h says of
-each call what it does. NEKCHHAUL_LIB is the folder of the library; else it is looked for in ../build, and where the system looks."""
+each call what it does. A word is an integer from 0 to 2^64 - 1: of anything else comes a TypeError or an OverflowError. NEKCHHAUL_LIB is
+the folder of the library; else it is looked for in ../build, in the folders above an installed nekchhaul.py, and where the system
+looks."""
 import ctypes
 import enum
+import operator
 import os
 import time
-from ctypes import POINTER, Structure, byref, c_char_p, c_int, c_size_t, c_uint32, c_uint64, c_ulong, c_void_p
+from ctypes import POINTER, Structure, byref, c_char_p, c_size_t, c_uint32, c_uint64, c_ulong, c_void_p
 
 Algorithm = enum.IntEnum("Algorithm", "CGL TML OREC_LAZY OREC_EAGER RING_SW SERIAL", start=0)
-BUSY, AGAIN, RETRY, STOP = 4, 5, 49, 256
+BUSY, AGAIN, IRREVOCABLE, DEEP, NO_CALLER, IN_ATTEMPT, ADDRESS, FENCED, RETRY, RUN, PAUSE, STOP = 4, 5, 8, 9, 16, 18, 20, 25, 49, 51, 52, 256
+
+
+def _word(value):
+    """What a word can have: True is no number here, and 2^64 isn't 0."""
+    number = operator.index(value)
+    if isinstance(value, bool):
+        raise TypeError("a word is an integer")
+    if not 0 <= number < 1 << 64:
+        raise OverflowError("a word has 64 bits")
+    return number
 
 
 class Sizes(Structure):
     _fields_ = [(name, c_size_t) for name in ("words", "records", "ring", "reads", "writes")] + [("clock", c_uint64)]
+
+    def __init__(self, *numbers, **named):
+        super().__init__(*map(_word, numbers), **{name: _word(number) for name, number in named.items()})
 
 
 class State(Structure):
@@ -42,24 +58,27 @@ class _Handle(Structure):
 
 
 def _load():
-    folder = os.environ.get("NEKCHHAUL_LIB") or os.path.join(os.path.dirname(os.path.abspath(__file__)), "..", "build")
-    built = os.path.join(folder, "libnekchhaul.so.1")
-    return ctypes.CDLL(built if os.path.exists(built) else "libnekchhaul.so.1")
+    here = os.path.dirname(os.path.abspath(__file__))
+    folders = [os.environ["NEKCHHAUL_LIB"]] if "NEKCHHAUL_LIB" in os.environ else [f"{here}/../build", f"{here}/../../../lib"]
+    for folder in folders:
+        if os.path.exists(f"{folder}/libnekchhaul.so.2"):
+            return ctypes.CDLL(f"{folder}/libnekchhaul.so.2")
+    return ctypes.CDLL("libnekchhaul.so.2")
 
 
 _lib = _load()
-_BODY = ctypes.CFUNCTYPE(c_uint32, POINTER(_Handle), c_void_p)
 _VALUE, _DEPTH, _MANY = POINTER(c_uint64), POINTER(c_size_t), [POINTER(c_size_t), c_size_t, POINTER(c_uint64), c_size_t]
 _CALLS = {
     "begin": [], "commit": [], "abandon": [], "release": [], "reopen": [], "become_irrevocable": [], "reserve": [c_size_t, c_size_t],
     "read": [c_size_t, _VALUE], "write": [c_size_t, c_uint64], "read_many": _MANY, "write_many": [*_MANY, _DEPTH],
     "checkpoint": [_DEPTH], "roll_to": [c_size_t], "drop_marks": [c_size_t], "direct_read": [c_size_t, _VALUE], "direct_write": [c_size_t, c_uint64],
-    "atomically": [_BODY, c_void_p], "atomically_for_good": [_BODY, c_void_p], "nested": [_BODY, c_void_p], "join": [c_int, _BODY, c_void_p],
+    "enter": [POINTER(c_uint32)], "leave": [c_uint32, POINTER(c_uint32)],
     "install_within": [c_uint32, c_ulong], "take_range_within": [c_size_t, c_size_t, c_ulong], "return_range_within": [c_ulong],
     "end_within": [_VALUE, c_size_t, c_ulong], "learn": [POINTER(_Handle)], "state": [POINTER(State)], "why": [POINTER(Cause)], "counts": [POINTER(Counts)],
 }
 for _name, _words in _CALLS.items():
     getattr(_lib, f"nekchhaul_{_name}").argtypes = [POINTER(_Handle), *_words]
+_lib.nekchhaul_pause.argtypes, _lib.nekchhaul_pause.restype = [c_uint32], None
 _lib.nekchhaul_open.argtypes = [POINTER(Sizes), c_uint32, POINTER(_Handle), c_size_t]
 _lib.nekchhaul_status_name.restype = c_char_p
 _lib.nekchhaul_sizes_of.argtypes, _lib.nekchhaul_sizes_of.restype = [c_size_t], Sizes
@@ -74,12 +93,22 @@ class Error(Exception):
 
 
 class _Over(BaseException):
-    """An attempt's call was refused: the loop alone catches it."""
+    """An attempt's call was refused, or it is to be retried: the loop alone catches it."""
+
+    def __init__(self, status):
+        super().__init__(status)
+        self.status = status
 
 
-def _ask(status, error=Error):
+def _ask(status):
     if status & 0xFFFFFFFF:
-        raise error(status & 0xFFFFFFFF)
+        raise Error(status & 0xFFFFFFFF)
+
+
+def _ask_in_body(status):
+    if 0 < status < IRREVOCABLE or status in (FENCED, RETRY):
+        raise _Over(status)
+    _ask(status)
 
 
 def _told(call, handle, kind):
@@ -88,37 +117,44 @@ def _told(call, handle, kind):
     return call(handle, byref(place)), place
 
 
+def _addresses(numbers):
+    """Those that are no words are 2^64 - 1, which is refused as ADDRESS."""
+    found = [operator.index(number) for number in numbers]
+    return (c_size_t * len(found))(*[number if 0 <= number < 1 << 64 else -1 for number in found])
+
+
+def _address(number):
+    return _addresses([number])[0]
+
+
 class Attempt:
     """A running attempt."""
 
-    _error = _Over
+    _ask = staticmethod(_ask_in_body)
 
     def __init__(self, handle):
         self._handle = handle
 
-    def _ask(self, status):
-        _ask(status, self._error)
-
     def read(self, address):
         value = c_uint64()
-        self._ask(_lib.nekchhaul_read(self._handle, address, byref(value)))
+        self._ask(_lib.nekchhaul_read(self._handle, _address(address), byref(value)))
         return value.value
 
     def read_many(self, addresses):
         """The words at these addresses, read in turn."""
         count = len(addresses)
         values = (c_uint64 * count)()
-        self._ask(_lib.nekchhaul_read_many(self._handle, (c_size_t * count)(*addresses), count, values, count))
+        self._ask(_lib.nekchhaul_read_many(self._handle, _addresses(addresses), count, values, count))
         return list(values)
 
     def write(self, address, value):
-        self._ask(_lib.nekchhaul_write(self._handle, address, value))
+        self._ask(_lib.nekchhaul_write(self._handle, _address(address), _word(value)))
 
     def write_many(self, addresses, values):
         """Writes the values to these addresses, in turn."""
         count, taken = len(addresses), c_size_t()
-        every = (c_uint64 * len(values))(*values)
-        self._ask(_lib.nekchhaul_write_many(self._handle, (c_size_t * count)(*addresses), count, every, len(values), byref(taken)))
+        every = (c_uint64 * len(values))(*map(_word, values))
+        self._ask(_lib.nekchhaul_write_many(self._handle, _addresses(addresses), count, every, len(values), byref(taken)))
 
     def checkpoint(self):
         """Marks what it has written, and answers how many marks stand."""
@@ -144,28 +180,43 @@ class Attempt:
         return state
 
     def retry(self):
-        """Runs the body again once others have come further."""
-        raise _Over(RETRY)
+        """Runs the body again once others have come further. Of a Begun, which has no body: the Error RETRY."""
+        self._ask(RETRY)
 
     def nested(self, body):
-        """Runs another body, of which nothing is left where it raises an exception, which goes on."""
-        return _run(_lib.nekchhaul_nested, self._handle, body, _Over)
+        """Runs another body, of which nothing is left where it raises an exception, which goes on; but of an attempt that couldn't be
+        rolled back all stands, and the Error IRREVOCABLE comes of it."""
+        depth = self.checkpoint()
+        try:
+            answer = body(self)
+        except BaseException as raised:
+            if self._rolled_back(depth) == IRREVOCABLE:
+                raise Error(IRREVOCABLE) from raised
+            raise
+        self.drop_marks(depth)
+        return answer
+
+    def _rolled_back(self, depth):
+        status = _lib.nekchhaul_roll_to(self._handle, depth)
+        if not status:
+            self.drop_marks(depth)
+        return status
 
     def or_else(self, first, second):
         """Runs the first body, and where that is to be retried the second in its place."""
         try:
             return self.nested(first)
-        except _Over as over:
-            if over.args[0] != RETRY:
+        except (_Over, Error) as refused:
+            if refused.status != RETRY:
                 raise
         return self.nested(second)
 
 
 class Begun(Attempt):
-    """An attempt that `Caller.begin` began: it goes on beside a range, and its calls raise an Error. Of one that isn't committed
-    nothing is left at the end of its `with`, unless it can only be committed; then it is."""
+    """An attempt that `Caller.begin` began: its calls raise an Error. Of one that isn't committed nothing is left at the end of its
+    `with`, unless it can only be committed; then it is."""
 
-    _error = Error
+    _ask = staticmethod(_ask)
 
     def __enter__(self):
         return self
@@ -182,58 +233,63 @@ class Begun(Attempt):
         _ask(_lib.nekchhaul_abandon(self._handle))
 
 
-def _run(loop, handle, body, error):
-    answer, raised = [None], []
-
-    def once(caller, _):
-        try:
-            answer[0] = body(Attempt(caller))
-            return 0
-        except _Over as over:
-            return over.args[0]
-        except BaseException as exception:  # pylint: disable=broad-except
-            raised.append(exception)
-            return STOP
-
-    status = loop(handle, _BODY(once), None)
-    if raised:
-        raise raised[-1]
-    _ask(status, error)
-    return answer[0]
-
-
 class Caller:
     """A caller of a memory, which one thread at a time uses."""
 
     def __init__(self, memory, handle):
         self._memory, self._handle = memory, handle  # (the handles of a memory lie in one array)
-        self._running = 0  # bodies
+        self._running = None  # the attempt of a body
 
     def __del__(self):
         _lib.nekchhaul_abandon(self._handle)
         _lib.nekchhaul_reopen(self._handle)
+        _lib.nekchhaul_return_range_within(self._handle, 1000)
         _lib.nekchhaul_release(self._handle)
 
-    def _run(self, loop, may_stop, body):
-        def counted(attempt):
-            self._running += 1
-            try:
-                return body(attempt)
-            finally:
-                self._running -= 1
-
-        if not self._running:
-            return _run(loop, self._handle, counted, Error)
-        return _run(lambda handle, once, _: _lib.nekchhaul_join(handle, may_stop, once, None), self._handle, counted, _Over)
-
     def atomically(self, body):
-        """What the body answers in the attempt that committed. It may raise an exception of its own, and then has left nothing.
-        Inside a body of the same caller it is a part of that attempt."""
-        return self._run(_lib.nekchhaul_atomically, 1, body)
+        """What the body answers in the attempt that committed. It may raise an exception of its own, and then has left nothing; but the
+        Error IRREVOCABLE comes of it where the body had made the attempt so. Inside a body of the same caller it is `nested`."""
+        return self._loop(body, lambda: None, lambda: None, True)
 
-    def atomically_for_good(self, body):
-        """The same of a body that never stops, under every algorithm."""
-        return self._run(_lib.nekchhaul_atomically_for_good, 0, body)
+    def atomically_with(self, body, committed, aborted):
+        """The same with hooks: after each run of the body one of the two is called. Inside a body of the same caller it is the Error
+        IN_ATTEMPT."""
+        return self._loop(body, committed, aborted, False)
+
+    def _loop(self, body, committed, aborted, nests):
+        pause, answer, raised, ran = c_uint32(), None, None, False
+        while True:
+            status = _lib.nekchhaul_enter(self._handle, byref(pause))
+            if nests and status == IN_ATTEMPT:
+                return (self._running or Begun(self._handle)).nested(body)
+            if status == RUN:
+                if ran:
+                    aborted()
+                ran = True
+                how, answer, raised = self._run_once(body)
+                status = _lib.nekchhaul_leave(self._handle, how, byref(pause))
+            if status != PAUSE:
+                break
+            _lib.nekchhaul_pause(pause.value)
+        if ran:
+            (committed if status in (0, IRREVOCABLE) else aborted)()
+        if not status:
+            return answer
+        if raised and status != IRREVOCABLE:
+            raise raised
+        raise Error(status) from raised
+
+    def _run_once(self, body):
+        """What the loop is told of the body, what that answered, and what it raised."""
+        self._running = Attempt(self._handle)
+        try:
+            return 0, body(self._running), None
+        except _Over as over:
+            return over.status, None, None
+        except BaseException as raised:  # pylint: disable=broad-except
+            return STOP, None, raised
+        finally:
+            self._running = None
 
     def begin(self):
         """Begins an attempt by hand: `with caller.begin() as t: t.write(0, 1); t.commit()`."""
@@ -245,18 +301,18 @@ class Caller:
         _ask(_lib.nekchhaul_install_within(self._handle, algorithm, tries))
 
     def take_range(self, first, count, tries=0):
-        _ask(_lib.nekchhaul_take_range_within(self._handle, first, count, tries))
+        _ask(_lib.nekchhaul_take_range_within(self._handle, _address(first), _address(count), tries))
 
     def return_range(self, tries=0):
         _ask(_lib.nekchhaul_return_range_within(self._handle, tries))
 
     def direct_read(self, address):
         value = c_uint64()
-        _ask(_lib.nekchhaul_direct_read(self._handle, address, byref(value)))
+        _ask(_lib.nekchhaul_direct_read(self._handle, _address(address), byref(value)))
         return value.value
 
     def direct_write(self, address, value):
-        _ask(_lib.nekchhaul_direct_write(self._handle, address, value))
+        _ask(_lib.nekchhaul_direct_write(self._handle, _address(address), _word(value)))
 
     def close(self, words, tries=0):
         """The memory after all that was committed, of so many words; nothing is run from then on."""
@@ -293,7 +349,10 @@ def version():
 
 def open(words, algorithm=Algorithm.OREC_LAZY, callers=1):  # pylint: disable=redefined-builtin
     """A memory of so many zeros, by its callers. `words` may be Sizes."""
-    sizes = words if isinstance(words, Sizes) else _lib.nekchhaul_sizes_of(words)
+    sizes = words if isinstance(words, Sizes) else _lib.nekchhaul_sizes_of(_word(words))
     handles = (_Handle * callers)()
-    _ask(_lib.nekchhaul_open(byref(sizes), algorithm, handles, callers))
-    return [Caller(handles, ctypes.pointer(handle)) for handle in handles]
+    status = _lib.nekchhaul_open(byref(sizes), algorithm, handles, callers)
+    # made first, so that what a BUSY has opened goes with them
+    made = [Caller(handles, ctypes.pointer(handle)) for handle in handles]
+    _ask(status)
+    return made

@@ -13,7 +13,7 @@ fn trade(mut mine: Caller, mut x: u64) {
         let from = x as usize % ACCOUNTS;
         let to = (from + 1 + (x >> 20) as usize % (ACCOUNTS - 1)) % ACCOUNTS;
         let amount = (x >> 40) % 100;
-        mine.atomically_for_good(|t| {
+        mine.atomically(|t| {
             let (payer, payee) = (t.read(from)?, t.read(to)?);
             if payer >= amount {
                 t.write(from, payer - amount)?;
@@ -30,7 +30,7 @@ fn main() {
         let sizes = Sizes { words: ACCOUNTS, records: 64, ring: 64, reads: 128, writes: 64, clock: 0 };
         let mut callers = open(&sizes, algorithm, 4).unwrap();
         let mut auditor = callers.pop().unwrap();
-        auditor.atomically_for_good(|t| (0..ACCOUNTS).try_for_each(|i| t.write(i, BALANCE))).unwrap();
+        auditor.atomically(|t| (0..ACCOUNTS).try_for_each(|i| t.write(i, BALANCE))).unwrap();
         for trader in &mut callers {
             trader.learn(&mut auditor).unwrap();
         }
@@ -41,7 +41,7 @@ fn main() {
                 scope.spawn(move || trade(mine, 88172645463325252 + i as u64));
             }
             for i in 0..1000 {
-                auditor.atomically_for_good(|t| t.read_many(&all, &mut balances)).unwrap();
+                auditor.atomically(|t| t.read_many(&all, &mut balances)).unwrap();
                 assert_eq!(balances.iter().sum::<u64>(), ACCOUNTS as u64 * BALANCE);
                 if i % 64 == 0 {
                     auditor.install(Algorithm::ALL[(n + i / 64 + 1) % 6]).unwrap();

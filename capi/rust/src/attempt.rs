@@ -2,11 +2,8 @@
 use crate::raw::{self, Handle};
 use crate::status::told;
 use crate::{State, Status, Value, Word};
-use std::any::Any;
-use std::ffi::c_void;
+use std::mem::{forget, replace};
 use std::ops::{Deref, DerefMut};
-use std::panic::{catch_unwind, resume_unwind, AssertUnwindSafe};
-use std::ptr::addr_of_mut;
 use std::thread;
 
 /// A running attempt. A body hands each `Err` that a call gives on, by `?`.
@@ -91,25 +88,23 @@ impl Attempt<'_> {
         Err(Status::RETRY)
     }
 
-    /// Runs another body as a part of this attempt. Where it stops the attempt has ended, and what comes after it is refused.
-    /// It isn't run, and the attempt goes on, where the answer is `UNCANCELLABLE`.
+    /// As [`Attempt::nested`].
     pub fn atomically<T>(&mut self, body: impl FnMut(&mut Attempt<'_>) -> Result<T, Status>) -> Result<T, Status> {
-        // SAFETY: as `run` says.
-        run(self.0, body, |caller, body, argument| unsafe { raw::nekchhaul_join(caller, 1, body, argument) })
-    }
-
-    /// The same of a body that never stops.
-    pub fn atomically_for_good<T>(&mut self, body: impl FnMut(&mut Attempt<'_>) -> Result<T, Status>) -> Result<T, Status> {
-        // SAFETY: as `run` says.
-        run(self.0, body, |caller, body, argument| unsafe { raw::nekchhaul_join(caller, 0, body, argument) })
+        self.nested(body)
     }
 
     /// Runs another body, of which nothing is left where it answers an `Err` or panics; where that is `RETRY`, its own stop or a
-    /// misuse, the attempt may go on without it. The answer is `UNCANCELLABLE` where writes can't be taken back, and `DEEP`
-    /// where 8 marks stand; then it isn't run.
-    pub fn nested<T>(&mut self, body: impl FnMut(&mut Attempt<'_>) -> Result<T, Status>) -> Result<T, Status> {
-        // SAFETY: as `run` says.
-        run(self.0, body, |caller, body, argument| unsafe { raw::nekchhaul_nested(caller, body, argument) })
+    /// misuse, the attempt may go on without it. It isn't run, and the answer is `DEEP`, where 8 marks stand. `IRREVOCABLE` where
+    /// it couldn't be rolled back.
+    pub fn nested<T>(&mut self, mut body: impl FnMut(&mut Attempt<'_>) -> Result<T, Status>) -> Result<T, Status> {
+        let depth = self.checkpoint()?;
+        let mut part = Part { attempt: self, depth };
+        let answer = body(part.attempt);
+        if answer.is_err() {
+            return part.roll_back().and(answer);
+        }
+        forget(part);
+        self.drop_marks(depth).and(answer)
     }
 
     /// Runs the first body, and where that is to be retried the second in its place.
@@ -180,46 +175,99 @@ impl Drop for Begun<'_> {
     }
 }
 
-/// A body with what it answered last.
-struct Running<T, F> {
-    body: F,
-    answer: Option<T>,
-    panic: Option<Box<dyn Any + Send>>,
+/// A body inside a body, which is rolled back where it is dropped: by a panic of its own.
+struct Part<'a, 'b> {
+    attempt: &'a mut Attempt<'b>,
+    depth: usize,
 }
 
-/// What a body that panicked answers to the loop; no status is as large.
-const PANICKED: u32 = u32::MAX;
-
-/// One run of a body, for C.
-unsafe extern "C" fn once<T, F: FnMut(&mut Attempt<'_>) -> Result<T, Status>>(caller: *mut Handle, argument: *mut c_void) -> u32 {
-    // SAFETY: `run` gives a handle that is its own, and this argument.
-    let (running, handle) = unsafe { (&mut *argument.cast::<Running<T, F>>(), &mut *caller) };
-    let mut attempt = Attempt(handle);
-    match catch_unwind(AssertUnwindSafe(|| (running.body)(&mut attempt))) {
-        Ok(Ok(answer)) => {
-            running.answer = Some(answer);
-            0
-        }
-        Ok(Err(status)) => status.number(),
-        Err(panic) => {
-            running.panic = Some(panic);
-            PANICKED
+impl Part<'_, '_> {
+    /// `IRREVOCABLE` where what it wrote stands; any other refusal is of an attempt that has ended.
+    fn roll_back(&mut self) -> Result<(), Status> {
+        match self.attempt.roll_to(self.depth) {
+            Err(Status::IRREVOCABLE) => Err(Status::IRREVOCABLE),
+            _ => Ok(()),
         }
     }
 }
 
-/// Has C run a body, which it does with the handle and the argument that it is given, and nowhere else. A panic goes on once
-/// C has returned.
-pub(crate) fn run<T, F: FnMut(&mut Attempt<'_>) -> Result<T, Status>>(
+impl Drop for Part<'_, '_> {
+    fn drop(&mut self) {
+        // (what is refused here is so to whoever goes on after the panic)
+        let _ = self.attempt.roll_to(self.depth).and_then(|()| self.attempt.drop_marks(self.depth));
+    }
+}
+
+/// What is to be done outside of the memory, as by an allocator: for each run of a body one of the two, once. Neither panics.
+pub trait Hooks {
+    /// What the run wrote stands.
+    fn committed(&mut self);
+    /// Nothing of it is left; before the next run.
+    fn aborted(&mut self);
+}
+
+/// None.
+impl Hooks for () {
+    fn committed(&mut self) {}
+    fn aborted(&mut self) {}
+}
+
+fn told_hooks(hooks: &mut impl Hooks, status: u32) {
+    if status == 0 || status == Status::IRREVOCABLE.number() {
+        hooks.committed();
+    } else {
+        hooks.aborted();
+    }
+}
+
+/// An attempt of the loop, which leaves nothing where it is dropped: by a panic of the body.
+struct Entered<'a, H: Hooks> {
+    handle: &'a mut Handle,
+    hooks: &'a mut H,
+}
+
+impl<H: Hooks> Entered<'_, H> {
+    fn leave(self, how: u32, pause: &mut u32) -> u32 {
+        // SAFETY: both lead to objects of their own, and the handle is this attempt's alone, here and below.
+        let status = unsafe { raw::nekchhaul_leave(self.handle, how, pause) };
+        forget(self);
+        status
+    }
+}
+
+impl<H: Hooks> Drop for Entered<'_, H> {
+    fn drop(&mut self) {
+        // SAFETY: as above.
+        let status = unsafe { raw::nekchhaul_leave(self.handle, Status::stop(0).number(), &mut 0) };
+        told_hooks(self.hooks, status);
+    }
+}
+
+/// The loop of `nekchhaul.h`.
+pub(crate) fn run<T, H: Hooks>(
     handle: &mut Handle,
-    body: F,
-    go: impl FnOnce(*mut Handle, raw::Body, *mut c_void) -> u32,
+    hooks: &mut H,
+    mut body: impl FnMut(&mut Attempt<'_>, &mut H) -> Result<T, Status>,
 ) -> Result<T, Status> {
-    let mut running = Running { body, answer: None, panic: None };
-    let status = go(handle, once::<T, F>, addr_of_mut!(running).cast());
-    if let Some(panic) = running.panic {
-        resume_unwind(panic);
+    let (mut pause, mut answer, mut ran) = (0, None, false);
+    loop {
+        // SAFETY: both lead to objects of their own, and the handle is this loop's alone.
+        let mut status = unsafe { raw::nekchhaul_enter(handle, &mut pause) };
+        if status == Status::RUN {
+            if replace(&mut ran, true) {
+                hooks.aborted();
+            }
+            let entered = Entered { handle, hooks };
+            let how = body(&mut Attempt(entered.handle), entered.hooks).map(|given| answer = Some(given));
+            status = entered.leave(how.map_or_else(Status::number, |()| 0), &mut pause);
+        }
+        if status != Status::PAUSE {
+            if ran {
+                told_hooks(hooks, status);
+            }
+            return told(status).map(|()| answer.expect("a body that was run to its end has answered"));
+        }
+        // SAFETY: it takes a number.
+        unsafe { raw::nekchhaul_pause(pause) };
     }
-    told(status)?;
-    Ok(running.answer.expect("a body that was run to its end has answered"))
 }

@@ -1,9 +1,8 @@
 //! Safe bindings to Nekchhaul, a verified software transactional memory. Not proved; the calls of the archive are.
 //!
 //! [`open`] makes a memory of words and as many callers as there are to be threads. A [`Caller`] may go to another thread,
-//! and is used through `&mut` alone. [`Caller::atomically`] runs a transaction until it commits, or leaves nothing;
-//! [`Caller::atomically_for_good`] runs one that never stops. A body is a closure that may run more than once, and hands each
-//! `Err` of a call on.
+//! and is used through `&mut` alone. [`Caller::atomically`] runs a transaction until it commits, or leaves nothing. A body is a
+//! closure that may run more than once, and hands each `Err` of a call on.
 //!
 //! ```
 //! use nekchhaul::{open, Algorithm, Layout, Sizes};
@@ -43,7 +42,7 @@ mod raw;
 mod status;
 mod word;
 
-pub use attempt::{Attempt, Begun};
+pub use attempt::{Attempt, Begun, Hooks};
 pub use raw::{Counts, Sizes};
 pub use status::Status;
 pub use word::{Layout, Value, Word, Words};
@@ -128,7 +127,7 @@ pub struct Cause {
     pub third: u64,
 }
 
-/// A caller of a memory. It cancels an attempt that was left open, and lets itself go, when it is dropped.
+/// A caller of a memory. When it is dropped it cancels an attempt that was left open, gives a range back, and lets itself go.
 pub struct Caller {
     handle: Handle,
     /// Whether a [`Begun`] has been left without being dropped.
@@ -143,30 +142,30 @@ unsafe impl Send for Caller {}
 pub fn open(sizes: &Sizes, algorithm: Algorithm, count: usize) -> Result<Vec<Caller>, Status> {
     let mut handles: Vec<Handle> = (0..count).map(|_| Handle::NONE).collect();
     // SAFETY: the slice is the handles' own.
-    told(unsafe { raw::nekchhaul_open(sizes, algorithm as u32, handles.as_mut_ptr(), count) })?;
-    Ok(handles.into_iter().map(|handle| Caller { handle, is_open: false }).collect())
+    let answer = unsafe { raw::nekchhaul_open(sizes, algorithm as u32, handles.as_mut_ptr(), count) };
+    // made first, so that what a BUSY has opened goes with them
+    let callers = handles.into_iter().map(|handle| Caller { handle, is_open: false }).collect();
+    told(answer)?;
+    Ok(callers)
 }
 
 impl Caller {
-    fn run<T>(&mut self, body: impl FnMut(&mut Attempt<'_>) -> Result<T, Status>, with: raw::Loop) -> Result<T, Status> {
+    /// Runs a transaction until it commits, and answers what it does. It may stop, under each algorithm: by [`Status::stop`], by a
+    /// panic, or by what a call that doesn't fit gave it. Then it has left nothing; but `IRREVOCABLE` says that the body had
+    /// made the attempt so, and what it wrote stands. A full log is made longer, up to 4,096 items, and then answered as
+    /// `LOG_FULL`. Where a body meets another caller's range it is run again once that is back.
+    pub fn atomically<T>(&mut self, mut body: impl FnMut(&mut Attempt<'_>) -> Result<T, Status>) -> Result<T, Status> {
+        self.atomically_with(&mut (), |t, ()| body(t))
+    }
+
+    /// The same with hooks, which the body has too: after each run of the body one of the two is called.
+    pub fn atomically_with<T, H: Hooks>(
+        &mut self,
+        hooks: &mut H,
+        body: impl FnMut(&mut Attempt<'_>, &mut H) -> Result<T, Status>,
+    ) -> Result<T, Status> {
         self.let_go();
-        // SAFETY: the loops run the body with this handle and argument, while they run.
-        attempt::run(&mut self.handle, body, |caller, body, argument| unsafe { with(caller, body, argument) })
-    }
-
-    /// Runs a transaction until it commits, and answers what it does. It may stop: by [`Status::stop`], by a panic, or by what a
-    /// call that doesn't fit gave it. Then it has left nothing. So no attempt of it is made irrevocable, and under CGL and
-    /// TML, which can't take writes back, it isn't run: the answer is `UNCANCELLABLE`. Nor is it while a range is out, the
-    /// caller's own or another's: `RANGE_TAKEN`. A full log is made longer, up to 4,096 items, and then answered as `LOG_FULL`.
-    pub fn atomically<T>(&mut self, body: impl FnMut(&mut Attempt<'_>) -> Result<T, Status>) -> Result<T, Status> {
-        self.run(body, raw::nekchhaul_atomically)
-    }
-
-    /// The same of a transaction that never stops: it comes through under every algorithm, since after 16 attempts that
-    /// failed, or a full log, the next is irrevocable. Where it does stop in an attempt that can't be cancelled, that is
-    /// committed as far as it came, and `IRREVOCABLE` is answered.
-    pub fn atomically_for_good<T>(&mut self, body: impl FnMut(&mut Attempt<'_>) -> Result<T, Status>) -> Result<T, Status> {
-        self.run(body, raw::nekchhaul_atomically_for_good)
+        attempt::run(&mut self.handle, hooks, body)
     }
 
     /// Begins an attempt by hand, if it can be begun at once. It may go on beside a range that is out.
@@ -296,6 +295,7 @@ impl Drop for Caller {
         unsafe {
             raw::nekchhaul_abandon(&mut self.handle);
             raw::nekchhaul_reopen(&mut self.handle);
+            raw::nekchhaul_return_range_within(&mut self.handle, 1000);
             raw::nekchhaul_release(&mut self.handle);
         }
     }

@@ -1,5 +1,4 @@
 //! The calls of `nekchhaul.h`, and its types.
-use std::ffi::c_void;
 use std::os::raw::{c_char, c_ulong};
 
 /// A handle, as the library has it.
@@ -79,9 +78,6 @@ pub(crate) struct Why {
     pub(crate) third: u64,
 }
 
-pub(crate) type Body = unsafe extern "C" fn(caller: *mut Handle, argument: *mut c_void) -> u32;
-pub(crate) type Loop = unsafe extern "C" fn(caller: *mut Handle, body: Body, argument: *mut c_void) -> u32;
-
 extern "C" {
     pub(crate) fn nekchhaul_version() -> u32;
     pub(crate) fn nekchhaul_open(sizes: *const Sizes, algorithm: u32, callers: *mut Handle, count: usize) -> u32;
@@ -92,6 +88,8 @@ extern "C" {
     pub(crate) fn nekchhaul_write_many(caller: *mut Handle, addresses: *const usize, count: usize, values: *const u64, places: usize, taken: *mut usize) -> u32;
     pub(crate) fn nekchhaul_commit(caller: *mut Handle) -> u32;
     pub(crate) fn nekchhaul_become_irrevocable(caller: *mut Handle) -> u32;
+    pub(crate) fn nekchhaul_enter(caller: *mut Handle, pause: *mut u32) -> u32;
+    pub(crate) fn nekchhaul_leave(caller: *mut Handle, how: u32, pause: *mut u32) -> u32;
     pub(crate) fn nekchhaul_reopen(caller: *mut Handle) -> u32;
     pub(crate) fn nekchhaul_checkpoint(caller: *mut Handle, depth: *mut usize) -> u32;
     pub(crate) fn nekchhaul_roll_to(caller: *mut Handle, depth: usize) -> u32;
@@ -111,10 +109,7 @@ extern "C" {
     pub(crate) fn nekchhaul_sizes_of(words: usize) -> Sizes;
     pub(crate) fn nekchhaul_learn(to: *mut Handle, from: *mut Handle) -> u32;
     pub(crate) fn nekchhaul_abandon(caller: *mut Handle) -> u32;
-    pub(crate) fn nekchhaul_join(caller: *mut Handle, may_stop: i32, body: Body, argument: *mut c_void) -> u32;
-    pub(crate) fn nekchhaul_atomically(caller: *mut Handle, body: Body, argument: *mut c_void) -> u32;
-    pub(crate) fn nekchhaul_atomically_for_good(caller: *mut Handle, body: Body, argument: *mut c_void) -> u32;
-    pub(crate) fn nekchhaul_nested(caller: *mut Handle, body: Body, argument: *mut c_void) -> u32;
+    pub(crate) fn nekchhaul_pause(times: u32);
     pub(crate) fn nekchhaul_install_within(caller: *mut Handle, algorithm: u32, tries: c_ulong) -> u32;
     pub(crate) fn nekchhaul_take_range_within(caller: *mut Handle, from: usize, count: usize, tries: c_ulong) -> u32;
     pub(crate) fn nekchhaul_return_range_within(caller: *mut Handle, tries: c_ulong) -> u32;

@@ -32,11 +32,11 @@ statuses! {
     LOG_FULL = 6;
     /// The clock is at its limit: nothing more is committed to this memory.
     CLOCK_FULL = 7;
-    /// The attempt can only be committed: a body that stopped in it was committed as far as it came.
+    /// The attempt can only be committed: what a body wrote that made it so, and then stopped, stands.
     IRREVOCABLE = 8;
     /// Eight marks stand.
     DEEP = 9;
-    /// A range is out of the transactions; a body wasn't run.
+    /// A range is out of the transactions already.
     RANGE_TAKEN = 10;
     /// No attempt is open.
     NO_ATTEMPT = 17;
@@ -44,9 +44,10 @@ statuses! {
     ADDRESS = 20;
     /// `malloc` refused.
     MEMORY = 23;
-    /// The word was out of the transactions as the attempt began.
+    /// The word was out of the transactions as the attempt began. A body hands it on, and is run again until the range is
+    /// back; a loop answers it where the caller has a range itself, or all words are out, as in a closed memory.
     FENCED = 25;
-    /// The caller has a range already.
+    /// The caller has a range.
     HOLDS_RANGE = 26;
     /// The caller has no range, or the word isn't in it.
     NO_RANGE = 28;
@@ -58,8 +59,6 @@ statuses! {
     ROOM = 32;
     /// The callers are not of one memory.
     STRANGER = 39;
-    /// The attempt couldn't take writes back, as always under CGL and TML; a body that may stop wasn't run.
-    UNCANCELLABLE = 48;
     /// Of a body: it is to be run again once others have come further.
     RETRY = 49;
     /// Of `learn`: the two handles are one.
@@ -70,6 +69,10 @@ statuses! {
 const STOP: u32 = 256;
 
 impl Status {
+    /// Of the loop's calls, and not for its user: an attempt is open; pause, and enter.
+    pub(crate) const RUN: u32 = 51;
+    pub(crate) const PAUSE: u32 = 52;
+
     const fn numbered(number: u32) -> Status {
         match NonZeroU32::new(number) {
             Some(number) => Status(number),

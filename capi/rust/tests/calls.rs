@@ -1,13 +1,18 @@
-//! Each call, and what it refuses, under each algorithm that can take writes back.
-use nekchhaul::{open, Algorithm, Attempt, Caller, Layout, Sizes, Status};
+//! Each call, and what it refuses, under each algorithm.
+use nekchhaul::{open, Algorithm, Attempt, Caller, Hooks, Layout, Sizes, Status};
 use std::panic::{catch_unwind, AssertUnwindSafe};
 use std::thread;
 
+/// Those under which attempts by hand can be taken back.
 const CANCEL: [Algorithm; 4] = [Algorithm::OrecLazy, Algorithm::OrecEager, Algorithm::RingSw, Algorithm::Serial];
 
-/// Two callers of a memory of four words, under each of these algorithms.
+/// Two callers of a memory of four words, under each algorithm.
 fn callers() -> impl Iterator<Item = [Caller; 2]> {
-    CANCEL.into_iter().map(|algorithm| {
+    callers_under(&Algorithm::ALL)
+}
+
+fn callers_under(algorithms: &[Algorithm]) -> impl Iterator<Item = [Caller; 2]> + '_ {
+    algorithms.iter().map(|&algorithm| {
         let mut both = open(&Sizes { words: 4, records: 16, ring: 16, reads: 8, writes: 8, clock: 0 }, algorithm, 2).unwrap().into_iter();
         [both.next().unwrap(), both.next().unwrap()]
     })
@@ -73,18 +78,17 @@ fn inner_bodies_stand_or_fall_with_the_outer_one() {
         c.atomically(|t| {
             t.write(0, 1)?;
             t.atomically(|t| t.write(1, 1))?;
-            t.atomically_for_good(|t| t.write(2, 1))
+            t.nested(|t| t.write(2, 1))
         })
         .unwrap();
         assert_eq!(words(&mut c), [1, 1, 1, 0]);
-        // a body that goes on after its inner one stopped is refused
-        let outer = c.atomically(|t| {
+        c.atomically(|t| {
             t.write(0, 2)?;
             assert_eq!(t.atomically(|t| t.write(1, 2).and(Err::<(), _>(Status::stop(0)))), Err(Status::stop(0)));
             t.atomically(|t| t.write(2, 2))
-        });
-        assert_eq!(outer, Err(Status::NO_ATTEMPT));
-        assert_eq!(words(&mut c), [1, 1, 1, 0]);
+        })
+        .unwrap();
+        assert_eq!(words(&mut c), [2, 1, 2, 0]);
         let panics = |t: &mut Attempt<'_>| -> Result<(), Status> {
             t.write(1, 3)?;
             panic!("an inner body's own")
@@ -97,7 +101,7 @@ fn inner_bodies_stand_or_fall_with_the_outer_one() {
             t.nested(|t| t.write(3, 3))
         })
         .unwrap();
-        assert_eq!(words(&mut c), [3, 1, 1, 3]);
+        assert_eq!(words(&mut c), [3, 1, 2, 3]);
         assert_eq!(c.atomically(|t| t.or_else(|t| t.write(0, 4).and(t.retry()), |t| t.read(0))), Ok(3));
         assert_eq!(c.atomically(|t| t.or_else(|t| t.retry(), |_| Err::<(), _>(Status::stop(2)))), Err(Status::stop(2)));
     }
@@ -126,27 +130,53 @@ fn marks() {
 }
 
 #[test]
-fn bodies_that_may_stop_are_not_run_where_writes_stand() {
-    for algorithm in [Algorithm::Cgl, Algorithm::Tml] {
-        let mut c = open(&Sizes::of(4), algorithm, 1).unwrap().remove(0);
-        assert_eq!(c.atomically(|_| -> Result<(), Status> { unreachable!() }), Err(Status::UNCANCELLABLE));
-        c.atomically_for_good(|t| {
-            t.write(0, 1)?;
-            assert_eq!(t.atomically(|_| -> Result<(), Status> { unreachable!() }), Err(Status::UNCANCELLABLE));
-            assert_eq!(t.nested(|_| -> Result<(), Status> { unreachable!() }), Err(Status::UNCANCELLABLE));
-            t.atomically_for_good(|t| t.write(1, 1))
-        })
-        .unwrap();
-        assert_eq!(c.atomically_for_good(|t| t.write(2, 1).and(t.retry::<()>())), Err(Status::IRREVOCABLE));
-        assert_eq!(c.close(4), Ok(vec![1, 1, 1, 0]));
-    }
+fn what_an_irrevocable_body_wrote_stands() {
     for [mut c, _] in callers() {
         let stopped = c.atomically(|t| {
             t.become_irrevocable()?;
             assert!(t.state()?.irrevocable);
-            Err::<(), _>(Status::stop(0))
+            t.write(0, 1).and(Err::<(), _>(Status::stop(0)))
         });
         assert_eq!(stopped, Err(Status::IRREVOCABLE));
+        let nested = c.atomically(|t| t.become_irrevocable().and(t.nested(|t| t.write(1, 1).and(t.retry::<()>()))));
+        assert_eq!(nested, Err(Status::IRREVOCABLE));
+        assert_eq!(words(&mut c), [1, 1, 0, 0]);
+    }
+}
+
+/// How often each hook was called, and the body run.
+#[derive(Default, Debug, PartialEq)]
+struct Told {
+    runs: u32,
+    committed: u32,
+    aborted: u32,
+}
+
+impl Hooks for Told {
+    fn committed(&mut self) {
+        self.committed += 1;
+    }
+    fn aborted(&mut self) {
+        self.aborted += 1;
+    }
+}
+
+#[test]
+fn after_each_run_of_a_body_one_hook_is_called() {
+    for [mut c, _] in callers() {
+        let mut told = Told::default();
+        let retried = c.atomically_with(&mut told, |t, told| {
+            told.runs += 1;
+            if told.runs < 4 { t.write(0, 1).and(t.retry()) } else { Ok(()) }
+        });
+        assert_eq!((retried, &told), (Ok(()), &Told { runs: 4, committed: 1, aborted: 3 }));
+        let stopped = c.atomically_with(&mut told, |t, _| t.write(0, 1).and(Err::<(), _>(Status::stop(1))));
+        assert_eq!((stopped, told.aborted), (Err(Status::stop(1)), 4));
+        let panicked = catch_unwind(AssertUnwindSafe(|| c.atomically_with(&mut told, |_, _| -> Result<(), Status> { panic!("a body's own") })));
+        assert!(panicked.is_err() && told.aborted == 5);
+        let stands = c.atomically_with(&mut told, |t, _| t.become_irrevocable().and(Err::<(), _>(Status::stop(1))));
+        assert_eq!((stands, told), (Err(Status::IRREVOCABLE), Told { runs: 4, committed: 2, aborted: 5 }));
+        assert_eq!(words(&mut c), [0; 4]);
     }
 }
 
@@ -161,12 +191,12 @@ fn many_writes_in_one_call() {
         begun.commit().unwrap();
         assert_eq!(words(&mut c), [7, 0, 0, 3]);
     }
-    assert_eq!(nekchhaul::version().0, 65_537);
+    assert_eq!(nekchhaul::version().0, 131_072);
 }
 
 #[test]
 fn attempts_by_hand() {
-    for [mut c, mut other] in callers() {
+    for [mut c, mut other] in callers_under(&CANCEL) {
         let mut begun = c.begin().unwrap();
         begun.write(0, 1).unwrap();
         assert_eq!(begun.read(0), Ok(1));
@@ -183,10 +213,11 @@ fn attempts_by_hand() {
         let mut beside = c.begin().unwrap();
         assert_eq!(beside.read(0), Err(Status::FENCED));
         assert!(beside.state().unwrap().is_beside_range);
-        assert_eq!(beside.atomically(|t| t.read(1)), Err(Status::RANGE_TAKEN));
+        assert_eq!(beside.atomically(|t| t.read(0)), Err(Status::FENCED));
         beside.write(1, 4).unwrap();
         beside.commit().unwrap();
-        assert_eq!(c.atomically(|_| Ok(())), Err(Status::RANGE_TAKEN));
+        assert_eq!(c.atomically(|t| t.read(1)), Ok(4));
+        assert_eq!(other.atomically(|t| t.write(2, 4).and(t.read(0))), Err(Status::FENCED));
         assert!(other.state().unwrap().has_range);
         other.direct_write(0, 5).unwrap();
         assert_eq!((other.direct_read(0), other.direct_read(1)), (Ok(5), Err(Status::NO_RANGE)));
@@ -218,7 +249,12 @@ fn calls_that_must_be_alone() {
         assert_eq!(c.reserve(0, 16), Err(Status::LOGS));
         assert_eq!(c.close(3), Err(Status::ROOM));
         assert_eq!(c.close(4), Ok(vec![0; 4]));
-        assert_eq!(other.atomically(|_| Ok(())), Err(Status::RANGE_TAKEN));
+        assert_eq!(other.atomically(|t| t.read(0)), Err(Status::FENCED));
+    }
+    for [mut c, mut other] in callers() {
+        c.take_range(0, 1).unwrap();
+        drop(c); // which gives it back
+        assert_eq!(other.begin().unwrap().read(0), Ok(0));
     }
     assert!(open(&Sizes { words: 0, ..Sizes::of(1) }, Algorithm::Cgl, 1).is_err());
     assert!(open(&Sizes::of(1), Algorithm::Cgl, 0).is_err());

@@ -1,7 +1,7 @@
 //! Workloads in short, and what `bench` comes to over any ends.
 use bench_core::bench::bench;
 use bench_core::status::Status;
-use bench_core::{MemSink, MemSource, Open, Sink};
+use bench_core::{MemSink, MemSource, Open, Sink, Source};
 use std::alloc::Global;
 use std::sync::Wait;
 use std::test::Fail;
@@ -59,26 +59,23 @@ pub(crate) fn lines(alloc: Global, line: &str) -> Result<String, Fail> {
     Ok(text)
 }
 
+/// A source without bytes, of which no call fails.
+pub(crate) fn nothing(alloc: Global) -> MemSource {
+    MemSource::new(Vec::new(alloc), Vec::new(alloc))
+}
+
 /// The status that `bench` answers over these ends, and whether it leaves a closed memory.
-pub(crate) fn status_over(
-    rt: &(impl Threads + Wait + Sync),
+pub(crate) fn status_over<R: Threads + Wait + Sync, S: Source, K: Sink>(
+    rt: &R,
     alloc: Global,
     words: &[&str],
     source: &mut S,
-    sink: &mut impl Sink,
+    report: &mut S,
+    sink: &mut K,
 ) -> (Status, bool) {
     let mut last = None;
-    let mut report = MemSource::new(Vec::new(alloc), Vec::new(alloc));
     let status = bench(
-        rt,
-        alloc,
-        words,
-        source,
-        &mut report,
-        sink,
-        &Open,
-        &mut last,
-        &mut None,
+        rt, alloc, words, source, report, sink, &Open, &mut last, &mut None,
     );
     (status, last.is_some())
 }
@@ -92,7 +89,8 @@ pub(crate) fn outcome(
 ) -> Result<(Status, String), Fail> {
     let mut source = MemSource::new(text.to_vec(alloc)?, Vec::new(alloc));
     let mut sink = MemSink::new(alloc, 8192, Vec::new(alloc))?;
-    let (status, _) = status_over(rt, alloc, words, &mut source, &mut sink);
+    let mut report = nothing(alloc);
+    let (status, _) = status_over(rt, alloc, words, &mut source, &mut report, &mut sink);
     let held = String::from_utf8(sink.held().to_vec(alloc)?)?;
     Ok((status, held))
 }

@@ -1,5 +1,5 @@
 //! Ends that fail, or move one byte a call: each take and each put in turn.
-use crate::cases::{LIMIT, lines, status_over, workload};
+use crate::cases::{LIMIT, lines, nothing, status_over, workload};
 use crate::ends::{Dribble, Trickle};
 use bench_core::status::Status;
 use bench_core::{MemSink, MemSource};
@@ -93,8 +93,13 @@ fn try_taking(
         failing,
     };
     let mut source = ReadSource::new(reader);
+    let mut report = ReadSource::new(Dribble {
+        bytes: Vec::new(alloc),
+        calls: 0,
+        failing: NEVER,
+    });
     let mut sink = MemSink::new(alloc, 4096, Vec::new(alloc))?;
-    let (status, closed) = status_over(rt, alloc, talk.words, &mut source, &mut sink);
+    let (status, closed) = status_over(rt, alloc, talk.words, &mut source, &mut report, &mut sink);
     let (wanted, said, calls) = match (reads, failing < takes) {
         (false, _) => (talk.status, talk.said, 0),
         (true, false) => (talk.status, talk.said, takes),
@@ -104,6 +109,7 @@ fn try_taking(
     assert_eq!(rt; sink.held(), said.as_bytes(), "take {failing}");
     assert_eq!(rt; closed, closes(talk.words, wanted), "take {failing}");
     assert_eq!(rt; source.into_inner().calls, calls, "take {failing}");
+    assert_eq!(rt; report.into_inner().calls, 0, "take {failing}");
     Ok(())
 }
 
@@ -132,14 +138,23 @@ fn try_putting(
             failing,
             is_mute,
         });
-        let (status, closed) = status_over(rt, alloc, talk.words, &mut source, &mut sink);
+        let mut report = nothing(alloc);
+        let (status, closed) = status_over(
+            rt,
+            alloc,
+            talk.words,
+            &mut source,
+            &mut report,
+            &mut sink,
+        );
         assert_eq!(rt; status, wanted, "put {failing}");
         assert_eq!(rt; closed, closes(talk.words, wanted), "put {failing}");
         assert_eq!(rt; sink.into_inner().held.as_slice(), said, "put {failing}");
     }
     let mut source = MemSource::new(text.to_vec(alloc)?, Vec::new(alloc));
     let mut sink = MemSink::new(alloc, failing, Vec::new(alloc))?;
-    let (status, closed) = status_over(rt, alloc, talk.words, &mut source, &mut sink);
+    let mut report = nothing(alloc);
+    let (status, closed) = status_over(rt, alloc, talk.words, &mut source, &mut report, &mut sink);
     assert_eq!(rt; status, wanted, "room {failing}");
     assert_eq!(rt; closed, closes(talk.words, wanted), "room {failing}");
     assert_eq!(rt; sink.held(), said, "room {failing}");
@@ -188,7 +203,8 @@ fn whole_calls_fail(rt: HostRuntime) -> Result<(), Fail> {
     for (takes, puts, wanted, said) in LISTED {
         let mut source = MemSource::new(text.as_bytes().to_vec(alloc)?, takes.to_vec(alloc)?);
         let mut sink = MemSink::new(alloc, 4096, puts.to_vec(alloc)?)?;
-        let (status, closed) = status_over(&rt, alloc, RUN, &mut source, &mut sink);
+        let mut report = nothing(alloc);
+        let (status, closed) = status_over(&rt, alloc, RUN, &mut source, &mut report, &mut sink);
         assert_eq!(rt; status, wanted);
         assert_eq!(rt; closed, closes(RUN, wanted));
         if said.is_empty() {

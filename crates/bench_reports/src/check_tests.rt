@@ -169,7 +169,7 @@ fn ends_in_the_order_of_the_statuses(rt: HostRuntime) -> Result<(), Fail> {
             "no ",
         ),
         (
-            ["stm_bench", "check", "x"].as_slice(),
+            ["stm_bench", "check", "x", "y", "z"].as_slice(),
             [0].as_slice(),
             128,
             Status::Usage,

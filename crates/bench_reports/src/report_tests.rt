@@ -143,7 +143,7 @@ fn says_why_there_is_no_report(rt: HostRuntime) -> Result<(), Fail> {
         (&["stm_bench"], &text, &[], 4096, Status::Usage, usage),
         (&[], &text, &[], 4096, Status::Usage, usage),
         (
-            &["stm_bench", "run", "run"],
+            &["stm_bench", "run", "run", "run"],
             &text,
             &[],
             4096,
@@ -294,7 +294,7 @@ fn other_words_are_misused(rt: HostRuntime) -> Result<(), Fail> {
         "gen 08 2 1",
         "gen 1 1 1 1",
         "gen 1 1 1 --policy fixed",
-        "run x",
+        "run x y",
         "run --policy round:0",
         "run --policy round:65537",
         "run --policy state:0",
@@ -302,8 +302,8 @@ fn other_words_are_misused(rt: HostRuntime) -> Result<(), Fail> {
         "run --policy state:03",
         "run --policy expert:1",
         "step --policy fixed",
-        "step 1",
-        "--help",
+        "step 1 2",
+        "stpe --help",
     ];
     for line in lines {
         let words = command_line(rt.alloc(), line)?;

@@ -129,7 +129,7 @@ const WRONG_WORDS: [(&[&str], &str); 9] = [
     ),
     (
         &["stpe"],
-        "`stpe` is no command; here stands `step`, `gen`, `run`, `check`, `--help`, `--version`",
+        "`stpe` is no command; here stands `step`, `run`, `gen`, `check`, `--help`, `--version`",
     ),
     (
         &["run", "--polcy", "fixed"],

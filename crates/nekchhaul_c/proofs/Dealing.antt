@@ -3,7 +3,7 @@ use Rattle.std.proofs.Common.{ℕ, zero, suc, ◌≡◌, ◌<◌, ◌≤◌, ◌
 use Rattle.std.specs.Prelude.{Option, Some, None, is_some, MatchOption}
 use Rattle.std.proofs.lemmas.List.{get_or-map, length-map}
 use Rattle.std.proofs.Math.Seq.{map-set_same}
-use Rattle.tx_checked.specs.declared.checked_caller.CheckedCaller.{CheckedCaller}
+use Rattle.tx_loops.specs.declared.looping_caller.LoopingCaller.{LoopingCaller}
 use Rattle.nekchhaul_c.specs.declared.handle.Handle.{Handle}
 use Rattle.nekchhaul_c.specs.Opens.{insides, NoneHeld}
 
@@ -33,7 +33,7 @@ dealt-more P (suc n) (y ∷ ys) x low p rest (suc k) d le lt =
     dealt-more (λ j. P (suc j)) n ys x (omega (arith, low)) p (λ j e h l. rest (suc j) e (omega (arith, h)) (omega (arith, l))) k d
     (omega (arith, le)) (omega (arith, lt))
 
-abbrev inside-of : Handle → Option CheckedCaller
+abbrev inside-of : Handle → Option LoopingCaller
 inside-of h = h.inside
 
 -- handles that hold the same
@@ -43,13 +43,13 @@ inside-at hs ks i h k e lt =
     let two = length-map ks inside-of in
     let many = ap length e in
     let within : i < length ks = omega (arith, lt, one, two, many) in
-    sym (get_or-map inside-of hs i h None lt) ∙ (ap (λ (l : List (Option CheckedCaller)). get_or l i None) e ∙ get_or-map inside-of ks i k None within)
+    sym (get_or-map inside-of hs i h None lt) ∙ (ap (λ (l : List (Option LoopingCaller)). get_or l i None) e ∙ get_or-map inside-of ks i k None within)
 
 -- one that holds the same again
 pub held-again : (hs : List Handle) (i : ℕ) (h k : Handle) → k.inside ≡ (get_or hs i h).inside → insides (set hs i k) ≡ insides hs
 held-again hs i h k e = map-set_same inside-of hs i k h e
 
-none-held : (o : Option CheckedCaller) → false ≡ is_some o → o ≡ None
+none-held : (o : Option LoopingCaller) → false ≡ is_some o → o ≡ None
 none-held None e = refl
 none-held (Some m) e = absurd (let no : false ≡ true = e in cc)
 

@@ -28,7 +28,7 @@ use Rattle.std.specs.declared.option.Option.TheVariants.{None, Some}
 use Rattle.core.proofs.atomic.Steps.{Ptr-Good}
 use Rattle.nekchhaul_c.specs.Owned.{owned}
 use Rattle.nekchhaul_c.specs.contracts.handle.Handle as handle
-use Rattle.tx_checked.specs.contracts.checked_caller.CheckedCaller as checked_caller
+use Rattle.tx_loops.specs.contracts.looping_caller.LoopingCaller as looping_caller
 
 abbrev pub word : ℕ → Ptr → Val
 word n p = vstruct (vcons (vint w64 n) (vcons (ptr_val p) vnil))
@@ -37,8 +37,8 @@ pub word_good : (n : ℕ) → n < 2 ^ 64 → (p : Ptr) → T (has_ty ty_ptr (ptr
 word_good n low p = (and_tt (has_ty ty_ptr (ptr_val p)) (Ptr-Good p).0, (record { fits = low }, ((Ptr-Good p).1, tt)))
 
 module _ {M : Type 1} {𝓤 : Ura M} {𝓛 : Logic 𝓤} {K : Type 0} {Γ : List (Item 𝓤)} {G : Goal 𝓤 𝓛.H} where
-  pub handle_in : K → (n : ℕ) → n < 2 ^ 64 → (p : Ptr) (x : Option checked_caller.the_row.Denot)
-      → Step K 𝓛 (‵ (handle.the_row.own_val (record { tag = n; at = p; inside = x }) (word n p ∷ [])) ∷ Γ) G (‵ (owned checked_caller.the_row n p x) ∷ Γ) G
+  pub handle_in : K → (n : ℕ) → n < 2 ^ 64 → (p : Ptr) (x : Option looping_caller.the_row.Denot)
+      → Step K 𝓛 (‵ (handle.the_row.own_val (record { tag = n; at = p; inside = x }) (word n p ∷ [])) ∷ Γ) G (‵ (owned looping_caller.the_row n p x) ∷ Γ) G
   handle_in t n low p x = step (λ s. let v : Val = word n p in
       nothing t $ feq_i t (List Val) (ptr_val p ∷ []) (ptr_val p ∷ []) refl $ fjoin t $ holds t u64 _ (uint_Makes 𝓛 w64) n (vint w64 n ∷ []) (refl, low) $ fjoin t $ feq_i t (List Val) (v ∷ []) (v ∷ []) refl $ fjoin t $
       fpack t (Valss (u64 ∷ RawPtr ∷ [])) (within (shape handle.the_type) (n, (p, tt)) (v ∷ [])) (vint w64 n ∷ [], (ptr_val p ∷ [], tt)) $ fjoin t $ s)

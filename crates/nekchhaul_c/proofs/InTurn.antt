@@ -2,27 +2,19 @@
 use Rattle.std.specs.Prelude.{slice_index}
 use Rattle.std.proofs.Common.{get_or-set_other, ℕ, zero, suc, ◌≡◌, ◌≢◌, ◌<◌, ◌≤◌, ◌+◌, ◌∙◌, List, [], ◌∷◌, ◌++◌, length, take, get_or, set, refl, sym, ap, subst, arith}
 use Rattle.std.specs.Prelude.{Result, Ok, Err, Bool, true, Some, None}
-use Rattle.stm_model.specs.declared.alg.Alg.{Alg}
-use Rattle.stm_tx.specs.Descs.{serves-on}
-use Rattle.tx_answers.specs.Answers.{GoesOn, HasRead}
-use Rattle.tx_answers.specs.Causes.Asked.{ForWord}
-use Rattle.tx_answers.specs.CallerState.{CallerState}
 use Rattle.tx_answers.specs.declared.answers.Read.{Read}
 use Rattle.tx_answers.specs.declared.answers.Read.TheVariants.{Value}
-use Rattle.tx_checked.specs.declared.checked_caller.CheckedCaller.{CheckedCaller}
+use Rattle.tx_loops.specs.declared.looping_caller.LoopingCaller.{LoopingCaller}
 use Rattle.tx_checked.specs.declared.misuse.Misuse.{Misuse}
 use Rattle.tx_checked.specs.declared.misuse.Misuse.TheVariants as wrong
-use Rattle.tx_checked.specs.declared.phase.CallerPhase.{CallerPhase}
-use Rattle.tx_checked.specs.declared.phase.CallerPhase.TheVariants as phases
-use Rattle.tx_checked.specs.CheckedCallers.{IsSameCheckedCaller, IsServed, config_of, known_to, number_of}
-use Rattle.tx_checked.specs.Misuses.{access_at}
-use Rattle.tx_checked.specs.Phases.{Any, IsInPhase}
-use Rattle.tx_checked.specs.Tells.{HasReadWord}
+use Rattle.tx_checked.specs.declared.checked_caller.CheckedCaller.{CheckedCaller}
+use Rattle.tx_checked.specs.CheckedCallers.{IsSameCheckedCaller}
+use Rattle.tx_loops.specs.AccessLaws.{read-same}
 use Rattle.nekchhaul_c.specs.Codes.{misuse_code, read_code}
 use Rattle.nekchhaul_c.specs.Reads.{ReadTells, ReadsInTurn, ReadManySays}
 
-pub one-more : (at xs : List ℕ) (a x : ℕ) (m k n : CheckedCaller) → ReadsInTurn at xs m k → ReadTells a (Ok (Value x)) k n → ReadsInTurn (at ++ a ∷ []) (xs ++ x ∷ []) m n
-one-more [] [] a x m k n same h = (n, subst (λ (q : CheckedCaller). ReadTells a (Ok (Value x)) q n) same h, refl)
+pub one-more : (at xs : List ℕ) (a x : ℕ) (m k n : LoopingCaller) → ReadsInTurn at xs m k → ReadTells a (Ok (Value x)) k n → ReadsInTurn (at ++ a ∷ []) (xs ++ x ∷ []) m n
+one-more [] [] a x m k n same h = (n, subst (λ (q : LoopingCaller). ReadTells a (Ok (Value x)) q n) same h, refl)
 one-more [] (y ∷ xs) a x m k n wrong h = absurd wrong
 one-more (b ∷ at) [] a x m k n wrong h = absurd wrong
 one-more (b ∷ at) (y ∷ xs) a x m k n r h = (r.0, r.1, one-more at xs a x r.0 k n r.2 h)
@@ -38,7 +30,7 @@ take-set n [] x lt = absurd (omega arith)
 take-set zero (y ∷ xs) x lt = refl
 take-set (suc n) (y ∷ xs) x lt = ap (λ l. y ∷ l) (take-set n xs x (omega (arith, lt)))
 
-pub read-more : (n : ℕ) (at xs : List ℕ) (x : ℕ) (m k o : CheckedCaller) → n < length at → n < length xs
+pub read-more : (n : ℕ) (at xs : List ℕ) (x : ℕ) (m k o : LoopingCaller) → n < length at → n < length xs
     → ReadsInTurn (take n at) (take n xs) m k → ReadTells (get_or at n 0) (Ok (Value x)) k o
     → ReadsInTurn (take (n + 1) at) (take (n + 1) (set xs n x)) m o
 read-more n at xs x m k o low room r h =
@@ -47,25 +39,11 @@ read-more n at xs x m k o low room r h =
     (subst (λ l. ReadsInTurn l (take (suc n) (set xs n x)) m o) (sym (take-more n at low))
     (subst (λ l. ReadsInTurn (take n at ++ get_or at n 0 ∷ []) l m o) (sym (take-set n xs x room)) (one-more (take n at) (take n xs) (get_or at n 0) x m k o r h)))
 
-pub same-after : (a : ℕ) (r : Result Read Misuse) (m k n : CheckedCaller) → IsSameCheckedCaller m k → ReadTells a r k n → IsSameCheckedCaller m n
-same-after a (Ok answer) m k n s h = record { stm = h.1.stm ∙ s.stm; caller = record { table = h.1.caller.table ∙ s.caller.table; who = h.1.caller.who ∙ s.caller.who } }
-same-after a (Err e) m k n s h = subst (IsSameCheckedCaller m) (sym h.1) s
+pub same-trans : (m k n : CheckedCaller) → IsSameCheckedCaller m k → IsSameCheckedCaller k n → IsSameCheckedCaller m n
+same-trans m k n a b = record { stm = b.stm ∙ a.stm; caller = record { table = b.caller.table ∙ a.caller.table; who = b.caller.who ∙ a.caller.who } }
 
--- who reads is in an attempt, which goes on under its algorithm
-in-attempt : (a words fence : ℕ) (p : CallerPhase) (v : CallerState) → IsInPhase p v → access_at a words fence p ≡ None → v.running ≡ true
-in-attempt a words fence phases.Idle v h e = absurd (let no : Some wrong.NoAttempt ≡ None = e in cc)
-in-attempt a words fence phases.Running v h e = (h.1 refl).0.0
-in-attempt a words fence phases.Beside v h e = (h.2 refl).0
-in-attempt a words fence phases.Committing v h e = absurd (let no : Some wrong.Committing ≡ None = e in cc)
-in-attempt a words fence phases.Closing v h e = absurd (let no : Some wrong.Closing ≡ None = e in cc)
-
-pub served-on : (acts_as : Alg → Bool → Alg × Bool) (a x : ℕ) (k o : CheckedCaller) → IsServed acts_as (known_to k) → ReadTells a (Ok (Value x)) k o → IsServed acts_as (known_to o)
-served-on acts_as a x k o served h =
-    let told : HasReadWord a k o (Value x) = h.2 in
-    let read : HasRead Any (config_of k) (number_of k) a (Value x) (known_to k) (known_to o) = told.0 in
-    let goes : GoesOn (config_of k) (ForWord a) (known_to k) (known_to o) = read.0 in
-    let was = served (in-attempt a (config_of k).words (known_to k).fence k.phase (known_to k) k.in_phase h.0) in
-    λ running. serves-on acts_as (known_to k) (known_to o) goes.continues.alg goes.granted was
+pub same-after : (a : ℕ) (r : Result Read Misuse) (m k n : LoopingCaller) → IsSameCheckedCaller m.caller k.caller → ReadTells a r k n → IsSameCheckedCaller m.caller n.caller
+same-after a r m k n s h = same-trans m.caller k.caller n.caller s (read-same a r k n h)
 
 -- the places from n on are as they were
 abbrev pub IsKeptFrom : ℕ → List ℕ → List ℕ → Type 0
@@ -74,8 +52,8 @@ IsKeptFrom n old xs = (i : ℕ) → n ≤ i → slice_index xs i ≡ slice_index
 pub kept-more : (n x : ℕ) (old xs : List ℕ) → IsKeptFrom n old xs → IsKeptFrom (n + 1) old (set xs n x)
 kept-more n x old xs h = λ i le. let ne : i ≢ n = omega (arith, le) in rw get_or-set_other (h i (omega (arith, le)))
 
-pub stopped : (n : ℕ) (at old xs : List ℕ) (status : ℕ) (r : Result Read Misuse) (m k o : CheckedCaller) → n < length at
-    → length at ≤ length old → length xs ≡ length old → IsKeptFrom n old xs → IsSameCheckedCaller m k
+pub stopped : (n : ℕ) (at old xs : List ℕ) (status : ℕ) (r : Result Read Misuse) (m k o : LoopingCaller) → n < length at
+    → length at ≤ length old → length xs ≡ length old → IsKeptFrom n old xs → IsSameCheckedCaller m.caller k.caller
     → ReadsInTurn (take n at) (take n xs) m k → ReadTells (get_or at n 0) r k o
     → status ≡ read_code r → status ≢ 0 → ReadManySays at old xs status m o
 stopped n at old xs status r m k o low room long kept same read tells number high = record {

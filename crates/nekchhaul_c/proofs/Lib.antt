@@ -1,6 +1,5 @@
 pub mod Dealing
 pub mod Handles
-pub mod Handing
 pub mod InTurn
 pub mod Values
 pub mod WritesInTurn

@@ -3,20 +3,21 @@ use Rattle.std.proofs.Common.{ℕ, suc, ◌≡◌, ◌≢◌, ◌<◌, ◌≤◌
 use Rattle.std.specs.Prelude.{Result, Ok, Err}
 use Rattle.tx_answers.specs.declared.answers.Write.{Write}
 use Rattle.tx_answers.specs.declared.answers.Write.TheVariants.{Done, Conflict, Full, ClockFull}
-use Rattle.tx_checked.specs.declared.checked_caller.CheckedCaller.{CheckedCaller}
+use Rattle.tx_loops.specs.declared.looping_caller.LoopingCaller.{LoopingCaller}
 use Rattle.tx_checked.specs.declared.misuse.Misuse.{Misuse}
 use Rattle.tx_checked.specs.CheckedCallers.{IsSameCheckedCaller}
 use Rattle.nekchhaul_c.specs.Codes.{write_code}
 use Rattle.nekchhaul_c.specs.Writes.{WriteTells, WritesInTurn, WriteManySays}
-use Rattle.nekchhaul_c.proofs.InTurn.{misuse-high, take-more}
+use Rattle.nekchhaul_c.proofs.InTurn.{misuse-high, same-trans, take-more}
+use Rattle.tx_loops.specs.AccessLaws.{write-same}
 
-one-more : (at xs : List ℕ) (a x : ℕ) (m k n : CheckedCaller) → WritesInTurn at xs m k → WriteTells a x (Ok Done) k n → WritesInTurn (at ++ a ∷ []) (xs ++ x ∷ []) m n
-one-more [] [] a x m k n same h = (n, subst (λ (q : CheckedCaller). WriteTells a x (Ok Done) q n) same h, refl)
+one-more : (at xs : List ℕ) (a x : ℕ) (m k n : LoopingCaller) → WritesInTurn at xs m k → WriteTells a x (Ok Done) k n → WritesInTurn (at ++ a ∷ []) (xs ++ x ∷ []) m n
+one-more [] [] a x m k n same h = (n, subst (λ (q : LoopingCaller). WriteTells a x (Ok Done) q n) same h, refl)
 one-more [] (y ∷ xs) a x m k n wrong h = absurd wrong
 one-more (b ∷ at) [] a x m k n wrong h = absurd wrong
 one-more (b ∷ at) (y ∷ xs) a x m k n r h = (r.0, r.1, one-more at xs a x r.0 k n r.2 h)
 
-pub write-more : (n : ℕ) (at xs : List ℕ) (m k o : CheckedCaller) → n < length at → n < length xs → WritesInTurn (take n at) (take n xs) m k
+pub write-more : (n : ℕ) (at xs : List ℕ) (m k o : LoopingCaller) → n < length at → n < length xs → WritesInTurn (take n at) (take n xs) m k
     → WriteTells (get_or at n 0) (get_or xs n 0) (Ok Done) k o → WritesInTurn (take (n + 1) at) (take (n + 1) xs) m o
 write-more n at xs m k o low enough r h =
     let next : suc n ≡ n + 1 = omega arith in
@@ -24,9 +25,8 @@ write-more n at xs m k o low enough r h =
     (subst (λ l. WritesInTurn l (take (suc n) xs) m o) (sym (take-more n at low))
     (subst (λ l. WritesInTurn (take n at ++ get_or at n 0 ∷ []) l m o) (sym (take-more n xs enough)) (one-more (take n at) (take n xs) (get_or at n 0) (get_or xs n 0) m k o r h)))
 
-pub same-after-write : (a x : ℕ) (r : Result Write Misuse) (m k n : CheckedCaller) → IsSameCheckedCaller m k → WriteTells a x r k n → IsSameCheckedCaller m n
-same-after-write a x (Ok answer) m k n s h = record { stm = h.1.stm ∙ s.stm; caller = record { table = h.1.caller.table ∙ s.caller.table; who = h.1.caller.who ∙ s.caller.who } }
-same-after-write a x (Err e) m k n s h = subst (IsSameCheckedCaller m) (sym h.1) s
+pub same-after-write : (a x : ℕ) (r : Result Write Misuse) (m k n : LoopingCaller) → IsSameCheckedCaller m.caller k.caller → WriteTells a x r k n → IsSameCheckedCaller m.caller n.caller
+same-after-write a x r m k n s h = same-trans m.caller k.caller n.caller s (write-same a x r k n h)
 
 -- 0 is the number of a write that was made
 pub is-done : (r : Result Write Misuse) → write_code r ≡ 0 → r ≡ Ok Done
@@ -36,7 +36,7 @@ is-done (Ok (Full limit)) h = absurd (let no : 6 ≡ 0 = h in cc)
 is-done (Ok (ClockFull clock)) h = absurd (let no : 7 ≡ 0 = h in cc)
 is-done (Err e) h = absurd (misuse-high e h)
 
-pub stopped-write : (n : ℕ) (at xs : List ℕ) (status : ℕ) (r : Result Write Misuse) (m k o : CheckedCaller) → n < length at → length at ≤ length xs → IsSameCheckedCaller m k → WritesInTurn (take n at) (take n xs) m k
+pub stopped-write : (n : ℕ) (at xs : List ℕ) (status : ℕ) (r : Result Write Misuse) (m k o : LoopingCaller) → n < length at → length at ≤ length xs → IsSameCheckedCaller m.caller k.caller → WritesInTurn (take n at) (take n xs) m k
     → WriteTells (get_or at n 0) (get_or xs n 0) r k o → status ≡ write_code r → status ≢ 0 → WriteManySays at xs n status m o
 stopped-write n at xs status r m k o low enough same wrote tells number high = record {
   same = same-after-write (get_or at n 0) (get_or xs n 0) r m k o same tells;

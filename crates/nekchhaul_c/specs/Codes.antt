@@ -1,5 +1,5 @@
 -- The numbers of the answers.
-use Rattle.std.specs.Prelude.{ℕ, Bool, ◌+◌, if◌then◌else◌, Result, Ok, Err}
+use Rattle.std.specs.Prelude.{ℕ, Bool, ◌+◌, ◌==◌, nat_le, if◌then◌else◌, Result, Ok, Err}
 use Rattle.stm_model.specs.Algorithms.{alg_number}
 use Rattle.stm_model.specs.declared.memory.Memory.{Memory}
 use Rattle.stm_rule.specs.declared.refusal.NewError.{NewError}
@@ -22,6 +22,10 @@ use Rattle.tx_answers.specs.declared.answers.Roll.{Roll}
 use Rattle.tx_answers.specs.declared.answers.Roll.TheVariants as rolls
 use Rattle.tx_answers.specs.declared.answers.Write.{Write}
 use Rattle.tx_answers.specs.declared.answers.Write.TheVariants as writes
+use Rattle.tx_loops.specs.declared.turn.How.{How}
+use Rattle.tx_loops.specs.declared.turn.How.TheVariants as hows
+use Rattle.tx_loops.specs.declared.turn.Turn.{Turn}
+use Rattle.tx_loops.specs.declared.turn.Turn.TheVariants as turns
 use Rattle.tx_checked.specs.declared.misuse.Misuse.{Misuse}
 use Rattle.tx_checked.specs.declared.misuse.Misuse.TheVariants as wrong
 use Rattle.tx_checked.specs.declared.opening.OpenError.{OpenError}
@@ -171,3 +175,30 @@ abbrev pub open_code : OpenError → ℕ
 open_code (opens.Refused e) = size_code e
 open_code opens.Memory = 23
 open_code (opens.Busy e) = 4
+
+-- what a body came to that answered so: it was done; a status that another attempt may be spared; a full log; a word that is out; it is to run again; else it stopped
+abbrev pub how_numbered : ℕ → How
+how_numbered n = if n == 0 then hows.Done else (if nat_le n 5 then hows.Refused else (if n == 6 then hows.Full else (if n == 25 then hows.Fenced else (if n == 49 then hows.Retry else hows.Stopped))))
+
+-- what is to be done next, after a body that answered `how`
+abbrev pub turn_code : ℕ → Result Turn Misuse → ℕ
+turn_code how (Ok turns.Run) = 51
+turn_code how (Ok (turns.Pause times)) = 52
+turn_code how (Ok turns.Done) = 0
+turn_code how (Ok turns.Over) = how
+turn_code how (Ok turns.Full) = 6
+turn_code how (Ok turns.ClockFull) = 7
+turn_code how (Ok turns.Memory) = 23
+turn_code how (Ok turns.Irrevocable) = 8
+turn_code how (Err e) = misuse_code e
+
+abbrev pub pause_value : Result Turn Misuse → ℕ → ℕ
+pause_value (Ok (turns.Pause times)) old = times
+pause_value (Ok turns.Run) old = old
+pause_value (Ok turns.Done) old = old
+pause_value (Ok turns.Over) old = old
+pause_value (Ok turns.Full) old = old
+pause_value (Ok turns.ClockFull) old = old
+pause_value (Ok turns.Memory) old = old
+pause_value (Ok turns.Irrevocable) old = old
+pause_value (Err e) old = old

@@ -2,10 +2,12 @@
 use Rattle.std.specs.Prelude.{ℕ, ◌≡◌, ◌==◌, if◌then◌else◌, List, length, Option, Some, None, Result, IfErr}
 use Rattle.stm_model.specs.declared.alg.Alg.{Alg}
 use Rattle.stm_model.specs.declared.alg.Alg.TheVariants.{Cgl, Tml, OrecLazy, OrecEager, RingSw, Serial}
-use Rattle.nekchhaul_c.specs.Codes.{begin_code, begin_value, done_code, misuse_code, taken_code}
+use Rattle.nekchhaul_c.specs.Codes.{begin_code, begin_value, done_code, misuse_code, pause_value, taken_code, turn_code}
 use Rattle.tx_answers.specs.declared.answers.Begin.{Begin}
 use Rattle.tx_checked.specs.declared.errand.Errand.TheVariants.{Switch}
-use Rattle.tx_checked.specs.declared.checked_caller.CheckedCaller.{CheckedCaller}
+use Rattle.tx_loops.specs.declared.looping_caller.LoopingCaller.{LoopingCaller}
+use Rattle.tx_loops.specs.declared.turn.Turn.{Turn}
+use Rattle.tx_loops.specs.Accesses.{Passes, PassesFree, SameLoop, leaving}
 use Rattle.tx_checked.specs.declared.misuse.Misuse.{Misuse}
 use Rattle.tx_checked.specs.declared.refusal.Refusal.{Refusal}
 use Rattle.tx_checked.specs.Learning.{HasLearned, IsAsked, TellsSameMemory, meeting}
@@ -15,30 +17,34 @@ use Rattle.tx_checked.specs.Endings.{HasEnded}
 use Rattle.tx_checked.specs.Tells.{Tells, HasBegun, HasSwitched}
 
 -- a handle that held no caller holds none, and then this is so; one that held a caller holds one, of which P
-abbrev pub Holds : Type 0 → (CheckedCaller → CheckedCaller → Type 0) → Option CheckedCaller → Option CheckedCaller → Type 0
+abbrev pub Holds : Type 0 → (LoopingCaller → LoopingCaller → Type 0) → Option LoopingCaller → Option LoopingCaller → Type 0
 Holds Empty P None None = Empty
 Holds Empty P None (Some n) = ⊥
 Holds Empty P (Some m) None = ⊥
 Holds Empty P (Some m) (Some n) = P m n
 
--- there is an answer of tx_checked's of which the status is the number, and it tells what that call tells: the same caller is held
-abbrev pub Says : {A : Type 0} → (Result A Misuse → ℕ) → (CheckedCaller → Option Misuse) → (CheckedCaller → CheckedCaller → A → Type 0) → ℕ → CheckedCaller → CheckedCaller → Type 0
-Says {A = A} code wrong Told k m n = (r : Result A Misuse) × (k ≡ code r) × Tells (wrong m) (Told m n) m n r
+-- there is an answer of tx_loops' of which the status is the number, and this is what that call tells of it
+abbrev pub Says : {A : Type 0} → (Result A Misuse → ℕ) → (LoopingCaller → LoopingCaller → Result A Misuse → Type 0) → ℕ → LoopingCaller → LoopingCaller → Type 0
+Says {A = A} code Told k m n = (r : Result A Misuse) × (k ≡ code r) × Told m n r
 
 -- the same of an answer with a word, which is put in a place that had `old`
-abbrev pub SaysWord : {A : Type 0} → (Result A Misuse → ℕ) → (Result A Misuse → ℕ → ℕ) → ℕ → ℕ → (CheckedCaller → Option Misuse) → (CheckedCaller → CheckedCaller → A → Type 0) → ℕ → CheckedCaller → CheckedCaller → Type 0
-SaysWord {A = A} code word old new wrong Told k m n = (r : Result A Misuse) × (k ≡ code r) × (new ≡ word r old) × Tells (wrong m) (Told m n) m n r
+abbrev pub SaysWord : {A : Type 0} → (Result A Misuse → ℕ) → (Result A Misuse → ℕ → ℕ) → ℕ → ℕ → (LoopingCaller → LoopingCaller → Result A Misuse → Type 0) → ℕ → LoopingCaller → LoopingCaller → Type 0
+SaysWord {A = A} code word old new Told k m n = (r : Result A Misuse) × (k ≡ code r) × (new ≡ word r old) × Told m n r
+
+-- of a call of a loop, with how often to pause; the body answered `how`
+abbrev pub TurnSays : ℕ → ℕ → ℕ → (LoopingCaller → LoopingCaller → Result Turn Misuse → Type 0) → ℕ → LoopingCaller → LoopingCaller → Type 0
+TurnSays how old new Told k m n = SaysWord (turn_code how) pause_value old new Told k m n
 
 -- and of a begin with what the attempt runs under, a range beside it too
-abbrev pub BeginSays : ℕ → ℕ → ℕ → CheckedCaller → CheckedCaller → Type 0
-BeginSays old new k m n = (r : Result Begin Misuse) × (k ≡ begin_code r) × (new ≡ begin_value r (is_beside (known_to n)) old) × Tells (outside m) (HasBegun m n) m n r
+abbrev pub BeginSays : ℕ → ℕ → ℕ → LoopingCaller → LoopingCaller → Type 0
+BeginSays old new k m n = (r : Result Begin Misuse) × (k ≡ begin_code r) × (new ≡ begin_value r (is_beside (known_to n.caller)) old) × PassesFree outside HasBegun m n r
 
--- only a caller in no attempt that hasn't closed the gate is let go, and then the handle holds none
-abbrev pub LetsGo : ℕ → Option CheckedCaller → Option CheckedCaller → Type 0
+-- only a caller in no attempt that hasn't closed the gate and has no range out is let go, and then the handle holds none
+abbrev pub LetsGo : ℕ → Option LoopingCaller → Option LoopingCaller → Type 0
 LetsGo k None None = k ≡ 16
 LetsGo k None (Some n) = ⊥
-LetsGo k (Some m) None = (k ≡ 0) × (outside m ≡ None)
-LetsGo k (Some m) (Some n) = (e : Misuse) × (k ≡ misuse_code e) × (outside m ≡ Some e) × (n ≡ m)
+LetsGo k (Some m) None = (k ≡ 0) × (leaving m.caller ≡ None)
+LetsGo k (Some m) (Some n) = (e : Misuse) × (k ≡ misuse_code e) × (leaving m.caller ≡ Some e) × (n ≡ m)
 
 -- algorithms by their number
 abbrev pub algorithm_numbered : ℕ → Option Alg
@@ -52,20 +58,20 @@ algorithm_numbered n =
     (if n == 3 then Some OrecEager else (if n == 4 then Some RingSw else (if n == 5 then Some Serial else None)))))
 
 -- there is no such algorithm, and nothing has changed; or what a switch to it tells
-abbrev pub SwitchSays : Option Alg → ℕ → CheckedCaller → CheckedCaller → Type 0
+abbrev pub SwitchSays : Option Alg → ℕ → LoopingCaller → LoopingCaller → Type 0
 SwitchSays None k m n = (k ≡ 21) × (n ≡ m)
-SwitchSays (Some alg) k m n = Says taken_code (doing (Switch alg)) (HasSwitched alg) k m n
+SwitchSays (Some alg) k m n = Says taken_code (Passes (doing (Switch alg)) (HasSwitched alg)) k m n
 
 -- the end of a memory; a misuse leaves the words as they were, as a refusal does
-abbrev pub EndSays : List ℕ → List ℕ → ℕ → CheckedCaller → CheckedCaller → Type 0
-EndSays old new k m n = (r : Result (Result (Unit {0}) Refusal) Misuse) × (k ≡ taken_code r) × Tells (ending (length old) m) (HasEnded m n old new) m n r × IfErr r (λ _. new ≡ old)
+abbrev pub EndSays : List ℕ → List ℕ → ℕ → LoopingCaller → LoopingCaller → Type 0
+EndSays old new k m n = (r : Result (Result (Unit {0}) Refusal) Misuse) × (k ≡ taken_code r) × Tells (ending (length old) m.caller) (HasEnded m.caller n.caller old new) m.caller n.caller r × IfErr r (λ _. new ≡ old) × SameLoop m n
 
 -- of a call on two callers: m is to learn from f
-abbrev pub LearnTells : ℕ → CheckedCaller → CheckedCaller → CheckedCaller → CheckedCaller → Type 0
-LearnTells k m n f g = (r : Result (Unit {0}) Misuse) × (k ≡ done_code r) × TellsSameMemory (meeting m f) (HasLearned m n) m n r × IsAsked (meeting m f) f g
+abbrev pub LearnTells : ℕ → LoopingCaller → LoopingCaller → LoopingCaller → LoopingCaller → Type 0
+LearnTells k m n f g = (r : Result (Unit {0}) Misuse) × (k ≡ done_code r) × TellsSameMemory (meeting m.caller f.caller) (HasLearned m.caller n.caller) m.caller n.caller r × IsAsked (meeting m.caller f.caller) f.caller g.caller × SameLoop m n × SameLoop f g
 
 -- where one of the two handles holds no caller, none is touched
-abbrev pub LearnSays : ℕ → Option CheckedCaller → Option CheckedCaller → Option CheckedCaller → Option CheckedCaller → Type 0
+abbrev pub LearnSays : ℕ → Option LoopingCaller → Option LoopingCaller → Option LoopingCaller → Option LoopingCaller → Type 0
 LearnSays k None to from from' = (k ≡ 16) × (to ≡ None) × (from' ≡ from)
 LearnSays k (Some m) to None from' = (k ≡ 16) × (to ≡ Some m) × (from' ≡ None)
 LearnSays k (Some m) None (Some f) from' = ⊥

@@ -1,22 +1,22 @@
 -- What C is shown of a caller.
-use Rattle.std.specs.Prelude.{ℕ, ◌≡◌, ◌&&◌, ◌+◌, ◌*◌, is_some, Option, Some, None}
+use Rattle.std.specs.Prelude.{ℕ, ◌≡◌, ◌+◌, ◌*◌, is_some, Option, Some, None}
 use Rattle.core.specs.Int.{from_bool}
 use Rattle.nekchhaul_c.specs.declared.asking.State.{State}
 use Rattle.nekchhaul_c.specs.declared.asking.Why.{Why}
 use Rattle.stm_model.specs.Algorithms.{alg_number}
 use Rattle.stm_model.specs.declared.stop.Cause.{Cause}
 use Rattle.stm_model.specs.declared.stop.Cause.TheVariants as causes
-use Rattle.stm_tx.specs.Nesting.{live_marks}
-use Rattle.tx_answers.specs.CallerState.{is_irrevocable, state_of}
+use Rattle.tx_answers.specs.CallerState.{state_of}
 use Rattle.tx_answers.specs.declared.answers.TxState.{TxState}
 use Rattle.tx_answers.specs.declared.answers.TxState.TheVariants as states
-use Rattle.tx_checked.specs.declared.checked_caller.CheckedCaller.{CheckedCaller}
+use Rattle.tx_loops.specs.declared.looping_caller.LoopingCaller.{LoopingCaller}
+use Rattle.tx_loops.specs.Accesses.{irrevocable_at, marks_at}
 use Rattle.tx_checked.specs.declared.refusal.Refusal.{Refusal}
 use Rattle.tx_checked.specs.declared.refusal.Refusal.TheVariants as refusals
 use Rattle.tx_checked.specs.CheckedCallers.{is_beside, known_to}
 
 -- a caller is asked, and stays as it is
-abbrev pub Shows : ℕ → (CheckedCaller → Type 0) → CheckedCaller → CheckedCaller → Type 0
+abbrev pub Shows : ℕ → (LoopingCaller → Type 0) → LoopingCaller → LoopingCaller → Type 0
 Shows k Shown m n = (k ≡ 0) × (n ≡ m) × Shown m
 
 -- 0 in no attempt, 1 in one, 2 in the middle of its commit, 3 with the gate closed
@@ -32,13 +32,13 @@ state_algorithm (states.Running alg) = alg_number alg
 state_algorithm (states.Committing alg) = alg_number alg
 state_algorithm (states.Closing alg) = 0
 
-abbrev pub state_shown : CheckedCaller → State
-state_shown m = let v = known_to m in record {
-  marks = live_marks v;
+abbrev pub state_shown : LoopingCaller → State
+state_shown m = let v = known_to m.caller in record {
+  marks = marks_at m.stage m;
   stand = stand_number (state_of v);
   algorithm = state_algorithm (state_of v);
-  irrevocable = from_bool (v.running && is_irrevocable v);
-  range = from_bool (is_some m.range) + 2 * from_bool (is_beside v);
+  irrevocable = from_bool (irrevocable_at m.stage m);
+  range = from_bool (is_some m.caller.range) + 2 * from_bool (is_beside v);
 }
 
 abbrev pub shown : ℕ → ℕ → ℕ → ℕ → ℕ → Why

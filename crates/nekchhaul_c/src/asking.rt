@@ -5,21 +5,22 @@ ghost use Rattle.nekchhaul_c.specs.Says.{Holds, Says};
 ghost use Rattle.nekchhaul_c.specs.Shown.{why_of, refusal_shown, cause_shown, shown, state_shown, stand_number, state_algorithm, Shows};
 ghost use Rattle.tx_checked.specs.Misuses.{reserving};
 ghost use Rattle.tx_checked.specs.Tells.{HasReserved};
+ghost use Rattle.tx_loops.specs.Accesses.{Passes};
 
 use crate::handle::Handle;
 use crate::status;
 use std::alloc::Global;
 use stm_model::stop::Cause;
 use tx_answers::answers::TxState;
-use tx_checked::checked_caller::CheckedCaller;
 use tx_checked::refusal::Refusal;
+use tx_loops::looping_caller::LoopingCaller;
 
 /// The version of this interface: 65,536 times the major number, and the minor one.
 #[unsafe(no_mangle)]
 pub extern "C" fn nekchhaul_version() -> u32
-    ensures { result ≡ 65537 }
+    ensures { result ≡ 131072 }
 {
-    65537
+    131072
 }
 
 /// Makes the caller's logs longer.
@@ -31,13 +32,13 @@ pub extern "C" fn nekchhaul_reserve(
     writes: usize,
 ) -> u32
     ensures { Holds (result ≡ 16)
-        (Says reserved_code (reserving reads writes) (HasReserved reads writes) result)
+        (Says reserved_code (Passes (reserving reads writes) (HasReserved reads writes)) result)
         caller.old.inside caller.new.inside }
 {
     if !caller.is_held() {
         return status::NO_CALLER;
     }
-    status::of_reserved(caller.checked_caller().reserve(alloc, reads, writes))
+    status::of_reserved(caller.looping_caller().reserve(alloc, reads, writes))
 }
 
 /// Where a caller stands.
@@ -65,21 +66,21 @@ pub extern "C" fn nekchhaul_state(caller: &mut Handle, state: &mut State) -> u32
     if !caller.is_held() {
         return status::NO_CALLER;
     }
-    *state = state_of(caller.checked_caller());
+    *state = state_of(caller.looping_caller());
     status::OK
 }
 
-fn state_of(checked_caller: &CheckedCaller) -> State
-    ensures { result ≡ state_shown checked_caller.now }
+fn state_of(looping_caller: &LoopingCaller) -> State
+    ensures { result ≡ state_shown looping_caller.now }
 {
-    let state = checked_caller.state();
+    let state = looping_caller.state();
     State {
-        marks: checked_caller.marks(),
+        marks: looping_caller.marks(),
         stand: stand_of(state),
         algorithm: algorithm_number(state),
-        irrevocable: u32::from(checked_caller.is_irrevocable()),
-        range: u32::from(checked_caller.range.is_some())
-            + 2 * u32::from(checked_caller.is_beside()),
+        irrevocable: u32::from(looping_caller.is_irrevocable()),
+        range: u32::from(looping_caller.caller.range.is_some())
+            + 2 * u32::from(looping_caller.is_beside()),
     }
 }
 
@@ -121,12 +122,12 @@ pub struct Why {
 #[unsafe(no_mangle)]
 pub extern "C" fn nekchhaul_why(caller: &mut Handle, why: &mut Why) -> u32
     ensures { Holds ((result ≡ 16) × (why.new ≡ why.old))
-        (Shows result (λ m. why.new ≡ why_of m.refusal)) caller.old.inside caller.new.inside }
+        (Shows result (λ m. why.new ≡ why_of m.caller.refusal)) caller.old.inside caller.new.inside }
 {
     if !caller.is_held() {
         return status::NO_CALLER;
     }
-    *why = why_of(caller.checked_caller().refusal);
+    *why = why_of(caller.looping_caller().caller.refusal);
     status::OK
 }
 

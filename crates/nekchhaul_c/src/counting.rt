@@ -11,11 +11,11 @@ use tx_checked::counts::Counts;
 #[unsafe(no_mangle)]
 pub extern "C" fn nekchhaul_counts(caller: &mut Handle, counts: &mut Counts) -> u32
     ensures { Holds ((result ≡ 16) × (counts.new ≡ counts.old))
-        (Shows result (λ m. counts.new ≡ m.counts)) caller.old.inside caller.new.inside }
+        (Shows result (λ m. counts.new ≡ m.caller.counts)) caller.old.inside caller.new.inside }
 {
     if !caller.is_held() {
         return status::NO_CALLER;
     }
-    *counts = caller.checked_caller().counts;
+    *counts = caller.looping_caller().caller.counts;
     status::OK
 }

@@ -13,5 +13,5 @@ pub extern "C" fn nekchhaul_learn_of_another(to: &mut Handle, from: &mut Handle)
     if !to.is_held() || !from.is_held() {
         return status::NO_CALLER;
     }
-    status::of_done(to.checked_caller().learn(from.checked_caller()))
+    status::of_done(to.looping_caller().learn(from.looping_caller()))
 }

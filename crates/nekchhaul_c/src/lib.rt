@@ -6,6 +6,7 @@ mod counting;
 mod exports;
 mod handle;
 mod learning;
+mod loops;
 mod marks;
 mod opening;
 mod ranges;

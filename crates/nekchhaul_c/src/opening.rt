@@ -10,8 +10,9 @@ use std::alloc::Global;
 use stm_model::alg::Alg;
 use stm_model::config::Config;
 use stm_model::memory::Memory;
-use tx_checked::checked_caller::CheckedCaller;
-use tx_checked::opening::{NotOpened, OpenError, open};
+use tx_checked::opening::OpenError;
+use tx_loops::looping_caller::LoopingCaller;
+use tx_loops::opening::{NotOpened, open};
 
 /// The sizes of a memory, as C gives them.
 #[repr(C)]
@@ -98,15 +99,15 @@ fn holds_one(callers: &mut [Handle]) -> bool
 /// Gives each handle its caller, or none where there is no memory for that.
 fn hold_each(
     alloc: Global,
-    checked_callers: Vec<CheckedCaller>,
+    looping_callers: Vec<LoopingCaller>,
     callers: &mut [Handle],
 ) -> Result<(), Memory>
-    requires count { length checked_callers.items ≡ length callers.old }
-    ensures held { OnOk result (EachHolds checked_callers.items callers.new) }
+    requires count { length looping_callers.items ≡ length callers.old }
+    ensures held { OnOk result (EachHolds looping_callers.items callers.new) }
     ensures count { length callers.new ≡ length callers.old }
     ensures kept { OnErr result (callers.new ≡ callers.old) }
 {
-    let boxes = boxed(alloc, checked_callers)?;
+    let boxes = boxed(alloc, looping_callers)?;
     deal(boxes, callers);
     Ok(())
 }
@@ -114,16 +115,16 @@ fn hold_each(
 /// Each caller on the heap.
 fn boxed(
     alloc: Global,
-    checked_callers: Vec<CheckedCaller>,
-) -> Result<Vec<Box<CheckedCaller>>, Memory>
-    ensures { IfOk result (λ boxes. values_in boxes.items ≡ checked_callers.items) }
+    looping_callers: Vec<LoopingCaller>,
+) -> Result<Vec<Box<LoopingCaller>>, Memory>
+    ensures { IfOk result (λ boxes. values_in boxes.items ≡ looping_callers.items) }
 {
     let mut boxes = Vec::new(alloc);
-    for checked_caller in checked_callers {
-        let Ok(checked_caller) = Box::new(alloc, checked_caller) else {
+    for looping_caller in looping_callers {
+        let Ok(looping_caller) = Box::new(alloc, looping_caller) else {
             return Err(Memory);
         };
-        let Ok(()) = boxes.push(checked_caller) else {
+        let Ok(()) = boxes.push(looping_caller) else {
             return Err(Memory);
         };
     }
@@ -131,12 +132,12 @@ fn boxed(
 }
 
 /// Gives each handle its caller.
-fn deal(mut checked_callers: Vec<Box<CheckedCaller>>, callers: &mut [Handle])
-    requires count { length checked_callers.items ≡ length callers.old }
-    ensures held { EachHolds (values_in checked_callers.items) callers.new }
+fn deal(mut looping_callers: Vec<Box<LoopingCaller>>, callers: &mut [Handle])
+    requires count { length looping_callers.items ≡ length callers.old }
+    ensures held { EachHolds (values_in looping_callers.items) callers.new }
     ensures count { length callers.new ≡ length callers.old }
 {
-    while let Some(checked_caller) = checked_callers.pop() {
-        callers[checked_callers.len()].hold(checked_caller);
+    while let Some(looping_caller) = looping_callers.pop() {
+        callers[looping_callers.len()].hold(looping_caller);
     }
 }

@@ -4,6 +4,7 @@ ghost use Rattle.nekchhaul_c.specs.Codes.{taken_code, given_code, word_code, wor
 ghost use Rattle.nekchhaul_c.specs.Says.{Holds, Says, SaysWord, EndSays};
 ghost use Rattle.tx_checked.specs.Misuses.{taking, giving, in_range};
 ghost use Rattle.tx_checked.specs.Ranges.{HasTaken, HasGiven, HasReadDirect, HasWrittenDirect};
+ghost use Rattle.tx_loops.specs.Accesses.{Passes};
 
 use crate::handle::Handle;
 use crate::status;
@@ -11,26 +12,26 @@ use crate::status;
 /// Takes a range of words out of the transactions.
 #[unsafe(no_mangle)]
 pub extern "C" fn nekchhaul_fence(caller: &mut Handle, from: usize, count: usize) -> u32
-    ensures { Holds (result ≡ 16) (Says taken_code (taking from count) (HasTaken from count) result)
+    ensures { Holds (result ≡ 16) (Says taken_code (Passes (taking from count) (HasTaken from count)) result)
         caller.old.inside caller.new.inside }
 {
     if !caller.is_held() {
         return status::NO_CALLER;
     }
-    status::of_taken(caller.checked_caller().fence(from, count))
+    status::of_taken(caller.looping_caller().fence(from, count))
 }
 
 /// Reads a word of the caller's range. `value` is written only where the answer is 0.
 #[unsafe(no_mangle)]
 pub extern "C" fn nekchhaul_direct_read(caller: &mut Handle, address: usize, value: &mut u64) -> u32
     ensures { Holds ((result ≡ 16) × (value.new ≡ value.old))
-        (SaysWord word_code word_value value.old value.new (in_range address)
-        (HasReadDirect address) result) caller.old.inside caller.new.inside }
+        (SaysWord word_code word_value value.old value.new
+        (Passes (in_range address) (HasReadDirect address)) result) caller.old.inside caller.new.inside }
 {
     if !caller.is_held() {
         return status::NO_CALLER;
     }
-    let word = caller.checked_caller().direct_read(address);
+    let word = caller.looping_caller().direct_read(address);
     status::put_word(word, value);
     status::of_word(word)
 }
@@ -39,25 +40,25 @@ pub extern "C" fn nekchhaul_direct_read(caller: &mut Handle, address: usize, val
 #[unsafe(no_mangle)]
 pub extern "C" fn nekchhaul_direct_write(caller: &mut Handle, address: usize, value: u64) -> u32
     ensures { Holds (result ≡ 16)
-        (Says done_code (in_range address) (HasWrittenDirect address value) result)
+        (Says done_code (Passes (in_range address) (HasWrittenDirect address value)) result)
         caller.old.inside caller.new.inside }
 {
     if !caller.is_held() {
         return status::NO_CALLER;
     }
-    status::of_done(caller.checked_caller().direct_write(address, value))
+    status::of_done(caller.looping_caller().direct_write(address, value))
 }
 
 /// Gives the caller's range back.
 #[unsafe(no_mangle)]
 pub extern "C" fn nekchhaul_give_back(caller: &mut Handle) -> u32
-    ensures { Holds (result ≡ 16) (Says given_code giving HasGiven result) caller.old.inside
+    ensures { Holds (result ≡ 16) (Says given_code (Passes giving HasGiven) result) caller.old.inside
         caller.new.inside }
 {
     if !caller.is_held() {
         return status::NO_CALLER;
     }
-    status::of_given(caller.checked_caller().give_back())
+    status::of_given(caller.looping_caller().give_back())
 }
 
 /// Takes all words out of the transactions for good, and hands them out.
@@ -69,5 +70,5 @@ pub extern "C" fn nekchhaul_close(caller: &mut Handle, words: &mut [u64]) -> u32
     if !caller.is_held() {
         return status::NO_CALLER;
     }
-    status::of_taken(caller.checked_caller().end(words))
+    status::of_taken(caller.looping_caller().end(words))
 }

@@ -6,11 +6,10 @@ ghost use Rattle.tx_checked.specs.CheckedCallers.{IsSameCheckedCaller, IsServed,
 
 use crate::handle::Handle;
 use crate::status;
-use stm_model::alg::Alg;
 use stm_tx::serving::{Calls, Under};
-use stm_tx::{Cgl, OrecEager, OrecLazy, RingSw, Serial, Tml};
+use stm_tx::under;
 use tx_answers::answers::Read;
-use tx_checked::checked_caller::CheckedCaller;
+use tx_loops::looping_caller::LoopingCaller;
 
 /// Reads the words at these addresses, in turn, up to the first that is refused.
 #[unsafe(no_mangle)]
@@ -26,45 +25,41 @@ pub extern "C" fn nekchhaul_read_many(
     if !caller.is_held() {
         return status::NO_CALLER;
     }
-    read_or_no_room(caller.checked_caller(), addresses, values)
+    read_or_no_room(caller.looping_caller(), addresses, values)
 }
 
 fn read_or_no_room(
-    checked_caller: &mut CheckedCaller,
+    looping_caller: &mut LoopingCaller,
     addresses: &[usize],
     values: &mut [u64],
 ) -> u32
-    ensures { ReadManySays addresses.now values.old values.new result checked_caller.old
-        checked_caller.new }
+    ensures { ReadManySays addresses.now values.old values.new result looping_caller.old
+        looping_caller.new }
 {
     if values.len() < addresses.len() {
         return status::ROOM;
     }
-    match checked_caller.algorithm() {
-        Alg::Cgl => read_each(Under::<Cgl>::new(), checked_caller, addresses, values),
-        Alg::Tml => read_each(Under::<Tml>::new(), checked_caller, addresses, values),
-        Alg::OrecLazy => read_each(Under::<OrecLazy>::new(), checked_caller, addresses, values),
-        Alg::OrecEager => read_each(Under::<OrecEager>::new(), checked_caller, addresses, values),
-        Alg::RingSw => read_each(Under::<RingSw>::new(), checked_caller, addresses, values),
-        Alg::Serial => read_each(Under::<Serial>::new(), checked_caller, addresses, values),
-    }
+    under!(
+        looping_caller.algorithm(),
+        read_each(Under::<A>::new(), looping_caller, addresses, values)
+    )
 }
 
 /// It is compiled once for each algorithm, which so is looked up once, and not at each word.
 #[inline(never)]
 fn read_each<C: Calls + Drop>(
     calls: C,
-    checked_caller: &mut CheckedCaller,
+    looping_caller: &mut LoopingCaller,
     addresses: &[usize],
     values: &mut [u64],
 ) -> u32
-    requires served { IsServed C.acts_as (known_to checked_caller.old) }
+    requires served { IsServed C.acts_as (known_to looping_caller.old.caller) }
     requires room { length addresses.now ≤ length values.old }
-    ensures { ReadManySays addresses.now values.old values.new result checked_caller.old
-        checked_caller.new }
+    ensures { ReadManySays addresses.now values.old values.new result looping_caller.old
+        looping_caller.new }
 {
     for i in 0..addresses.len() {
-        match checked_caller.read_by(&calls, addresses[i]) {
+        match looping_caller.read_by(&calls, addresses[i]) {
             Ok(Read::Value(word)) => values[i] = word,
             Ok(Read::Conflict(_)) => return status::CONFLICT,
             Ok(Read::Full { .. }) => return status::LOG_FULL,

@@ -1,7 +1,7 @@
 //! The numbers by which C learns what a call came to. They are never given another meaning: `capi/include/nekchhaul.h`
 //! has them too.
 ghost use Rattle.std.specs.Prelude.{◌≡◌};
-ghost use Rattle.nekchhaul_c.specs.Codes.{misuse_code, refusal_code, begin_code, begin_value, read_code, read_value, write_code, commit_code, cancel_code, grant_code, mark_code, mark_value, roll_code, done_code, word_code, word_value, taken_code, given_code, reserved_code, open_code};
+ghost use Rattle.nekchhaul_c.specs.Codes.{misuse_code, refusal_code, begin_code, begin_value, read_code, read_value, write_code, commit_code, cancel_code, grant_code, mark_code, mark_value, roll_code, done_code, word_code, word_value, taken_code, given_code, reserved_code, open_code, turn_code, pause_value, how_numbered};
 
 use stm_model::memory::Memory;
 use stm_rule::refusal::NewError;
@@ -9,6 +9,7 @@ use tx_answers::answers::{Begin, Cancel, Check, Commit, Give, Irrev, Read, Roll,
 use tx_checked::misuse::Misuse;
 use tx_checked::opening::OpenError;
 use tx_checked::refusal::Refusal;
+use tx_loops::turn::{How, Turn};
 
 pub(crate) const OK: u32 = 0;
 
@@ -79,6 +80,53 @@ pub(crate) const STRANGER: u32 = 39;
 pub(crate) const CLOSING: u32 = 40;
 
 pub(crate) const NOT_CLOSING: u32 = 41;
+
+/// What a body answers that is to run again once others have come further.
+const RETRY: u32 = 49;
+
+pub(crate) const RUN: u32 = 51;
+
+pub(crate) const PAUSE: u32 = 52;
+
+/// What a body came to that answered so.
+pub(crate) fn how_of(number: u32) -> How
+    ensures { result ≡ how_numbered number }
+{
+    match number {
+        OK => How::Done,
+        CONFLICT | GATE_CLOSED | HELD | BUSY | AGAIN => How::Refused,
+        LOG_FULL => How::Full,
+        FENCED => How::Fenced,
+        RETRY => How::Retry,
+        _ => How::Stopped,
+    }
+}
+
+/// The number of what is to be done next, after a body that answered `how`.
+pub(crate) fn of_turn(answer: Result<Turn, Misuse>, how: u32) -> u32
+    ensures { result ≡ turn_code how answer }
+{
+    match answer {
+        Ok(Turn::Run) => RUN,
+        Ok(Turn::Pause { .. }) => PAUSE,
+        Ok(Turn::Done) => OK,
+        Ok(Turn::Over) => how,
+        Ok(Turn::Full) => LOG_FULL,
+        Ok(Turn::ClockFull) => CLOCK_FULL,
+        Ok(Turn::Memory) => MEMORY,
+        Ok(Turn::Irrevocable) => IRREVOCABLE,
+        Err(misuse) => of_misuse(misuse),
+    }
+}
+
+/// Puts how often to pause.
+pub(crate) fn put_pause(answer: Result<Turn, Misuse>, pause: &mut u32)
+    ensures { pause.new ≡ pause_value answer pause.old }
+{
+    if let Ok(Turn::Pause { times }) = answer {
+        *pause = times;
+    }
+}
 
 pub(crate) fn of_misuse(misuse: Misuse) -> u32
     ensures { result ≡ misuse_code misuse }

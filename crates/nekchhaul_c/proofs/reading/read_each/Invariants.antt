@@ -6,9 +6,9 @@ use Rattle.nekchhaul_c.proofs.reading.read_each.Given as goal
 
 abbrev pub invariant-loop-i : goal.invariant-loop-i
 invariant-loop-i g l = record {
-  served : IsServed g.C.Calls.acts_as (known_to l.checked_caller);
-  same : IsSameCheckedCaller l.fn.checked_caller l.checked_caller;
+  served : IsServed g.C.Calls.acts_as (known_to l.looping_caller.caller);
+  same : IsSameCheckedCaller l.fn.looping_caller.caller l.looping_caller.caller;
   beyond : IsKeptFrom l.i l.fn.values l.values;
   count : length l.values ≡ length l.fn.values;
-  read : ReadsInTurn (take l.i l.addresses) (take l.i l.values) l.fn.checked_caller l.checked_caller;
+  read : ReadsInTurn (take l.i l.addresses) (take l.i l.values) l.fn.looping_caller l.looping_caller;
 }

@@ -5,6 +5,6 @@ use Rattle.nekchhaul_c.proofs.writing.write_each.Given as goal
 
 abbrev pub invariant-loop-i : goal.invariant-loop-i
 invariant-loop-i l = record {
-  same : IsSameCheckedCaller l.fn.checked_caller l.checked_caller;
-  wrote : WritesInTurn (take l.i l.addresses) (take l.i l.values) l.fn.checked_caller l.checked_caller;
+  same : IsSameCheckedCaller l.fn.looping_caller.caller l.looping_caller.caller;
+  wrote : WritesInTurn (take l.i l.addresses) (take l.i l.values) l.fn.looping_caller l.looping_caller;
 }

@@ -31,7 +31,7 @@ use Rattle.nekchhaul_c.proofs.Values.{both, RawBox, raw_box_good, raw_box_in}
 use Rattle.nekchhaul_c.proofs.Handles.{word, word_good, either_owned}
 use Rattle.nekchhaul_c.specs.contracts.handle.Handle as handle
 use Rattle.nekchhaul_c.proofs.handle.Handle.TheLaws.{lowers}
-use Rattle.tx_checked.specs.contracts.checked_caller.CheckedCaller as checked_caller
+use Rattle.tx_loops.specs.contracts.looping_caller.LoopingCaller as looping_caller
 use Rattle.nekchhaul_c.specs.contracts.handle.Handle.into_raw_box.{ended, clauses}
 use Rattle.nekchhaul_c.specs.contracts.handle.Handle.into_raw_box.Key.{name as #self}
 use Rattle.nekchhaul_c.proofs.handle.Handle.into_raw_box.Statement.{statement}
@@ -42,7 +42,7 @@ into_raw_box_spec 𝓤 𝓛 𝓜 𝓡 wired =
     let H = 𝓛.H in
     let 𝓣 = tables 𝓤 H 𝓜 𝓡 𝓡.env in
     let c = clauses 𝓛 𝓜.mem 𝓡.returns in
-    let R : RattleType = checked_caller.the_row in
+    let R : RattleType = looping_caller.the_row in
     let Z : RattleType = heap.the_row in let LZ = heap_laws.the_row_laws in let fn = code.function in
     let Lr : RattleType = RawBox R Z LZ ghosts in
     let k = ended.kept.0 in

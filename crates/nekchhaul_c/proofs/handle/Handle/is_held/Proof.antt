@@ -22,13 +22,13 @@ use Rattle.std.proofs.raw_atomic.Walks.{proved}
 use Rattle.nekchhaul_c.proofs.Handles.{word, tag_tells}
 use Rattle.nekchhaul_c.specs.contracts.handle.Handle as handle
 use Rattle.nekchhaul_c.proofs.handle.Handle.TheLaws.{lowers}
-use Rattle.tx_checked.specs.contracts.checked_caller.CheckedCaller as checked_caller
+use Rattle.tx_loops.specs.contracts.looping_caller.LoopingCaller as looping_caller
 use Rattle.nekchhaul_c.specs.contracts.handle.Handle.is_held as f
 use Rattle.nekchhaul_c.proofs.handle.Handle.is_held.Statement.{statement}
 use Rattle.nekchhaul_c.proofs.handle.Handle.is_held.Code as code
 
 abbrev T : RattleType
-T = checked_caller.the_row
+T = looping_caller.the_row
 
 abbrev R : RattleType
 R = handle.the_row

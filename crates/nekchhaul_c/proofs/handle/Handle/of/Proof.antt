@@ -26,7 +26,7 @@ use Rattle.std.specs.declared.option.Option.TheVariants.{Some}
 use Rattle.std.proofs.raw_atomic.Walks.{proved_at, leaves}
 use Rattle.nekchhaul_c.proofs.Values.{both, RawBox, raw_box_good, raw_box_out}
 use Rattle.nekchhaul_c.proofs.Handles.{word, word_good, handle_in}
-use Rattle.tx_checked.specs.contracts.checked_caller.CheckedCaller as checked_caller
+use Rattle.tx_loops.specs.contracts.looping_caller.LoopingCaller as looping_caller
 use Rattle.nekchhaul_c.specs.contracts.handle.Handle.of.{ended, clauses}
 use Rattle.nekchhaul_c.specs.contracts.handle.Handle.of.Key.{name as #self}
 use Rattle.nekchhaul_c.proofs.handle.Handle.of.Statement.{statement}
@@ -34,7 +34,7 @@ use Rattle.nekchhaul_c.proofs.handle.Handle.of.Code as code
 
 pub of_spec : {M : Type 1} → statement M
 of_spec 𝓤 𝓛 𝓜 𝓡 wired =
-    let H = 𝓛.H in let 𝓣 = tables 𝓤 H 𝓜 𝓡 𝓡.env in let c = clauses 𝓛 𝓜.mem 𝓡.returns in let R : RattleType = checked_caller.the_row in let Z : RattleType = heap.the_row in let LZ = heap_laws.the_row_laws in
+    let H = 𝓛.H in let 𝓣 = tables 𝓤 H 𝓜 𝓡 𝓡.env in let c = clauses 𝓛 𝓜.mem 𝓡.returns in let R : RattleType = looping_caller.the_row in let Z : RattleType = heap.the_row in let LZ = heap_laws.the_row_laws in
     let k = ended.kept.0 in let hs : Stays ended.signature.params ended.kept = (stay_dropped (plain (λ _. RawBox R Z LZ ghosts)) k, tt) in
     proved_at 𝓛 ended hs c 𝓜 𝓡 (Goes-blank 𝓛 0 (plain (λ _. RawBox R Z LZ ghosts)) k (λ κs x f. tt), tt) #self code.function (code.unfolded 𝓤 H 𝓜 𝓡 wired) (λ z are.
     let v = z.0.3.0 in let a = v.alloc in let Post : Val → SProp 𝓤 = (walk_of 𝓛 ended hs c).post z in let Run : List Val → SProp 𝓤 = λ ws. WpFn 𝓤 H 𝓣.C 𝓣.Λ code.function ws Post in

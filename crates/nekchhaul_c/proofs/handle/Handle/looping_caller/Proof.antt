@@ -1,4 +1,4 @@
--- `checked_caller` lends what lies behind the pointer, and the handle follows it.
+-- `looping_caller` lends what lies behind the pointer, and the handle follows it.
 use Rattle.std.proofs.Common.{◌≡◌, ◌∙◌, ℕ, List, [], ◌∷◌, true, refl, sym, ap}
 use seplogic.Ra.Ura.{Ura}
 use base.Fraction.{full_share}
@@ -36,16 +36,16 @@ use Rattle.nekchhaul_c.specs.Lends.{holding}
 use Rattle.nekchhaul_c.specs.declared.handle.Handle.{Handle}
 use Rattle.nekchhaul_c.specs.contracts.handle.Handle as handle
 use Rattle.nekchhaul_c.proofs.handle.Handle.TheLaws.{lowers}
-use Rattle.tx_checked.specs.contracts.checked_caller.CheckedCaller as checked_caller
-use Rattle.nekchhaul_c.specs.contracts.handle.Handle.checked_caller as f
-use Rattle.nekchhaul_c.proofs.handle.Handle.checked_caller.Statement.{statement}
-use Rattle.nekchhaul_c.proofs.handle.Handle.checked_caller.Code as code
+use Rattle.tx_loops.specs.contracts.looping_caller.LoopingCaller as looping_caller
+use Rattle.nekchhaul_c.specs.contracts.handle.Handle.looping_caller as f
+use Rattle.nekchhaul_c.proofs.handle.Handle.looping_caller.Statement.{statement}
+use Rattle.nekchhaul_c.proofs.handle.Handle.looping_caller.Code as code
 
 abbrev R : RattleType
 R = handle.the_row
 
 abbrev T : RattleType
-T = checked_caller.the_row
+T = looping_caller.the_row
 
 abbrev stayed : Stays f.ended.signature.params f.ended.kept
 stayed = (stay_dropped (mut_ref_to (0 ∷ []) tt (plain (λ _. R))) no, tt)
@@ -63,8 +63,8 @@ module _ (h : Handle) (us : List Val) (rb ro b o : ℕ) (a : Global) where
       some_owning ! T a h.tag h.at b o w one at $ move ! (1 ∷ 0 ∷ []) $ fjoin ! $ move ! (1 ∷ 0 ∷ []) $ fjoin ! $
       fpack ! (List Val) (λ vs. fsep (cell_at full_share R.mir vs rb ro) (R.own_val (holding h w) vs)) us $ done !
 
-pub checked_caller_spec : {M : Type 1} → statement M
-checked_caller_spec 𝓤 𝓛 𝓜 𝓡 wired =
+pub looping_caller_spec : {M : Type 1} → statement M
+looping_caller_spec 𝓤 𝓛 𝓜 𝓡 wired =
     let c = f.clauses 𝓛 𝓜.mem 𝓡.returns in let 𝓣 = tables 𝓤 𝓛.H 𝓜 𝓡 𝓡.env in let W = walk_of 𝓛 f.ended stayed c in
     proved 𝓛 f.ended stayed c 𝓜 𝓡 (Goes-spent_ref 𝓛 1 (0 ∷ []) tt (plain (λ _. R)), tt) f.Key.name code.function (code.unfolded 𝓤 𝓛.H 𝓜 𝓡 wired)
     (λ κs. (mut_vals, tt)) (λ κs. (mut_Tells (named 0) κs.0 R, tt)) (λ κs qs bounds a g are.

@@ -1,0 +1,9 @@
+pub mod BindLaws
+pub mod BodyLaws
+pub mod CommitLaws
+pub mod EnterLaws
+pub mod LeaveLaws
+pub mod MarkLaws
+pub mod StageLaws
+pub mod StoreLaws
+pub mod WriteLaws

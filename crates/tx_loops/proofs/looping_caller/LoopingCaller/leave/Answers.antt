@@ -1,0 +1,16 @@
+use Rattle.std.proofs.Common.{sym, subst}
+use Rattle.std.specs.Prelude.{Ok}
+use Rattle.tx_checked.specs.declared.checked_caller.CheckedCaller.{CheckedCaller}
+use Rattle.tx_loops.specs.declared.turn.How.{How}
+use Rattle.tx_loops.specs.Loops.{LeaveSays}
+use Rattle.tx_loops.specs.Turns.{IsAfterRefusal}
+use Rattle.tx_loops.proofs.LeaveLaws.{lapsed-says}
+use Rattle.tx_loops.proofs.looping_caller.LoopingCaller.leave.Goals as goal
+
+pub returns-in-Lapsed : goal.returns-in-Lapsed
+returns-in-Lapsed c =
+    let m = c.args.self.now in
+    let n = c.turned_down.new.self in
+    let t = c.turned_down.result in
+    let after = subst (λ (k : CheckedCaller). IsAfterRefusal k.refusal t) (sym c.turned_down.ensures.caller) c.turned_down.ensures.turn in
+    subst (λ (how : How). LeaveSays how m n (Ok t)) (sym c.in-Done.is) (lapsed-says m n t c.in-Lapsed.is c.turned_down.ensures.stage c.turned_down.ensures.caller after)

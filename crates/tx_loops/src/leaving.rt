@@ -1,0 +1,158 @@
+//! The end of a body.
+ghost use Rattle.std.specs.Prelude.{◌≡◌, true, Ok};
+ghost use Rattle.stm_tx.specs.Fencing.{fence_seen};
+ghost use Rattle.tx_checked.specs.CheckedCallers.{config_of, known_to};
+ghost use Rattle.tx_loops.specs.Loops.{FinishSays, GivesUp, HasStood, IsOut, LeaveSays, stays_out};
+ghost use Rattle.tx_loops.specs.Stages.{is_all_out, is_given_up};
+ghost use Rattle.tx_loops.specs.Turns.{IsAfterRefusal};
+ghost use Rattle.tx_loops.specs.declared.stage.Stage.TheVariants.{Bound, Buffered, Free};
+ghost use Rattle.tx_loops.specs.declared.turn.How.TheVariants as hows;
+
+use crate::ends::{CommitOutcome, commit_body, end_blank, take_back};
+use crate::looping_caller::LoopingCaller;
+use crate::plan::Plan;
+use crate::stage::Stage;
+use crate::storing::store_through;
+use crate::turn::{How, Turn};
+use stm_tx::fencing::fence_seen;
+use tx_checked::checked_caller::CheckedCaller;
+use tx_checked::misuse::Misuse;
+
+impl LoopingCaller {
+    /// Ends the attempt of a body that came to this: where it was done it commits, else nothing stands that it wrote,
+    /// unless it had said that it can't stop. Of a loop that was put off it gives up what is open.
+    pub fn leave(&mut self, how: How) -> Result<Turn, Misuse>
+        ensures { LeaveSays how self.old self.new result }
+    {
+        match how {
+            How::Done => match self.stage {
+                Stage::Free | Stage::Asking | Stage::Committing => Err(Misuse::NoAttempt),
+                Stage::Lapsed => {
+                    self.stage = Stage::Free;
+                    Ok(self.turned_down())
+                }
+                Stage::Direct | Stage::Bound => Ok(self.finish()),
+                Stage::Buffered => Ok(self.finish_buffered()),
+            },
+            _ => match self.stage {
+                Stage::Free => Err(Misuse::NoAttempt),
+                Stage::Bound => Ok(self.finish_bound()),
+                Stage::Lapsed
+                | Stage::Direct
+                | Stage::Buffered
+                | Stage::Asking
+                | Stage::Committing => Ok(self.give_up(how)),
+            },
+        }
+    }
+
+    /// Commits what the body did.
+    pub(crate) fn finish(&mut self) -> Turn
+        requires running { (known_to self.old.caller).running ≡ true }
+        ensures { FinishSays self.old self.new result }
+    {
+        match commit_body(&mut self.caller) {
+            CommitOutcome::Done => {
+                self.stage = Stage::Free;
+                self.plan = Plan::new();
+                Turn::Done
+            }
+            CommitOutcome::Again => {
+                self.stage = Stage::Committing;
+                Turn::Pause {
+                    times: self.plan.wait(),
+                }
+            }
+            CommitOutcome::Refused => {
+                self.stage = Stage::Free;
+                self.turned_down()
+            }
+        }
+    }
+
+    /// The same of what lies in the buffer. It is stored only now: the body is done.
+    fn finish_buffered(&mut self) -> Turn
+        requires buffered { self.old.stage ≡ Buffered }
+        ensures { LeaveSays hows.Done self.old self.new (Ok result) }
+    {
+        if store_through(&mut self.caller, &self.buffer) {
+            self.stage = Stage::Lapsed;
+            self.finish()
+        } else {
+            self.stage = Stage::Free;
+            self.turned_down()
+        }
+    }
+
+    /// Commits what a body did that had said that it can't stop, and did.
+    fn finish_bound(&mut self) -> Turn
+        requires bound { self.old.stage ≡ Bound }
+        ensures turn { result ≡ Turn.Irrevocable }
+        ensures stands { HasStood self.old self.new }
+    {
+        commit_body(&mut self.caller);
+        self.stage = Stage::Free;
+        self.plan = Plan::new();
+        Turn::Irrevocable
+    }
+
+    /// Ends an attempt of which nothing is to stand.
+    fn give_up(&mut self, how: How) -> Turn
+        requires given { is_given_up self.old.stage ≡ true }
+        ensures { GivesUp how self.old self.new result }
+    {
+        let stays = stays_out(&self.caller);
+        self.end_attempt();
+        let turn = self.plan.after(how, self.caller.refusal, stays);
+        self.plan.end_at(turn);
+        turn
+    }
+
+    /// Ends what is open.
+    fn end_attempt(&mut self)
+        requires given { is_given_up self.old.stage ≡ true }
+        ensures out { IsOut self.old self.new }
+        ensures range { self.new.caller.range ≡ self.old.caller.range }
+    {
+        match self.stage {
+            Stage::Direct | Stage::Committing => {
+                take_back(&mut self.caller);
+                self.stage = Stage::Free;
+            }
+            Stage::Buffered | Stage::Asking => {
+                end_blank(&mut self.caller);
+                self.stage = Stage::Free;
+            }
+            Stage::Free | Stage::Bound | Stage::Lapsed => self.stage = Stage::Free,
+        }
+    }
+
+    /// What comes after an attempt that has ended by a refusal.
+    pub(crate) fn turned_down(&mut self) -> Turn
+        requires free { self.old.stage ≡ Free }
+        ensures turn { IsAfterRefusal self.old.caller.refusal result }
+        ensures stage { self.new.stage ≡ Free }
+        ensures caller { self.new.caller ≡ self.old.caller }
+    {
+        let turn = self.plan.after_refusal(self.caller.refusal);
+        self.plan.end_at(turn);
+        turn
+    }
+}
+
+/// Whether what is out of the transactions stays out while a body waits for it.
+fn stays_out(caller: &CheckedCaller) -> bool
+    ensures { result ≡ stays_out caller.now }
+{
+    caller.range.is_some() || is_all_out(caller)
+}
+
+/// Whether all words were out of the transactions as the attempt began, as they are for good once the memory has ended.
+fn is_all_out(caller: &CheckedCaller) -> bool
+    ensures { result ≡ is_all_out (config_of caller.now).words (fence_seen (known_to caller.now)) }
+{
+    match fence_seen(&caller.desc) {
+        Some((from, count)) => from == 0 && count == caller.stm.config.words,
+        None => false,
+    }
+}
