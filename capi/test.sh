@@ -48,7 +48,7 @@ compare() {
 }
 header=$here/include/nekchhaul.h
 {
-    sed -n 's/^\(NEKCHHAUL_CALL \)*uint32_t \(nekchhaul_[a-z_]*\)(.*);.*/\2/p' "$header"
+    sed -nE 's/^(NEKCHHAUL_CALL )?(uint32_t|void) (nekchhaul_[a-z_]*)\(.*\);.*/\3/p' "$header"
     sed -n 's/^NEKCHHAUL_INLINE .*\b\(nekchhaul_[a-z_]*\)(.*/\1/p' "$header"
 } | sort >"$room/declared"
 nm -g "$archive" | sed -n 's/.* T \(.*\)$/\1/p' | sort >"$room/exported"
@@ -61,8 +61,8 @@ sed 's/ .*//' "$room/all" | grep -vx STOP | sort >"$room/statuses"
 sed -n 's/^ *NEKCHHAUL_NAME(\([A-Z_]*\))$/\1/p' "$header" | sort >"$room/named"
 compare statuses named "a status has no name in nekchhaul_status_name"
 # Each wrapper has each call of the header, but those that are within another that it has: one try of a call that must be alone, or
-# tries without end, in that of so many tries; a cancel in nekchhaul_abandon.
-within='nekchhaul_(begin_under|cancel|move|learn_of_another|switch|fence|give_back|close|install|take_range|return_range|end)'
+# tries without end, in that of so many tries; a cancel in nekchhaul_abandon; of nekchhaul_wait, nekchhaul_wake and nekchhaul_pause the parts.
+within='nekchhaul_(begin_under|cancel|move|learn_of_another|switch|fence|give_back|close|install|take_range|return_range|end|announce|ring|sleep)'
 for wrapper in include/nekchhaul.hpp rust/src python/nekchhaul.py; do
     for name in $(grep -vxE "$within" "$room/declared"); do
         try "$wrapper has no call ${name#nekchhaul_}" grep -rqwE "(nekchhaul_)?${name#nekchhaul_}" "$here/$wrapper"
@@ -101,7 +101,7 @@ cc=
 for compiler in gcc clang; do
     tries $compiler || continue
     [ "$cc" ] || cc=$compiler
-    for example in misuse causes whole nested alone committing memory stops cost bank events collector allocator turns; do
+    for example in misuse causes whole nested alone committing memory stops cost bank events collector allocator turns waiting; do
         compiled "$compiler" $example.c -std=c11
     done
     for example in misuse causes whole nested allocator; do
@@ -120,6 +120,7 @@ for compiler in gcc clang; do
     if [ "$compiler" = "$cc" ]; then # these try the library, and not the header
         ran "alone.c-$compiler"
         ran "committing.c-$compiler"
+        [ "$flags" ] && ran "waiting.c-$compiler" 500 || ran "waiting.c-$compiler"
         [ "$flags" ] || ran "memory.c-$compiler" # (a sanitizer takes memory of its own)
     fi
     ran "cost.c-$compiler" bank OrecLazy 2 2000

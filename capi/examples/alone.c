@@ -38,13 +38,13 @@ static void read_once(struct reader *r, uint32_t *times)
     uint64_t v;
     uint32_t s = nekchhaul_begin(&r->caller);
     if (s) {
-        nekchhaul_wait(times);
+        nekchhaul_back_off(times);
         return;
     }
     count(&r->begun);
     for (size_t i = 0; !s && i < r->reads; i++) s = nekchhaul_read(&r->caller, i, &v);
     if (!s) s = nekchhaul_write(&r->caller, WORDS - 1, 1);
-    while (!s && (s = nekchhaul_commit(&r->caller)) == NEKCHHAUL_AGAIN) s = NEKCHHAUL_OK, nekchhaul_wait(times);
+    while (!s && (s = nekchhaul_commit(&r->caller)) == NEKCHHAUL_AGAIN) s = NEKCHHAUL_OK, nekchhaul_back_off(times);
     if (s == NEKCHHAUL_FENCED) (void)nekchhaul_abandon(&r->caller); /* the memory has ended */
     else if (s > NEKCHHAUL_CONFLICT) abort();
     count(&r->ended);
@@ -77,7 +77,7 @@ static void let_begin(struct reader *all, size_t readers)
 {
     unsigned long before = begun_of(all, readers);
     uint32_t times = 32;
-    while (begun_of(all, readers) == before) nekchhaul_wait(&times);
+    while (begun_of(all, readers) == before) nekchhaul_back_off(&times);
 }
 
 enum call { SWITCH, FENCE, GIVE_BACK, CLOSE };
@@ -108,7 +108,7 @@ static void until_done(nekchhaul_caller *me, struct reader *all, size_t readers,
         if (!busy) closed = looked;
         if (nekchhaul_why(me, &why) || why.first < last) abort();
         last = why.first;
-        nekchhaul_wait(&times);
+        nekchhaul_back_off(&times);
         looked = ended_of(all, readers);
     }
     if (s || looked - closed > readers) abort();

@@ -231,7 +231,7 @@ static uint32_t fill(nekchhaul_caller *caller, void *argument)
 static uint32_t fill_for_good(nekchhaul_caller *caller, void *argument)
 {
     uint32_t s;
-    while ((s = nekchhaul_become_irrevocable(caller)) == NEKCHHAUL_BUSY) nekchhaul_pause(32);
+    while ((s = nekchhaul_become_irrevocable(caller)) == NEKCHHAUL_BUSY) nekchhaul_spin(32);
     return s ? s : fill(caller, argument);
 }
 
@@ -247,15 +247,15 @@ static uint32_t sum_up(nekchhaul_caller *caller, void *argument)
     return NEKCHHAUL_OK;
 }
 
-/* A full log is made longer, up to 4,096 items; with more to read or, once it is irrevocable, to write, a body comes through too. */
+/* A full log is made longer. */
 static void loops(int records)
 {
     const nekchhaul_sizes sizes = nekchhaul_sizes_of(5000);
     nekchhaul_caller one = NEKCHHAUL_NO_CALLER_INIT;
     nekchhaul_counts_of counts;
-    struct filling most = { 4096, 0, 0 }, more = { 4097, 0, 0 }, again = { 1, 2, 0 }, sum = { 5000, 0, 0 };
+    struct filling most = { 4096, 0, 0 }, more = { 5000, 0, 0 }, again = { 1, 2, 0 }, sum = { 5000, 0, 0 };
     uint64_t words[5000];
-    IS(sizes.words == 5000 && sizes.records == 1024 && sizes.ring == 64 && sizes.reads == 64 && sizes.writes == 64 && sizes.clock == 0, 1);
+    IS(sizes.words == 5000 && sizes.records == 5000 && sizes.ring == 64 && sizes.reads == 64 && sizes.writes == 64 && sizes.clock == 0, 1);
     IS(nekchhaul_open(&sizes, algorithm, &one, 1), 0);
     IS(nekchhaul_atomically(&one, fill, &again), 0);
     IS(again.runs, 3);
@@ -265,11 +265,29 @@ static void loops(int records)
     IS(counts.promoted, 0);
     if (records) IS(counts.full_logs, 6);
     IS(nekchhaul_atomically(&one, sum_up, &sum), 0);
-    if (algorithm != NEKCHHAUL_SERIAL) IS(nekchhaul_atomically(&one, fill, &more), NEKCHHAUL_LOG_FULL);
-    more.words = 5000;
+    IS(nekchhaul_atomically(&one, fill, &more), 0);
+    more.runs = 0;
     IS(nekchhaul_atomically(&one, fill_for_good, &more), 0);
+    IS(more.runs, 1);
     IS(nekchhaul_end(&one, words, 5000), 0);
     for (size_t a = 0; a < 5000; a++) IS(words[a], a);
+    IS(nekchhaul_release(&one), 0);
+}
+
+/* Up to 1,048,576 items; with more to read or, once it is irrevocable, to write, a body comes through too. */
+static void longest(void)
+{
+    const size_t words = 1048576 + 8192;
+    const nekchhaul_sizes sizes = nekchhaul_sizes_of(words);
+    nekchhaul_caller one = NEKCHHAUL_NO_CALLER_INIT;
+    struct filling most = { 1048576, 0, 0 }, more = { 1048577, 0, 0 }, sum = { words, 0, 0 };
+    IS(sizes.records, 65536);
+    IS(nekchhaul_open(&sizes, algorithm, &one, 1), 0);
+    IS(nekchhaul_atomically(&one, fill, &most), 0);
+    IS(most.runs, 15); /* with logs of 64, 128, .. 1,048,576 */
+    IS(nekchhaul_atomically(&one, sum_up, &sum), 0);
+    IS(nekchhaul_atomically(&one, fill, &more), NEKCHHAUL_LOG_FULL);
+    IS(nekchhaul_atomically(&one, fill_for_good, &more), 0);
     IS(nekchhaul_release(&one), 0);
 }
 
@@ -310,6 +328,7 @@ int main(void)
         if (records) irrevocable();
         if (records) same_arguments();
         loops(records);
+        if (algorithm == NEKCHHAUL_CGL || algorithm == NEKCHHAUL_OREC_LAZY) longest();
         abandoned();
         full_clock();
     }

@@ -142,7 +142,7 @@ static unsigned long collect(nekchhaul_caller *c, uint64_t *freed)
     while (atomic_load(&at_work)) {
         if (nekchhaul_atomically(c, choose, &least)) abort();
         if (least.room > REGION / 2) {
-            nekchhaul_pause(1024);
+            nekchhaul_spin(1024);
             continue;
         }
         take(c, least.region);

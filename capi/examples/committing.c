@@ -67,7 +67,7 @@ static void count_once(struct counter *m, uint32_t *times)
             MUST(s == 0);
             return;
         }
-        nekchhaul_wait(times);
+        nekchhaul_back_off(times);
         s = nekchhaul_commit(&m->caller);
     }
     MUST(s == 0 || s == NEKCHHAUL_CONFLICT);

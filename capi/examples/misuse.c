@@ -20,7 +20,7 @@ static void outside(uint32_t status)
 {
     uint64_t v = 77;
     size_t depth = 77, address = 0, taken = 77;
-    uint32_t pause = 77;
+    nekchhaul_pause_of pause = { 77, 77, NULL };
     IS(nekchhaul_leave(&c[0], 0, &pause), status == NEKCHHAUL_NO_CALLER ? status : (uint32_t)NEKCHHAUL_NO_ATTEMPT);
     IS(nekchhaul_leave(&c[0], NEKCHHAUL_RETRY, &pause), status == NEKCHHAUL_NO_CALLER ? status : (uint32_t)NEKCHHAUL_NO_ATTEMPT);
     IS(nekchhaul_read(&c[0], 0, &v), status);
@@ -34,14 +34,17 @@ static void outside(uint32_t status)
     IS(nekchhaul_checkpoint(&c[0], &depth), status);
     IS(nekchhaul_roll_to(&c[0], 1), status);
     IS(nekchhaul_drop_marks(&c[0], 1), status);
-    IS(v != 77 || depth != 77 || pause != 77, 0);
+    IS(v != 77 || depth != 77 || pause.times != 77 || pause.seen != 77, 0);
 }
 /* The calls for a caller in no attempt; where it `gives`, it has closed the gate to give its range back. */
 static void inside(uint32_t status, int gives)
 {
     uint64_t v = 77, words[4] = { 77, 77, 77, 77 };
-    uint32_t under = 77, pause = 77;
+    uint32_t under = 77;
+    nekchhaul_pause_of pause = { 77, 77, NULL };
     IS(nekchhaul_enter(&c[0], &pause), status);
+    IS(nekchhaul_announce(&c[0], &pause), status);
+    IS(nekchhaul_wait(&c[0]), status);
     IS(nekchhaul_begin(&c[0]), status);
     IS(nekchhaul_begin_under(&c[0], &under), status);
     IS(nekchhaul_switch(&c[0], NEKCHHAUL_TML), status);
@@ -54,32 +57,80 @@ static void inside(uint32_t status, int gives)
     if (!gives) IS(nekchhaul_learn(&c[1], &c[0]), status); /* else c[1] is in an attempt */
     IS(nekchhaul_reserve(&c[0], 8, 8), status);
     IS(nekchhaul_release(&c[0]), status);
-    IS(v != 77 || words[0] != 77 || under != 77 || pause != 77, 0);
+    IS(v != 77 || words[0] != 77 || under != 77 || pause.times != 77 || pause.seen != 77, 0);
+}
+
+/* Of each size the numbers at its limits and beside them. The first fault of these is told, so one that stands later shows that a size
+ * which would take too much is in range. */
+static uint32_t opened(size_t words, size_t records, size_t ring, size_t count, size_t reads, size_t writes, uint64_t clock)
+{
+    static nekchhaul_caller many[255];
+    const nekchhaul_sizes s = { words, records, ring, reads, writes, clock };
+    uint32_t status = nekchhaul_open(&s, NEKCHHAUL_OREC_LAZY, many, count);
+    for (size_t i = 0; i < 255; i++)
+        if (!status && i < count) IS(nekchhaul_release(&many[i]), 0);
+        else IS(many[i].tag_ != 0 || many[i].at_ != NULL, 0);
+    return status;
+}
+
+static void limits(void)
+{
+    const size_t block = 8192, small = 1048576, words = (size_t)1 << 32, records = 16777216, log = 1048576;
+    const uint64_t clock = (uint64_t)1 << 62;
+    IS(opened(0, 1, 2, 1, 1, 1, 0), NEKCHHAUL_SIZE_WORDS);
+    IS(opened(1, 1, 2, 1, 1, 1, 0), 0);
+    IS(opened(small, 1, 2, 1, 1, 1, 0), 0);
+    IS(opened(small + 1, 1, 2, 1, 1, 1, 0), NEKCHHAUL_SIZE_WORDS);
+    IS(opened(small + block - 1, 1, 2, 1, 1, 1, 0), NEKCHHAUL_SIZE_WORDS);
+    IS(opened(small + block, 1, 2, 1, 1, 1, 0), 0);
+    IS(opened(words, 0, 2, 1, 1, 1, 0), NEKCHHAUL_SIZE_RECORDS);
+    IS(opened(words + block, 0, 2, 1, 1, 1, 0), NEKCHHAUL_SIZE_WORDS);
+    IS(opened(1, 0, 2, 1, 1, 1, 0), NEKCHHAUL_SIZE_RECORDS);
+    IS(opened(1, records, 0, 1, 1, 1, 0), NEKCHHAUL_SIZE_RING);
+    IS(opened(1, records + 1, 0, 1, 1, 1, 0), NEKCHHAUL_SIZE_RECORDS);
+    IS(opened(1, 1, 1, 1, 1, 1, 0), NEKCHHAUL_SIZE_RING);
+    IS(opened(1, 1, 4096, 1, 1, 1, 0), 0);
+    IS(opened(1, 1, 4097, 1, 1, 1, 0), NEKCHHAUL_SIZE_RING);
+    IS(opened(1, 1, 2, 0, 1, 1, 0), NEKCHHAUL_SIZE_CALLERS);
+    IS(opened(block - 1, 1, 2, 62, 1, 1, 0), 0);
+    IS(opened(block - 1, 1, 2, 63, 1, 1, 0), NEKCHHAUL_SIZE_WORDS);
+    IS(opened(block, 1, 2, 63, 1, 1, 0), 0);
+    IS(opened(block, 1, 2, 254, 1, 1, 0), 0);
+    IS(opened(block, 1, 2, 255, 1, 1, 0), NEKCHHAUL_SIZE_CALLERS);
+    IS(opened(1, 1, 2, 1, 0, 1, 0), NEKCHHAUL_SIZE_LOGS);
+    IS(opened(1, 1, 2, 1, 1, 0, 0), NEKCHHAUL_SIZE_LOGS);
+    IS(opened(1, 1, 2, 1, log, log, clock + 1), NEKCHHAUL_SIZE_CLOCK);
+    IS(opened(1, 1, 2, 1, log + 1, 1, 0), NEKCHHAUL_SIZE_LOGS);
+    IS(opened(1, 1, 2, 1, 1, log + 1, 0), NEKCHHAUL_SIZE_LOGS);
+    IS(opened(1, 1, 2, 1, 1, 1, clock), 0);
+    IS(opened(1, 1, 2, 1, 1, 1, clock + 1), NEKCHHAUL_SIZE_CLOCK);
+}
+
+/* In a memory that isn't small a range is whole blocks. */
+static void blocks(void)
+{
+    const nekchhaul_sizes s = { 4 * 8192, 1, 2, 1, 1, 0 };
+    static nekchhaul_caller many[63];
+    IS(nekchhaul_open(&s, NEKCHHAUL_OREC_LAZY, many, 63), 0);
+    IS(nekchhaul_fence(&many[0], 1, 8192), NEKCHHAUL_ADDRESS);
+    IS(nekchhaul_fence(&many[0], 8192, 8191), NEKCHHAUL_ADDRESS);
+    IS(nekchhaul_fence(&many[62], 8192, 16384), 0);
+    IS(nekchhaul_direct_write(&many[62], 24575, 7), 0);
+    IS(nekchhaul_direct_write(&many[62], 24576, 7), NEKCHHAUL_NO_RANGE);
+    IS(nekchhaul_direct_write(&many[62], 8191, 7), NEKCHHAUL_NO_RANGE);
+    IS(nekchhaul_give_back(&many[62]), 0);
+    for (size_t i = 0; i < 63; i++) IS(nekchhaul_release(&many[i]), 0);
 }
 
 static void opening(void)
 {
     nekchhaul_sizes s = sizes;
-    nekchhaul_caller many[33];
-    memset(many, 0, sizeof many);
     IS(nekchhaul_open(&s, 6, c, 2), NEKCHHAUL_ALGORITHM);
-    IS(nekchhaul_open(&s, 0, many, 33), NEKCHHAUL_SIZE_CALLERS);
-    IS(nekchhaul_open(&s, 0, many, 0), NEKCHHAUL_SIZE_CALLERS);
     s.words = 0;
     IS(nekchhaul_open(&s, 0, c, 2), NEKCHHAUL_SIZE_WORDS);
-    s.words = 1048577;
-    IS(nekchhaul_open(&s, 0, c, 2), NEKCHHAUL_SIZE_WORDS);
-    s = sizes, s.records = 4097;
-    IS(nekchhaul_open(&s, 0, c, 2), NEKCHHAUL_SIZE_RECORDS);
-    s = sizes, s.ring = 65;
-    IS(nekchhaul_open(&s, 0, c, 2), NEKCHHAUL_SIZE_RING);
-    s = sizes, s.reads = 0;
-    IS(nekchhaul_open(&s, 0, c, 2), NEKCHHAUL_SIZE_LOGS);
-    s = sizes, s.writes = 4097;
-    IS(nekchhaul_open(&s, 0, c, 2), NEKCHHAUL_SIZE_LOGS);
-    s = sizes, s.clock = ((uint64_t)1 << 62) + 1;
-    IS(nekchhaul_open(&s, 0, c, 2), NEKCHHAUL_SIZE_CLOCK);
     for (int i = 0; i < 2; i++) IS(c[i].tag_ != 0 || c[i].at_ != NULL, 0);
+    limits();
+    blocks();
 }
 
 /* Many writes in one call: in order, and none after one that is refused. */
@@ -160,7 +211,9 @@ static void attempts(void)
     IS(nekchhaul_roll_to(&c[0], 1), 0);
     IS(nekchhaul_cancel(&c[0]), 0);
     IS(nekchhaul_reserve(&c[0], 0, 1), NEKCHHAUL_LOGS);
-    IS(nekchhaul_reserve(&c[0], 1, 4097), NEKCHHAUL_LOGS);
+    IS(nekchhaul_reserve(&c[0], 1, 1048577), NEKCHHAUL_LOGS);
+    IS(nekchhaul_reserve(&c[0], 1048577, 1), NEKCHHAUL_LOGS);
+    IS(nekchhaul_reserve(&c[0], 1048576, 1), 0);
     IS(nekchhaul_reserve(&c[0], 16, 16), 0);
 }
 
@@ -327,7 +380,7 @@ static void counting(void)
 static void loop_by_hand(void)
 {
     uint64_t v = 77;
-    uint32_t pause = 77;
+    nekchhaul_pause_of pause = { 77, 77, NULL };
     IS(nekchhaul_enter(&c[0], &pause), NEKCHHAUL_RUN);
     inside(NEKCHHAUL_IN_ATTEMPT, 0);
     IS(nekchhaul_commit(&c[0]), NEKCHHAUL_IN_ATTEMPT);
@@ -338,7 +391,7 @@ static void loop_by_hand(void)
     IS(nekchhaul_read(&c[0], 0, &v), 0);
     IS(v, 9);
     IS(nekchhaul_leave(&c[0], NEKCHHAUL_RETRY, &pause), NEKCHHAUL_PAUSE);
-    IS(pause == 77, 0);
+    IS(pause.times == 77 || pause.seen != 0, 0);
     IS(nekchhaul_leave(&c[0], 0, &pause), NEKCHHAUL_NO_ATTEMPT);
     IS(nekchhaul_enter(&c[0], &pause), NEKCHHAUL_RUN);
     IS(nekchhaul_read(&c[0], 0, &v), 0);

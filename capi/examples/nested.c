@@ -138,7 +138,7 @@ static void by_hand(nekchhaul_caller *c)
 static uint32_t put_for_good_and_stop(nekchhaul_caller *c, void *word)
 {
     uint32_t s;
-    while ((s = nekchhaul_become_irrevocable(c)) == NEKCHHAUL_BUSY) nekchhaul_pause(32);
+    while ((s = nekchhaul_become_irrevocable(c)) == NEKCHHAUL_BUSY) nekchhaul_spin(32);
     return s ? s : put_and_stop(c, word);
 }
 

@@ -107,7 +107,7 @@ static void *install_all(void *caller)
         uint32_t times = 32;
         if (nekchhaul_install(caller, i % 6)) abort();
         unsigned long until = done_by_all() + THREADS * transfers / SWITCHES;
-        while (done_by_all() < until) nekchhaul_wait(&times);
+        while (done_by_all() < until) nekchhaul_back_off(&times);
     }
     atomic_store(&switching, 0);
     return NULL;

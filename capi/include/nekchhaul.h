@@ -8,7 +8,7 @@
  * ANSWERS. Every call returns, whatever was called before, and answers a nekchhaul_status. 0 is done. 1 to 15 say what
  * came in the way of the transaction. 16 and up, but for what loops answer, say that the call didn't fit, or that no memory
  * was opened: then nothing has changed. A value behind a pointer is written only where the answer is 0 (nekchhaul_read_many,
- * nekchhaul_write_many and the loop's calls say more). No call waits. nekchhaul_open, nekchhaul_reserve and nekchhaul_enter
+ * nekchhaul_write_many and the loop's calls say more). No call waits, but for those that are C. nekchhaul_open, nekchhaul_reserve and nekchhaul_enter
  * alone take memory.
  *
  * OWNERSHIP. The two words of a handle are the caller's storage, and the library alone reads and writes them. A handle
@@ -83,9 +83,9 @@ typedef enum nekchhaul_status {
     NEKCHHAUL_NO_RANGES = 27,   /* never: memories opened here take ranges */
     NEKCHHAUL_NO_RANGE = 28,    /* the caller has no range, or the word isn't in it */
     NEKCHHAUL_DEPTH = 30,       /* no such mark stands */
-    NEKCHHAUL_LOGS = 31,        /* of reserve: a length isn't 1 to 4,096 */
+    NEKCHHAUL_LOGS = 31,        /* of reserve: a length isn't 1 to 1,048,576 */
     NEKCHHAUL_ROOM = 32,        /* of close, read_many and write_many: too few places */
-    NEKCHHAUL_SIZE_WORDS = 33,  /* of open: this number is out of its range */
+    NEKCHHAUL_SIZE_WORDS = 33,  /* of open: this number is out of its range; of words, or they are no whole blocks of 8,192 */
     NEKCHHAUL_SIZE_RECORDS = 34,
     NEKCHHAUL_SIZE_RING = 35,
     NEKCHHAUL_SIZE_CALLERS = 36,
@@ -117,11 +117,11 @@ typedef enum nekchhaul_algorithm {
 
 /* The sizes of a memory. */
 typedef struct nekchhaul_sizes {
-    size_t words;    /* 1 to 1,048,576 */
-    size_t records;  /* ownership records, 1 to 4,096 */
-    size_t ring;     /* ring slots, 2 to 64 */
-    size_t reads;    /* a read log's length, 1 to 4,096 */
-    size_t writes;   /* a write log's length, 1 to 4,096 */
+    size_t words;    /* 1 to 4,294,967,296; with more than 1,048,576, or more than 62 callers, a multiple of 8,192 */
+    size_t records;  /* ownership records, 1 to 16,777,216 */
+    size_t ring;     /* ring slots, 2 to 4,096 */
+    size_t reads;    /* a read log's length, 1 to 1,048,576 */
+    size_t writes;   /* a write log's length, 1 to 1,048,576 */
     uint64_t clock;  /* 0, or the clock of a memory that went before; at most 2^62 */
 } nekchhaul_sizes;
 
@@ -153,7 +153,7 @@ typedef struct nekchhaul_state_of {
  *   HELD          `first` is the lock word, or the odd clock
  *   BUSY          caller `first` was in an attempt: `second` is its status word
  *   AGAIN         the word `first`, 0 the clock and 1 the lock, was `second` and is `third`
- *   LOG_FULL, DEEP    `first` is the limit
+ *   LOG_FULL, DEEP    `first` is the limit; of a full log its kind is 1 where that is the read log, 2 where it is one of writes
  *   CLOCK_FULL    `first` is the clock
  *   RANGE_TAKEN   `first` is the gate's word */
 typedef struct nekchhaul_cause {
@@ -174,12 +174,19 @@ typedef struct nekchhaul_counts_of {
     uint64_t record_conflicts, moved_conflicts, filter_conflicts, overrun_conflicts;
 } nekchhaul_counts_of;
 
+/* How long to pause. */
+typedef struct nekchhaul_pause_of {
+    uint32_t times;     /* so often the processor's short pause */
+    uint32_t seen;      /* or, where this isn't 0, a sleep while the low 32 bits of the word at `at` are so */
+    const uint64_t *at;
+} nekchhaul_pause_of;
+
 /* NEKCHHAUL_VERSION_MAJOR and _MINOR of the archive, as 65,536 * major + minor; and NEKCHHAUL_UNPROVED more where it is one
  * of `capi/build.sh --unproved`, for trying. */
 uint32_t nekchhaul_version(void);
 #define NEKCHHAUL_UNPROVED 0x80000000u
 
-/* Opens a memory of zeros under an algorithm, and makes `count` callers of it, 1 to 32. Answers ALGORITHM, HOLDS_CALLER,
+/* Opens a memory of zeros under an algorithm, and makes `count` callers of it, 1 to 254. Answers ALGORITHM, HOLDS_CALLER,
  * SIZE_WORDS to SIZE_CLOCK or MEMORY, and then no handle has changed; or BUSY where another caller was in the way of the
  * install, which nobody is who hasn't a handle yet: then the memory is open, under CGL, and each handle holds its caller. */
 NEKCHHAUL_CALL uint32_t nekchhaul_open(const nekchhaul_sizes *sizes, uint32_t algorithm, nekchhaul_caller *callers, size_t count);
@@ -228,18 +235,18 @@ NEKCHHAUL_CALL uint32_t nekchhaul_become_irrevocable(nekchhaul_caller *caller);
  * algorithm couldn't take it back. It hands on each answer that ends its attempt, and runs again; nekchhaul_begin,
  * nekchhaul_commit and nekchhaul_cancel answer IN_ATTEMPT in it. */
 
-/* Begins an attempt for a body. RUN: run it, and call nekchhaul_leave. PAUSE: another is in the way; nekchhaul_pause(*pause), and
+/* Begins an attempt for a body. RUN: run it, and call nekchhaul_leave. PAUSE: another is in the way; nekchhaul_pause(pause), and
  * enter again. 0: the commit that nekchhaul_leave put off is done. Any other answer ends the loop, with nothing left:
  * CLOCK_FULL; MEMORY where a full log couldn't be made longer; IN_ATTEMPT, CLOSING. */
-NEKCHHAUL_CALL uint32_t nekchhaul_enter(nekchhaul_caller *caller, uint32_t *pause);
+NEKCHHAUL_CALL uint32_t nekchhaul_enter(nekchhaul_caller *caller, nekchhaul_pause_of *pause);
 
 /* Ends that attempt by `how`, which is what the body answered: 0, the status of a call, RETRY, or NEKCHHAUL_STOP + n. 0: it took
- * effect at one moment. PAUSE: the attempt left nothing, or its commit is put off; nekchhaul_pause(*pause), and enter again. Any
+ * effect at one moment. PAUSE: the attempt left nothing, or its commit is put off; nekchhaul_pause(pause), and enter again. Any
  * other answer ends the loop, with nothing left: what the body answered where that was STOP + n, a misuse, DEEP or RANGE_TAKEN,
  * and FENCED only where the caller has a range itself or all words are out; LOG_FULL where it writes more words than a log of
- * 4,096 items has; CLOCK_FULL. With IRREVOCABLE what it wrote stands: nekchhaul_become_irrevocable had answered 0, and then the
+ * 1,048,576 items has; CLOCK_FULL. With IRREVOCABLE what it wrote stands: nekchhaul_become_irrevocable had answered 0, and then the
  * body didn't. After PAUSE a `how` other than 0 gives the loop up. NO_ATTEMPT: no attempt of a loop is open. */
-NEKCHHAUL_CALL uint32_t nekchhaul_leave(nekchhaul_caller *caller, uint32_t how, uint32_t *pause);
+NEKCHHAUL_CALL uint32_t nekchhaul_leave(nekchhaul_caller *caller, uint32_t how, nekchhaul_pause_of *pause);
 
 /* THE CALLS THAT MUST BE ALONE: nekchhaul_switch, nekchhaul_fence, nekchhaul_give_back and nekchhaul_close. Each closes the
  * gate, so that no attempt of others begins, and looks once whether those that run have ended. Where one hasn't, the answer
@@ -283,7 +290,7 @@ NEKCHHAUL_CALL uint32_t nekchhaul_give_back(nekchhaul_caller *caller);
  * GATE_CLOSED, BUSY, RANGE_TAKEN; IN_ATTEMPT, HOLDS_RANGE, ROOM, CLOSING. */
 NEKCHHAUL_CALL uint32_t nekchhaul_close(nekchhaul_caller *caller, uint64_t *words, size_t count);
 
-/* Makes the caller's logs longer, each 1 to 4,096. One that is as long already stays. MEMORY, and then all is as
+/* Makes the caller's logs longer, each 1 to 1,048,576. One that is as long already stays. MEMORY, and then all is as
  * before; IN_ATTEMPT, LOGS, CLOSING. */
 NEKCHHAUL_CALL uint32_t nekchhaul_reserve(nekchhaul_caller *caller, size_t reads, size_t writes);
 
@@ -299,6 +306,12 @@ NEKCHHAUL_CALL uint32_t nekchhaul_counts(nekchhaul_caller *caller, nekchhaul_cou
 
 /* Lets a caller go that is in no attempt; the handle is no caller then. IN_ATTEMPT, HOLDS_RANGE, CLOSING. */
 NEKCHHAUL_CALL uint32_t nekchhaul_release(nekchhaul_caller *caller);
+
+/* What nekchhaul_wait and nekchhaul_wake, below, are made of. The first announces that the caller's user will wait, 0, and the next
+ * attempt is to look whether it has to; PAUSE where one has that wrote nothing, and began after it was announced:
+ * nekchhaul_pause(pause). IN_ATTEMPT, CLOSING. The second wakes all who sleep so, or in a loop. */
+NEKCHHAUL_CALL uint32_t nekchhaul_announce(nekchhaul_caller *caller, nekchhaul_pause_of *pause);
+NEKCHHAUL_CALL uint32_t nekchhaul_ring(nekchhaul_caller *caller);
 
 /* ---- From here on it is C, and not proved. ------------------------------------------------------------------------ */
 
@@ -361,10 +374,11 @@ NEKCHHAUL_INLINE const char *nekchhaul_status_name(uint32_t status)
 #undef NEKCHHAUL_NAME
 }
 
-/* Sizes to begin with, for so many words: 1,024 records, 64 ring slots, logs of 64 items, which the loops below lengthen. */
+/* Sizes to begin with, for so many words: as many records, 65,536 at most, 64 ring slots, logs of 64 items, which the loops below
+ * lengthen. */
 NEKCHHAUL_INLINE nekchhaul_sizes nekchhaul_sizes_of(size_t words)
 {
-    nekchhaul_sizes sizes = { words, 1024, 64, 64, 64, 0 };
+    nekchhaul_sizes sizes = { words, words < 65536 ? words : 65536, 64, 64, 64, 0 };
     return sizes;
 }
 
@@ -386,8 +400,13 @@ NEKCHHAUL_INLINE uint32_t nekchhaul_learn(nekchhaul_caller *to, nekchhaul_caller
     return to->tag_ ? (uint32_t)NEKCHHAUL_ONE_CALLER : (uint32_t)NEKCHHAUL_NO_CALLER;
 }
 
+/* Sleeps while the low 32 bits of the word at `at` are `seen`, by the system's futex, and looks every two milliseconds: a commit changes
+ * the word and wakes nobody. It sleeps for a tenth of a second at most, since a body may look at more than the memory. The library's
+ * own function. */
+void nekchhaul_sleep(const uint64_t *at, uint32_t seen);
+
 /* Pauses the processor so many times, and from 1,024 on lets another thread run. */
-NEKCHHAUL_INLINE void nekchhaul_pause(uint32_t times)
+static inline void nekchhaul_spin(uint32_t times)
 {
     for (uint32_t i = 0; i < times; i++)
 #if defined(__x86_64__)
@@ -398,11 +417,39 @@ NEKCHHAUL_INLINE void nekchhaul_pause(uint32_t times)
     if (times >= 1024) sched_yield();
 }
 
-/* Pauses twice as long each time, up to 1,024; `*times` is 32 at first. */
-static inline void nekchhaul_wait(uint32_t *times)
+/* The same twice as often each time, up to 1,024; `*times` is 32 at first. */
+static inline void nekchhaul_back_off(uint32_t *times)
 {
-    nekchhaul_pause(*times);
+    nekchhaul_spin(*times);
     if (*times < 1024) *times *= 2;
+}
+
+/* Pauses as nekchhaul_enter and nekchhaul_leave say. After some runs of a body that answers RETRY it sleeps until another caller has
+ * committed a write of a word that they read. */
+NEKCHHAUL_INLINE void nekchhaul_pause(const nekchhaul_pause_of *pause)
+{
+    if (pause->seen) nekchhaul_sleep(pause->at, pause->seen);
+    else nekchhaul_spin(pause->times);
+}
+
+/* After an attempt of nekchhaul_begin that committed, wrote nothing, and found that its user has to wait: returns soon, or once another
+ * caller has committed a write of a word that it read; then look again. So it is called in a loop, and the first call returns at
+ * once. IN_ATTEMPT, CLOSING. */
+NEKCHHAUL_INLINE uint32_t nekchhaul_wait(nekchhaul_caller *caller)
+{
+    nekchhaul_pause_of pause;
+    uint32_t s = nekchhaul_announce(caller, &pause);
+    if (s != NEKCHHAUL_PAUSE) return s;
+    nekchhaul_pause(&pause);
+    return NEKCHHAUL_OK;
+}
+
+/* Wakes all who sleep so or in a loop, in the memory of this caller: their bodies run again, and see what its thread had stored
+ * elsewhere before, as a flag by which they are to stop. */
+NEKCHHAUL_INLINE uint32_t nekchhaul_wake(nekchhaul_caller *caller)
+{
+    __atomic_thread_fence(__ATOMIC_SEQ_CST);
+    return nekchhaul_ring(caller);
 }
 
 /* Ends an attempt of nekchhaul_begin that is to leave no trace. Where it can only be committed (always under CGL, under TML after
@@ -411,7 +458,7 @@ NEKCHHAUL_INLINE uint32_t nekchhaul_abandon(nekchhaul_caller *caller)
 {
     uint32_t s = nekchhaul_cancel(caller), times = 32;
     if (s == NEKCHHAUL_IRREVOCABLE)
-        while (nekchhaul_commit(caller) == NEKCHHAUL_AGAIN) nekchhaul_wait(&times);
+        while (nekchhaul_commit(caller) == NEKCHHAUL_AGAIN) nekchhaul_back_off(&times);
     return s;
 }
 
@@ -443,17 +490,18 @@ NEKCHHAUL_INLINE uint32_t nekchhaul_or_else(nekchhaul_caller *caller, nekchhaul_
 }
 
 /* The loop: runs `body` until an attempt took effect, 0, or nothing is left of it, as nekchhaul_enter and nekchhaul_leave answer; it
- * waits by pauses. A body is left by its return alone, never by longjmp, and uses no other caller of the same memory: it would wait
+ * waits by pauses and sleeps. A body is left by its return alone, never by longjmp, and uses no other caller of the same memory: it would wait
  * for itself. Inside a body of the same caller it is nekchhaul_nested. */
 NEKCHHAUL_INLINE uint32_t nekchhaul_atomically(nekchhaul_caller *caller, nekchhaul_body body, void *argument)
 {
-    uint32_t s, times = 0;
+    nekchhaul_pause_of pause;
+    uint32_t s;
     for (;;) {
-        s = nekchhaul_enter(caller, &times);
+        s = nekchhaul_enter(caller, &pause);
         if (s == NEKCHHAUL_IN_ATTEMPT) return nekchhaul_nested(caller, body, argument);
-        if (s == NEKCHHAUL_RUN) s = nekchhaul_leave(caller, body(caller, argument), &times);
+        if (s == NEKCHHAUL_RUN) s = nekchhaul_leave(caller, body(caller, argument), &pause);
         if (s != NEKCHHAUL_PAUSE) return s;
-        nekchhaul_pause(times);
+        nekchhaul_pause(&pause);
     }
 }
 /* What is to be done outside of the memory, as by an allocator, for each run of a body once: one of the two, with the body's argument.
@@ -466,17 +514,18 @@ typedef struct nekchhaul_hooks {
 /* The same loop with hooks. Inside a body of the same caller, which may still fail, it isn't run: IN_ATTEMPT. */
 NEKCHHAUL_INLINE uint32_t nekchhaul_atomically_with(nekchhaul_caller *caller, nekchhaul_body body, const nekchhaul_hooks *hooks, void *argument)
 {
-    uint32_t s, times = 0;
+    nekchhaul_pause_of pause;
+    uint32_t s;
     int ran = 0;
     for (;;) {
-        s = nekchhaul_enter(caller, &times);
+        s = nekchhaul_enter(caller, &pause);
         if (s == NEKCHHAUL_RUN) {
             if (ran) hooks->aborted(argument);
             ran = 1;
-            s = nekchhaul_leave(caller, body(caller, argument), &times);
+            s = nekchhaul_leave(caller, body(caller, argument), &pause);
         }
         if (s != NEKCHHAUL_PAUSE) break;
-        nekchhaul_pause(times);
+        nekchhaul_pause(&pause);
     }
     if (ran) (s == NEKCHHAUL_OK || s == NEKCHHAUL_IRREVOCABLE ? hooks->committed : hooks->aborted)(argument);
     return s;
@@ -492,7 +541,7 @@ static inline int nekchhaul_is_to_go_on(nekchhaul_caller *caller, uint32_t statu
         return 0;
     }
     if (*tries) --*tries;
-    nekchhaul_wait(times);
+    nekchhaul_back_off(times);
     return 1;
 }
 

@@ -137,7 +137,7 @@ public:
     void become_irrevocable()
     {
         uint32_t s, times = 32;
-        while ((s = nekchhaul_become_irrevocable(caller_)) == NEKCHHAUL_BUSY) nekchhaul_wait(&times);
+        while ((s = nekchhaul_become_irrevocable(caller_)) == NEKCHHAUL_BUSY) nekchhaul_back_off(&times);
         ask(s);
     }
     nekchhaul_state_of state()
@@ -196,7 +196,7 @@ public:
     void commit()
     {
         uint32_t s, times = 32;
-        while ((s = nekchhaul_commit(caller_)) == NEKCHHAUL_AGAIN) nekchhaul_wait(&times);
+        while ((s = nekchhaul_commit(caller_)) == NEKCHHAUL_AGAIN) nekchhaul_back_off(&times);
         ask(s);
     }
     // IRREVOCABLE where it could only be committed: what it wrote stands.
@@ -214,7 +214,7 @@ class caller {
     }
 
     // Runs the body in the attempt that is open, and leaves it; keeps what it throws.
-    template <class F> uint32_t run_once(F &body, attempt::kept<attempt::answer<F>> &answer, std::exception_ptr &thrown, uint32_t *times)
+    template <class F> uint32_t run_once(F &body, attempt::kept<attempt::answer<F>> &answer, std::exception_ptr &thrown, nekchhaul_pause_of *pause)
     {
         uint32_t how = NEKCHHAUL_OK;
         in_body_ = true;
@@ -227,7 +227,7 @@ class caller {
             how = NEKCHHAUL_STOP;
         }
         in_body_ = false;
-        return nekchhaul_leave(&handle_, how, times);
+        return nekchhaul_leave(&handle_, how, pause);
     }
 
     // What the body threw goes on where nothing is left of it.
@@ -248,16 +248,17 @@ class caller {
         attempt::kept<attempt::answer<F>> answer;
         std::exception_ptr thrown;
         bool ran = false;
-        uint32_t s, times = 0;
+        nekchhaul_pause_of pause;
+        uint32_t s;
         for (;;) {
-            s = nekchhaul_enter(&handle_, &times);
+            s = nekchhaul_enter(&handle_, &pause);
             if (nests && s == NEKCHHAUL_IN_ATTEMPT) return attempt(&handle_, !in_body_).nested(body);
             if (s == NEKCHHAUL_RUN) {
                 if (std::exchange(ran, true)) aborted();
-                s = run_once(body, answer, thrown, &times);
+                s = run_once(body, answer, thrown, &pause);
             }
             if (s != NEKCHHAUL_PAUSE) break;
-            nekchhaul_pause(times);
+            nekchhaul_pause(&pause);
         }
         if (ran && (s == NEKCHHAUL_OK || s == NEKCHHAUL_IRREVOCABLE)) committed();
         else if (ran) aborted();
@@ -305,6 +306,11 @@ public:
     {
         return loop<false>(body, committed, aborted);
     }
+
+    // After an attempt of begin that committed, wrote nothing, and found that it has to wait: returns once it may be worth another.
+    void wait() { ask(nekchhaul_wait(&handle_)); }
+    // Wakes all who sleep by that or in a loop.
+    void wake() { ask(nekchhaul_wake(&handle_)); }
 
     // The calls that must be alone wait for the attempts of others, or are made so many `tries`; after the last of these the
     // error is BUSY or GATE_CLOSED.

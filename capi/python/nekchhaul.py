@@ -53,6 +53,10 @@ class Counts(Structure):
         "clock_conflicts", "record_conflicts", "moved_conflicts", "filter_conflicts", "overrun_conflicts")]
 
 
+class _Pause(Structure):
+    _fields_ = [("times", c_uint32), ("seen", c_uint32), ("at", c_void_p)]
+
+
 class _Handle(Structure):
     _fields_ = [("tag", c_uint64), ("at", c_void_p)]
 
@@ -72,13 +76,13 @@ _CALLS = {
     "begin": [], "commit": [], "abandon": [], "release": [], "reopen": [], "become_irrevocable": [], "reserve": [c_size_t, c_size_t],
     "read": [c_size_t, _VALUE], "write": [c_size_t, c_uint64], "read_many": _MANY, "write_many": [*_MANY, _DEPTH],
     "checkpoint": [_DEPTH], "roll_to": [c_size_t], "drop_marks": [c_size_t], "direct_read": [c_size_t, _VALUE], "direct_write": [c_size_t, c_uint64],
-    "enter": [POINTER(c_uint32)], "leave": [c_uint32, POINTER(c_uint32)],
+    "enter": [POINTER(_Pause)], "leave": [c_uint32, POINTER(_Pause)], "wait": [], "wake": [],
     "install_within": [c_uint32, c_ulong], "take_range_within": [c_size_t, c_size_t, c_ulong], "return_range_within": [c_ulong],
     "end_within": [_VALUE, c_size_t, c_ulong], "learn": [POINTER(_Handle)], "state": [POINTER(State)], "why": [POINTER(Cause)], "counts": [POINTER(Counts)],
 }
 for _name, _words in _CALLS.items():
     getattr(_lib, f"nekchhaul_{_name}").argtypes = [POINTER(_Handle), *_words]
-_lib.nekchhaul_pause.argtypes, _lib.nekchhaul_pause.restype = [c_uint32], None
+_lib.nekchhaul_pause.argtypes, _lib.nekchhaul_pause.restype = [POINTER(_Pause)], None
 _lib.nekchhaul_open.argtypes = [POINTER(Sizes), c_uint32, POINTER(_Handle), c_size_t]
 _lib.nekchhaul_status_name.restype = c_char_p
 _lib.nekchhaul_sizes_of.argtypes, _lib.nekchhaul_sizes_of.restype = [c_size_t], Sizes
@@ -257,7 +261,7 @@ class Caller:
         return self._loop(body, committed, aborted, False)
 
     def _loop(self, body, committed, aborted, nests):
-        pause, answer, raised, ran = c_uint32(), None, None, False
+        pause, answer, raised, ran = _Pause(), None, None, False
         while True:
             status = _lib.nekchhaul_enter(self._handle, byref(pause))
             if nests and status == IN_ATTEMPT:
@@ -270,7 +274,7 @@ class Caller:
                 status = _lib.nekchhaul_leave(self._handle, how, byref(pause))
             if status != PAUSE:
                 break
-            _lib.nekchhaul_pause(pause.value)
+            _lib.nekchhaul_pause(byref(pause))
         if ran:
             (committed if status in (0, IRREVOCABLE) else aborted)()
         if not status:
@@ -295,6 +299,15 @@ class Caller:
         """Begins an attempt by hand: `with caller.begin() as t: t.write(0, 1); t.commit()`."""
         _ask(_lib.nekchhaul_begin(self._handle))
         return Begun(self._handle)
+
+    def wait(self):
+        """After an attempt of `begin` that committed, wrote nothing, and found that it has to wait: returns soon, or once another caller
+        has committed a write of a word that it read; then look again."""
+        _ask(_lib.nekchhaul_wait(self._handle))
+
+    def wake(self):
+        """Wakes all who sleep by `wait` or in a loop, in its memory."""
+        _ask(_lib.nekchhaul_wake(self._handle))
 
     def install(self, algorithm, tries=0):
         """Waits for the attempts of others, as the other calls that must be alone do, or makes so many tries."""

@@ -1,5 +1,5 @@
 //! Attempts, and the bodies that run in them.
-use crate::raw::{self, Handle};
+use crate::raw::{self, Handle, Pause};
 use crate::status::told;
 use crate::{State, Status, Value, Word};
 use std::mem::{forget, replace};
@@ -227,7 +227,7 @@ struct Entered<'a, H: Hooks> {
 }
 
 impl<H: Hooks> Entered<'_, H> {
-    fn leave(self, how: u32, pause: &mut u32) -> u32 {
+    fn leave(self, how: u32, pause: &mut Pause) -> u32 {
         // SAFETY: both lead to objects of their own, and the handle is this attempt's alone, here and below.
         let status = unsafe { raw::nekchhaul_leave(self.handle, how, pause) };
         forget(self);
@@ -237,8 +237,9 @@ impl<H: Hooks> Entered<'_, H> {
 
 impl<H: Hooks> Drop for Entered<'_, H> {
     fn drop(&mut self) {
+        let mut pause = Pause::NONE;
         // SAFETY: as above.
-        let status = unsafe { raw::nekchhaul_leave(self.handle, Status::stop(0).number(), &mut 0) };
+        let status = unsafe { raw::nekchhaul_leave(self.handle, Status::stop(0).number(), &mut pause) };
         told_hooks(self.hooks, status);
     }
 }
@@ -249,7 +250,7 @@ pub(crate) fn run<T, H: Hooks>(
     hooks: &mut H,
     mut body: impl FnMut(&mut Attempt<'_>, &mut H) -> Result<T, Status>,
 ) -> Result<T, Status> {
-    let (mut pause, mut answer, mut ran) = (0, None, false);
+    let (mut pause, mut answer, mut ran) = (Pause::NONE, None, false);
     loop {
         // SAFETY: both lead to objects of their own, and the handle is this loop's alone.
         let mut status = unsafe { raw::nekchhaul_enter(handle, &mut pause) };
@@ -267,7 +268,7 @@ pub(crate) fn run<T, H: Hooks>(
             }
             return told(status).map(|()| answer.expect("a body that was run to its end has answered"));
         }
-        // SAFETY: it takes a number.
-        unsafe { raw::nekchhaul_pause(pause) };
+        // SAFETY: the memory, by which it may sleep, stays while its caller does.
+        unsafe { raw::nekchhaul_pause(&pause) };
     }
 }

@@ -152,7 +152,7 @@ pub fn open(sizes: &Sizes, algorithm: Algorithm, count: usize) -> Result<Vec<Cal
 impl Caller {
     /// Runs a transaction until it commits, and answers what it does. It may stop, under each algorithm: by [`Status::stop`], by a
     /// panic, or by what a call that doesn't fit gave it. Then it has left nothing; but `IRREVOCABLE` says that the body had
-    /// made the attempt so, and what it wrote stands. A full log is made longer, up to 4,096 items, and then answered as
+    /// made the attempt so, and what it wrote stands. A full log is made longer, up to 1,048,576 items, and then answered as
     /// `LOG_FULL`. Where a body meets another caller's range it is run again once that is back.
     pub fn atomically<T>(&mut self, mut body: impl FnMut(&mut Attempt<'_>) -> Result<T, Status>) -> Result<T, Status> {
         self.atomically_with(&mut (), |t, ()| body(t))
@@ -181,6 +181,19 @@ impl Caller {
             unsafe { raw::nekchhaul_abandon(&mut self.handle) };
             self.is_open = false;
         }
+    }
+
+    /// After an attempt of [`Caller::begin`] that committed, wrote nothing, and found that it has to wait: returns soon, or once
+    /// another caller has committed a write of a word that it read; then look again.
+    pub fn wait(&mut self) -> Result<(), Status> {
+        // SAFETY: the handle is this caller's alone, here and below.
+        told(unsafe { raw::nekchhaul_wait(&mut self.handle) })
+    }
+
+    /// Wakes all who sleep by [`Caller::wait`] or in a loop, in its memory.
+    pub fn wake(&mut self) -> Result<(), Status> {
+        // SAFETY: as above.
+        told(unsafe { raw::nekchhaul_wake(&mut self.handle) })
     }
 
     /// Installs an algorithm, once the others' attempts have ended.
@@ -254,7 +267,7 @@ impl Caller {
         self.direct_write(word.address(), value.into_bits())
     }
 
-    /// Makes its logs longer, each 1 to 4,096.
+    /// Makes its logs longer, each 1 to 1,048,576.
     pub fn reserve(&mut self, reads: usize, writes: usize) -> Result<(), Status> {
         // SAFETY: as above.
         told(unsafe { raw::nekchhaul_reserve(&mut self.handle, reads, writes) })

@@ -16,15 +16,15 @@ impl Handle {
 #[repr(C)]
 #[derive(Clone, Copy, Debug, PartialEq, Eq)]
 pub struct Sizes {
-    /// 1 to 1,048,576.
+    /// 1 to 4,294,967,296; with more than 1,048,576, or more than 62 callers, a multiple of 8,192.
     pub words: usize,
-    /// Ownership records, 1 to 4,096.
+    /// Ownership records, 1 to 16,777,216.
     pub records: usize,
-    /// Ring slots, 2 to 64.
+    /// Ring slots, 2 to 4,096.
     pub ring: usize,
-    /// A read log's length, 1 to 4,096.
+    /// A read log's length, 1 to 1,048,576.
     pub reads: usize,
-    /// A write log's length, 1 to 4,096.
+    /// A write log's length, 1 to 1,048,576.
     pub writes: usize,
     /// 0, or the clock of a memory that went before.
     pub clock: u64,
@@ -78,6 +78,18 @@ pub(crate) struct Why {
     pub(crate) third: u64,
 }
 
+/// How long to pause.
+#[repr(C)]
+pub(crate) struct Pause {
+    times: u32,
+    seen: u32,
+    at: *const u64,
+}
+
+impl Pause {
+    pub(crate) const NONE: Pause = Pause { times: 0, seen: 0, at: std::ptr::null() };
+}
+
 extern "C" {
     pub(crate) fn nekchhaul_version() -> u32;
     pub(crate) fn nekchhaul_open(sizes: *const Sizes, algorithm: u32, callers: *mut Handle, count: usize) -> u32;
@@ -88,8 +100,8 @@ extern "C" {
     pub(crate) fn nekchhaul_write_many(caller: *mut Handle, addresses: *const usize, count: usize, values: *const u64, places: usize, taken: *mut usize) -> u32;
     pub(crate) fn nekchhaul_commit(caller: *mut Handle) -> u32;
     pub(crate) fn nekchhaul_become_irrevocable(caller: *mut Handle) -> u32;
-    pub(crate) fn nekchhaul_enter(caller: *mut Handle, pause: *mut u32) -> u32;
-    pub(crate) fn nekchhaul_leave(caller: *mut Handle, how: u32, pause: *mut u32) -> u32;
+    pub(crate) fn nekchhaul_enter(caller: *mut Handle, pause: *mut Pause) -> u32;
+    pub(crate) fn nekchhaul_leave(caller: *mut Handle, how: u32, pause: *mut Pause) -> u32;
     pub(crate) fn nekchhaul_reopen(caller: *mut Handle) -> u32;
     pub(crate) fn nekchhaul_checkpoint(caller: *mut Handle, depth: *mut usize) -> u32;
     pub(crate) fn nekchhaul_roll_to(caller: *mut Handle, depth: usize) -> u32;
@@ -109,7 +121,9 @@ extern "C" {
     pub(crate) fn nekchhaul_sizes_of(words: usize) -> Sizes;
     pub(crate) fn nekchhaul_learn(to: *mut Handle, from: *mut Handle) -> u32;
     pub(crate) fn nekchhaul_abandon(caller: *mut Handle) -> u32;
-    pub(crate) fn nekchhaul_pause(times: u32);
+    pub(crate) fn nekchhaul_pause(pause: *const Pause);
+    pub(crate) fn nekchhaul_wait(caller: *mut Handle) -> u32;
+    pub(crate) fn nekchhaul_wake(caller: *mut Handle) -> u32;
     pub(crate) fn nekchhaul_install_within(caller: *mut Handle, algorithm: u32, tries: c_ulong) -> u32;
     pub(crate) fn nekchhaul_take_range_within(caller: *mut Handle, from: usize, count: usize, tries: c_ulong) -> u32;
     pub(crate) fn nekchhaul_return_range_within(caller: *mut Handle, tries: c_ulong) -> u32;

@@ -28,7 +28,7 @@ statuses! {
     BUSY = 4;
     /// Another commit was faster.
     AGAIN = 5;
-    /// A log of 4,096 items is full.
+    /// A log of 1,048,576 items is full.
     LOG_FULL = 6;
     /// The clock is at its limit: nothing more is committed to this memory.
     CLOCK_FULL = 7;
@@ -53,7 +53,7 @@ statuses! {
     NO_RANGE = 28;
     /// No such mark stands.
     DEPTH = 30;
-    /// A log's length isn't 1 to 4,096.
+    /// A log's length isn't 1 to 1,048,576.
     LOGS = 31;
     /// There are fewer places than words or addresses.
     ROOM = 32;

@@ -28,6 +28,7 @@ use tx_answers::answers::Commit;
 
 /// Commits what lies in place, or goes on with a commit that answered Again: those of a validation then, one step for
 /// the entry and one for each record.
+#[inline(always)]
 pub(crate) fn commit_placed<K: MemRule>(
     seat: &mut Token<K>,
     local: &mut Local,
@@ -100,6 +101,8 @@ fn revalidate<K: MemRule>(
 /// Commits what a promoted attempt stored, gives its records back at the time of the entry, stores it in BASE and in
 /// DONE, and reopens the gate. Five steps, and one for each record; two, and those of `give_above`, where nothing is
 /// written.
+#[cold]
+#[inline(never)]
 pub(crate) fn commit_direct<K: MemRule>(desc: &mut Desc<K>, stm: &Stm<K>) -> Commit
     requires stm { IsOf desc.old stm.now }
     requires running { (known desc.old).running ≡ true }

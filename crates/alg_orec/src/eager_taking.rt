@@ -60,7 +60,7 @@ pub(crate) fn take_record<K: MemRule>(
             after: found,
         }));
     }
-    local.locks.push(index, version);
+    local.locks.push_new(index, version);
     Ok(())
 }
 
@@ -82,8 +82,8 @@ pub(crate) fn store_first<K: MemRule>(
     ensures steps { TakesAtMost 2 (view_of seat.old) (view_of seat.new) }
 {
     let old = save(stm, seat, caller, a);
-    local.undo.push(a, old);
+    local.undo.push_new(a, old);
     place(stm, seat, caller, a, x);
-    local.writes.push(a, x);
+    local.writes.push_new(a, x);
     local.wrote = true;
 }

@@ -23,6 +23,7 @@ use tx_answers::answers::Commit;
 
 /// Commits what the attempt wrote, or goes on with a commit that answered Again. The steps of `prepare`, one for the
 /// entry, and one for each word and each record.
+#[inline(always)]
 pub(crate) fn commit_writes<K: MemRule>(
     seat: &mut Token<K>,
     local: &mut Local,
@@ -69,6 +70,7 @@ pub(crate) fn commit_writes<K: MemRule>(
 
 /// Takes the records of what was written, in the first call of a commit, and validates where one was newer than the
 /// start, and in a later call.
+#[inline(always)]
 fn prepare<K: MemRule>(
     seat: &mut Token<K>,
     local: &mut Local,
@@ -96,6 +98,7 @@ fn prepare<K: MemRule>(
 }
 
 /// Stores what was written in the heap, gives the records back, and ends the attempt, whose entry has this time.
+#[inline(always)]
 fn finish<K: MemRule>(
     seat: &mut Token<K>,
     local: &mut Local,

@@ -17,6 +17,7 @@ use stm_rule::stm::{Stm, Token};
 
 /// Takes the record of each address that was written, in the order of the first writes. Returns the newest version
 /// found, or 0. Two steps for each record.
+#[inline(always)]
 pub(crate) fn lock_all<K: MemRule>(
     seat: &mut Token<K>,
     local: &mut Local,
@@ -81,11 +82,12 @@ fn lock_record<K: MemRule>(
             after: found,
         });
     }
-    local.locks.push(r, version);
+    local.locks.push_new(r, version);
     Ok(version)
 }
 
 /// Stores what was written in the heap, in the order of the first writes. A step for each address.
+#[inline(always)]
 pub(crate) fn write_back_all<K: MemRule>(
     seat: &mut Token<K>,
     local: &Local,
@@ -105,6 +107,7 @@ pub(crate) fn write_back_all<K: MemRule>(
 }
 
 /// Gives back the records that the attempt holds, each with the time of its entry as its version. A step for each.
+#[inline(always)]
 pub(crate) fn release_all<K: MemRule>(
     seat: &mut Token<K>,
     local: &Local,

@@ -10,6 +10,7 @@ ghost use Rattle.std.specs.Prelude.{◌≡◌, ℕ, ◌<◌, None, true, false, 
 ghost use Rattle.stm_model.specs.Memories.{item_at};
 ghost use Rattle.stm_rule.specs.Callers.{IsOf, IsSameCaller};
 ghost use Rattle.tx_answers.specs.Answers.{HasRead, HasWritten};
+ghost use Rattle.tx_answers.specs.declared.answers.Write.TheVariants.{Done};
 ghost use Rattle.tx_answers.specs.CallerState.{IsRunning};
 ghost use Rattle.rule_base.specs.Encodings.{fenced};
 ghost use Rattle.rule_base.specs.History.{member};
@@ -69,14 +70,16 @@ impl Algorithm for OrecEager {
     #[inline(always)]
     fn write<K: MemRule>(desc: &mut Desc<K>, stm: &Stm<K>, a: usize, x: u64) -> Write {
         if desc.local.writes.find(a).is_some() {
-            return write_again(desc, stm, a, x);
+            write_again(desc, stm, a, x);
+            return Write::Done;
         }
         first_write(desc, stm, a, x)
     }
 
     /// Commits the attempt: what it wrote becomes one entry of the history, unless another transaction came in between.
     /// Where it wrote nothing, one step, two where it holds the gate, and those of a rollback where it was rolled back;
-    /// else those of `commit_placed`, or of `commit_direct`.
+    /// else those of `commit_placed`, or of `commit_direct`. It stands in line: the answer of a call goes through memory.
+    #[inline(always)]
     fn commit<K: MemRule>(desc: &mut Desc<K>, stm: &Stm<K>) -> Commit {
         if desc.local.granted {
             return commit_direct(desc, stm);
@@ -182,9 +185,10 @@ fn read_held<K: MemRule>(desc: &mut Desc<K>, stm: &Stm<K>, a: usize, place: usiz
     Read::Value(x)
 }
 
-/// Stores the word where the attempt wrote before, though the write may have been taken back. One step.
+/// Stores the word where the attempt wrote before, though the write may have been taken back. One step. It is always done,
+/// and answers nothing: each write would make room in memory for its answer.
 #[inline(never)]
-fn write_again<K: MemRule>(desc: &mut Desc<K>, stm: &Stm<K>, a: usize, x: u64) -> Write
+fn write_again<K: MemRule>(desc: &mut Desc<K>, stm: &Stm<K>, a: usize, x: u64)
     requires stm { IsOf desc.old stm.now }
     requires running { IsRunning (known desc.old) }
     requires algorithm { (known desc.old).alg ≡ Alg.OrecEager }
@@ -193,14 +197,13 @@ fn write_again<K: MemRule>(desc: &mut Desc<K>, stm: &Stm<K>, a: usize, x: u64) -
     requires inside { a < stm.now.config.words }
     requires spared { fenced (known desc.old).fence a ≡ false }
     ensures same { IsSameCaller desc.old desc.new }
-    ensures write { HasWritten (K.good stm.now.rule) stm.now.config (number desc.old) a x result
+    ensures write { HasWritten (K.good stm.now.rule) stm.now.config (number desc.old) a x Done
         (known desc.old) (known desc.new) }
     ensures steps { AddsAtMost 1 (known desc.old) (known desc.new) }
 {
     place(stm, &mut desc.seat, desc.number, a, x);
     desc.local.writes.push(a, x);
     desc.local.wrote = true;
-    Write::Done
 }
 
 /// Takes the record where the attempt doesn't hold it, keeps what the word was unless that is kept already, and stores it.
@@ -222,7 +225,8 @@ fn first_write<K: MemRule>(desc: &mut Desc<K>, stm: &Stm<K>, a: usize, x: u64) -
 {
     // An address whose write was taken back has its item still, and its record.
     if desc.local.undo.find(a).is_some() {
-        return write_again(desc, stm, a, x);
+        write_again(desc, stm, a, x);
+        return Write::Done;
     }
     let caller = desc.number;
     let limit = desc.local.undo.len();

@@ -79,7 +79,9 @@ impl Algorithm for OrecLazy {
     }
 
     /// Commits the attempt: what it wrote becomes one entry of the history, unless another transaction came in between.
-    /// Where it wrote nothing, one step, two where it holds the gate; else those of `commit_writes`.
+    /// Where it wrote nothing, one step, two where it holds the gate; else those of `commit_writes`. It stands in line: the
+    /// answer of a call goes through memory.
+    #[inline(always)]
     fn commit<K: MemRule>(desc: &mut Desc<K>, stm: &Stm<K>) -> Commit {
         if desc.local.granted {
             return direct_commit(desc, stm);

@@ -229,8 +229,8 @@ pub fn turn<K: MemRule>(
 }
 
 /// The second part of a commit, of an attempt that has its turn: all that follows the lock. The steps of a check, and
-/// 22, and one for each item of the write log.
-#[inline(never)]
+/// 22, and one for each item of the write log. It stands in line: the answer of a call goes through memory.
+#[inline(always)]
 pub fn finish<K: MemRule>(
     seat: &mut Token<K>,
     local: &mut Local,
@@ -255,6 +255,7 @@ pub fn finish<K: MemRule>(
 
 /// Loads the clock and checks; where neither stands against it, stores the filter of the writes and the entry, and
 /// writes back. The lock is still to be freed.
+#[inline(always)]
 fn commit_locked<K: MemRule>(
     seat: &mut Token<K>,
     local: &Local,
@@ -286,6 +287,7 @@ fn commit_locked<K: MemRule>(
 }
 
 /// Stores the filter of the writes in the slot of this time, and the clock, which appends the entry.
+#[inline(always)]
 fn enter<K: MemRule>(seat: &mut Token<K>, local: &Local, stm: &Stm<K>, caller: usize, time: u64)
     requires seat { IsSeatOf stm.now caller seat.old }
     requires caller { caller < stm.now.config.callers }
@@ -313,6 +315,7 @@ fn enter<K: MemRule>(seat: &mut Token<K>, local: &Local, stm: &Stm<K>, caller: u
 }
 
 /// Stores what the attempt wrote, after its entry.
+#[inline(always)]
 fn write_back<K: MemRule>(seat: &mut Token<K>, writes: &WriteLog, stm: &Stm<K>, caller: usize)
     requires seat { IsSeatOf stm.now caller seat.old }
     requires back { CanWriteBack stm.now.config writes.now (view_of seat.old) }

@@ -34,7 +34,7 @@ use Rattle.stm_gate.specs.LeavingLaws.{IsUnmade, quits-left, ended-left, step_tr
 use Rattle.stm_gate.specs.Opacity.{opaque-inside}
 use Rattle.alg_seq.specs.Storing.{GivesUp, IsClocked, HasLogged, HasPlace, MayStore}
 use Rattle.alg_seq.proofs.Undoing.{covers-more}
-use Rattle.alg_seq.proofs.Locked.{locked, keeps-by, written-plain, IsLogged, logged-refl, tells-store, still-opaque}
+use Rattle.alg_seq.proofs.Locked.{locked, keeps-by, IsLogged, logged-refl, tells-store, still-opaque}
 
 -- the view with this lock and these steps
 abbrev pub aside : View → LockView → List TracedStep → View

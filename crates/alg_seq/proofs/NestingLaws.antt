@@ -1,5 +1,5 @@
 -- What the marks of an attempt of CGL, TML or Serial come to.
-use Rattle.std.proofs.Common.{ℕ, ◌≡◌, ◌≤◌, ◌+◌, ◌-◌, List, [], ◌∷◌, ◌++◌, length, get_or, take, Bool, true, false, refl, sym, ap, ◌∙◌, arith, subst}
+use Rattle.std.proofs.Common.{ℕ, ◌≡◌, ◌≤◌, ◌-◌, List, [], length, get_or, take, Bool, true, false, refl, sym, ap, ◌∙◌, arith, subst}
 use Rattle.std.specs.Prelude.{replicate}
 use Rattle.std.proofs.lemmas.List.{length-replicate, get_or-replicate, take-replicate, length-take-le}
 use Rattle.stm_model.specs.Algorithms.{irrevocable_under}
@@ -15,7 +15,7 @@ use Rattle.stm_rule.specs.declared.local.Local.{Local}
 use Rattle.stm_rule.specs.Attempts.{own_of, IsInside, IsLocked}
 use Rattle.stm_rule.specs.Attempts as attempts
 use Rattle.tx_answers.specs.Answers.{kept_rolled, IsRolled}
-use Rattle.tx_answers.specs.CallerState.{CallerState, known_of, kept_under, written_under, is_irrevocable, is_in, is_closing}
+use Rattle.tx_answers.specs.CallerState.{known_of, kept_under, written_under, is_irrevocable, is_in, is_closing}
 use Rattle.tx_answers.specs.CallerStateLaws.{grows-same}
 use Rattle.tx_logs.specs.LogStates.{LogState, rolled}
 use Rattle.stm_gate.specs.Opacity.{opaque-inside}

@@ -1,5 +1,5 @@
 -- Serial: what a push into the logs comes to.
-use Rattle.std.proofs.Common.{ℕ, ◌≡◌, ◌<◌, ◌≤◌, List, [], ◌∷◌, ◌++◌, length, Bool, true, false, refl, sym, ap, ◌∙◌, arith, subst, length-append}
+use Rattle.std.proofs.Common.{ℕ, ◌≡◌, ◌<◌, List, [], ◌∷◌, ◌++◌, length, Bool, true, false, refl, sym, ap, ◌∙◌, arith, subst, length-append}
 use Rattle.std.specs.Prelude.{Option, Some, None, ◌==◌, if◌then◌else◌}
 use Rattle.std.proofs.lemmas.Bool.Decides.{nat_tests}
 use Rattle.stm_model.specs.Memories.{item_at, put}
@@ -10,17 +10,16 @@ use Rattle.tx_logs.specs.declared.push.Push.TheVariants as pushes
 use Rattle.rule_base.specs.declared.layout.At.TheVariants.{Heap}
 use Rattle.rule_base.specs.declared.views.Act.TheVariants.{Load}
 use Rattle.rule_base.specs.declared.views.View.{View}
-use Rattle.rule_base.specs.declared.entries.Cell.{Cell}
 use Rattle.rule_base.specs.Bridge.{addresses, items}
-use Rattle.rule_base.specs.History.{member, touches}
+use Rattle.rule_base.specs.History.{touches}
 use Rattle.rule_base.specs.Lemmas.HistoryLemmas.{inside-more}
-use Rattle.rule_base.specs.StepKinds.{Nothing, Tells, view_after}
+use Rattle.rule_base.specs.StepKinds.{Nothing, Tells}
 use Rattle.rule_seq.specs.CglSteps.{load_undo}
 use Rattle.stm_rule.specs.declared.local.Local.{Local}
 use Rattle.stm_rule.specs.Attempts.{IsLocked}
 use Rattle.tx_answers.specs.Causes.{has_item, is_some}
 use Rattle.stm_gate.specs.Logging.{put-new}
-use Rattle.stm_gate.specs.KeptLaws.{addresses-put, cells-longer, cells-shorter, member-touched}
+use Rattle.stm_gate.specs.KeptLaws.{addresses-put, cells-shorter, member-touched}
 use Rattle.alg_seq.specs.Storing.{HasLogged, HasPlace}
 use Rattle.stm_gate.specs.Peeling.{has-touched}
 
@@ -77,13 +76,13 @@ module _ (c : Config) (a x : ℕ) (l : Local) (v : View) (j : IsLocked c l v) (r
   pushed (pushes.Full limit) m len place p = absurd (let low = room len place p.0 in let e = p.1 in omega arith)
   pushed pushes.Done m len place p = p.1
 
-  -- a push that made the log no longer was at an address that is written
-  pub again : (m : LogState) → m ≡ record l.writes { items = put a x l.writes.items } → length m.items ≤ length l.writes.items → touches v.lock.undo a ≡ true
-  again m is less = by (item_at a l.writes.items) refl
+  -- what has no old value was not written
+  pub new-write : item_at a l.undo.items ≡ None → item_at a l.writes.items ≡ None
+  new-write none = by (touches v.attempt.stores a) refl
     where
-      by : (o : Option ℕ) → item_at a l.writes.items ≡ o → touches v.lock.undo a ≡ true
-      by None e = absurd (let n = ap (λ (q : LogState). length q.items) is in let new = ap length (put-new a x l.writes.items e) in let more = length-append l.writes.items ((a, x) ∷ []) in omega arith)
-      by (Some y) e = j.undoable rev a (in-writes ∙ ap is_some e)
+      by : (b : Bool) → touches v.attempt.stores a ≡ b → item_at a l.writes.items ≡ None
+      by true t = absurd (let there = j.undoable rev a t in let gone = fresh-undo none in let no : true ≡ false = sym there ∙ gone in cc)
+      by false t = none-of (item_at a l.writes.items) (sym in-writes ∙ t)
 
   -- THE WRITE of an address that has its old value
   pub logs-else : (m : LogState) → m ≡ record l.writes { items = put a x l.writes.items } → touches v.lock.undo a ≡ true → HasLogged c.words a x l v (record l { writes = m }) v

@@ -192,7 +192,7 @@ fn below_limit<K: MemRule>(
 }
 
 /// Adds the write to the write log, and loads the word at `a` into the undo log where the address is new to that, which
-/// has room then. An address whose write was taken back has its item still.
+/// has room then, and so new to the write log too. An address whose write was taken back has its item still.
 #[inline(always)]
 fn log_old<K: MemRule>(
     seat: &mut Token<K>,
@@ -215,12 +215,13 @@ fn log_old<K: MemRule>(
         (view_of seat.new) }
     ensures steps { TakesAtMost 1 (view_of seat.old) (view_of seat.new) }
 {
-    let count = local.writes.count();
-    let _ = local.writes.push(a, x);
-    if local.writes.count() > count && local.undo.find(a).is_none() {
-        let old = stm.load_undo(seat, caller, a);
-        let _ = local.undo.push(a, old);
+    if local.undo.find(a).is_some() {
+        let _ = local.writes.push(a, x);
+        return;
     }
+    let old = stm.load_undo(seat, caller, a);
+    let _ = local.undo.push_new(a, old);
+    let _ = local.writes.push_new(a, x);
 }
 
 /// Stores the old values back, frees the lock, and ends the attempt.

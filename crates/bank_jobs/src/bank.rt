@@ -1,7 +1,7 @@
 //! A bank: its rule, and its three transactions.
 
 use tx_transaction::transaction::Transaction;
-use tx_transaction::words::{read_sum, read_two, write_two};
+use tx_transaction::words::{read_sum, read_words, write_words};
 use tx_transaction::{Access, MemRule, Stop};
 
 /// A bank with eight accounts. The first words of its memory are their balances, and word 8 is what was paid in.
@@ -33,10 +33,11 @@ impl Transaction<Bank> for Open {
     ghost postcondition = { λ it bank words opened log. DoesOver IsBalanced words opened_in nothing opened log };
 
     fn run<A: Access>(&self, _: &Bank, memory: &mut A) -> Result<bool, Stop> {
-        if memory.read(8)? != 0 {
+        let [paid] = read_words(memory, [8])?;
+        if paid != 0 {
             return Ok(false);
         }
-        write_two(memory, (8, 8_000), (0, 8_000))?;
+        write_words(memory, [(8, 8_000), (0, 8_000)])?;
         Ok(true)
     }
 }
@@ -62,15 +63,17 @@ impl Transaction<Bank> for Transfer {
     ghost postcondition = { λ it bank words moved log. DoesOver IsBalanced words (moved_in it) nothing moved log };
 
     fn run<A: Access>(&self, _: &Bank, memory: &mut A) -> Result<bool, Stop> {
-        let (payer, payee) = read_two(memory, self.from, self.to)?;
+        let [payer, payee] = read_words(memory, [self.from, self.to])?;
         if payer < self.amount {
             return Ok(false);
         }
         // this can't wrap: both balances are parts of one capital
-        write_two(
+        write_words(
             memory,
-            (self.from, payer - self.amount),
-            (self.to, payee + self.amount),
+            [
+                (self.from, payer - self.amount),
+                (self.to, payee + self.amount),
+            ],
         )?;
         Ok(true)
     }
@@ -85,7 +88,7 @@ impl Transaction<Bank> for Audit {
     ghost use Rattle.std.specs.Prelude.{◌≡◌};
     ghost use Rattle.tx_effects.specs.Effects.{DoesOver, unchanged};
     ghost use Rattle.tx_effects.specs.FreshLaws.{nothing};
-    ghost use Rattle.tx_transaction.specs.WordLaws.{sum_in};
+    ghost use Rattle.tx_transaction.specs.Words.{sum_in};
     ghost use Rattle.bank_jobs.specs.Banks.{IsBalanced, IsPaid};
 
     type Output = u64;

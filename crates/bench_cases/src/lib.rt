@@ -4,4 +4,5 @@
 pub mod cases;
 pub mod plain_sets;
 
+pub use bench_core::Fault;
 pub use bench_core::status::Status;

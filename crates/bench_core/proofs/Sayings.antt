@@ -59,7 +59,7 @@ module _ {S : Type 0} (left : S → Option (List ℕ)) (faults : S → ℕ) (sou
     says-asked Done closed said says = by Done closed said says
     says-asked Help closed said says = absurd (no-help command closed said says)
     says-asked Usage closed said says = absurd (no-usage command closed said says)
-    says-asked (Refused line code) closed said says = by (Refused line code) closed said says
+    says-asked (Refused line fault) closed said says = by (Refused line fault) closed said says
     says-asked ReadFault closed said says = by ReadFault closed said says
     says-asked WriteFault closed said says = no-write_fault command closed said says
     says-asked Memory closed said says = no-memory command closed said says
@@ -86,7 +86,7 @@ module _ (m : Mode) (policy : Policy) (text : List ℕ) (w : Workload) (parses :
   said-of Done closed said h = record { workload = w; parses = parses; run = h }
   said-of Help closed said h = h
   said-of Usage closed said h = h
-  said-of (Refused line code) closed said h = absurd h
+  said-of (Refused line fault) closed said h = absurd h
   said-of ReadFault closed said h = h
   said-of WriteFault closed said h = h
   said-of Memory closed said h = h
@@ -105,7 +105,7 @@ module _ {S : Type 0} (left : S → Option (List ℕ)) (faults : S → ℕ) (sou
   says-apart Done closed said h none = (record { text = text; read = read; within = within; taken = taken; calm = calm; of = record { text = told; read = read₂; within = within₂; taken = taken₂; calm = calm₂; of = h } }, none)
   says-apart Help closed said h none = h
   says-apart Usage closed said h none = h
-  says-apart (Refused line code) closed said h none = (record { text = text; read = read; within = within; taken = taken; calm = calm; of = record { text = told; read = read₂; within = within₂; taken = taken₂; calm = calm₂; of = h } }, none)
+  says-apart (Refused line fault) closed said h none = (record { text = text; read = read; within = within; taken = taken; calm = calm; of = record { text = told; read = read₂; within = within₂; taken = taken₂; calm = calm₂; of = h } }, none)
   says-apart ReadFault closed said h none = absurd h
   says-apart WriteFault closed said h none = h
   says-apart Memory closed said h none = h

@@ -8,6 +8,7 @@ use Rattle.stm_check.specs.Checks.{IsYes, IsNo, IsFaulty}
 use Rattle.stm_check.specs.declared.checking.Finding.{Finding}
 use Rattle.stm_check.specs.declared.checking.Finding.TheVariants as findings
 use Rattle.stm_check.specs.declared.wanted.Wanted.{Wanted}
+use Rattle.stm_faults.specs.Faults.{number_of}
 use Rattle.bench_core.specs.declared.status.Status.{Status}
 use Rattle.bench_core.specs.declared.status.Status.TheVariants.{Ok as Done, Refused, No}
 use Rattle.bench_core.specs.Messages.{refused_line, yes_line, no_line}
@@ -16,7 +17,7 @@ use Rattle.bench_core.specs.Messages.{refused_line, yes_line, no_line}
 abbrev pub SaidOfCheck : List ℕ → Status → List ℕ → Type 0
 SaidOfCheck text Done said = IsYes text × (said ≡ yes_line)
 SaidOfCheck text (No line) said = IsNo text line × (said ≡ no_line line)
-SaidOfCheck text (Refused line code) said = IsFaulty text line code × (said ≡ refused_line line code)
+SaidOfCheck text (Refused line fault) said = IsFaulty text line (number_of fault) × (said ≡ refused_line line fault)
 SaidOfCheck text status said = ⊥
 
 -- the same of two texts: a check of both comes to this
@@ -26,11 +27,11 @@ Found text told finding = (wanted : Option Wanted) × FindsApart text told findi
 abbrev pub SaidOfApart : List ℕ → List ℕ → Status → List ℕ → Type 0
 SaidOfApart text told Done said = Found text told findings.Yes × (said ≡ yes_line)
 SaidOfApart text told (No line) said = Found text told (findings.No line) × (said ≡ no_line line)
-SaidOfApart text told (Refused line code) said = Found text told (findings.Faulty line code) × (said ≡ refused_line line code)
+SaidOfApart text told (Refused line fault) said = Found text told (findings.Faulty line (number_of fault)) × (said ≡ refused_line line fault)
 SaidOfApart text told status said = ⊥
 
 -- `yes` exactly of a workload's text, and else its first fault
 abbrev pub SaidOfAlone : List ℕ → Status → List ℕ → Type 0
 SaidOfAlone text Done said = ((w : Workload) × (workload_of Stepwise text ≡ Ok w)) × (said ≡ yes_line)
-SaidOfAlone text (Refused line code) said = (workload_of Stepwise text ≡ Err (line, code)) × (said ≡ refused_line line code)
+SaidOfAlone text (Refused line fault) said = (workload_of Stepwise text ≡ Err (line, number_of fault)) × (said ≡ refused_line line fault)
 SaidOfAlone text status said = ⊥

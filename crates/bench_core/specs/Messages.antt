@@ -1,8 +1,10 @@
 -- The lines that stand in place of a report.
-use Rattle.std.specs.Prelude.{ℕ, List, ◌++◌, ◌==◌, codes, if◌then◌else◌}
+use Rattle.std.specs.Prelude.{ℕ, List, ◌++◌, codes}
 use Rattle.std.specs.Fmt.{decimal}
 use Rattle.stm_cli.specs.declared.help.Topic.{Topic}
 use Rattle.stm_cli.specs.declared.help.Topic.TheVariants as topics
+use Rattle.stm_faults.specs.declared.fault.Fault.{Fault}
+use Rattle.stm_faults.specs.Faults.{number_of, name_of}
 
 abbrev pub usage_line : List ℕ
 usage_line = codes "usage: stm_bench run [--policy P] / step / gen N T SEED / check\n"
@@ -19,25 +21,9 @@ help_text topics.Version = codes "stm_bench 1.0.0\n"
 abbrev pub read_fault_line : List ℕ
 read_fault_line = codes "read fault\n"
 
--- the name of a fault of the text
-abbrev pub name_of : ℕ → List ℕ
-name_of code =
-    if code == 1 then codes "long" else
-    (if code == 2 then codes "bytes" else
-    (if code == 3 then codes "unended" else
-    (if code == 4 then codes "word" else
-    (if code == 5 then codes "number" else
-    (if code == 6 then codes "range" else
-    (if code == 7 then codes "alg" else
-    (if code == 8 then codes "region" else
-    (if code == 9 then codes "order" else
-    (if code == 10 then codes "many" else
-    (if code == 11 then codes "extra" else
-    (if code == 12 then codes "report" else codes "longrep")))))))))))
-
 -- `refused LINE CODE NAME`
-abbrev pub refused_line : ℕ → ℕ → List ℕ
-refused_line line code = codes "refused " ++ (decimal line ++ (codes " " ++ (decimal code ++ (codes " " ++ (name_of code ++ codes "\n")))))
+abbrev pub refused_line : ℕ → Fault → List ℕ
+refused_line line fault = codes "refused " ++ (decimal line ++ (codes " " ++ (decimal (number_of fault) ++ (codes " " ++ (name_of fault ++ codes "\n")))))
 
 -- `yes`, and `no LINE`
 abbrev pub yes_line : List ℕ

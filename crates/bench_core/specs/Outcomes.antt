@@ -16,6 +16,8 @@ use Rattle.bench_core.specs.declared.status.Status.{Status}
 use Rattle.bench_core.specs.declared.status.Status.TheVariants.{Ok as Done, Help, Usage, Refused, ReadFault, WriteFault, Memory, ClockFull, No}
 use Rattle.bench_core.specs.Checks.{SaidOfCheck, SaidOfAlone, SaidOfApart}
 use Rattle.bench_core.specs.Messages.{help_text, usage_line, read_fault_line, refused_line, clock_full_line}
+use Rattle.stm_faults.specs.declared.fault.Fault.{Fault}
+use Rattle.stm_faults.specs.Faults.{number_of}
 use Rattle.stm_driver.specs.Runs.{IsShown, IsFull, IsTraced, IsCut}
 use Rattle.stm_trace.specs.declared.line.Line.{Line}
 use Rattle.stm_trace.specs.Texts.{trace_bytes}
@@ -73,14 +75,14 @@ pub record WasRun (m : Mode) (policy : Policy) (text : List ℕ) (status : Statu
   pub run : SaidOfRun m policy workload status closed said
 
 -- the text isn't a workload's; what is said is its first fault
-pub record IsRefused (m : Mode) (text : List ℕ) (line code : ℕ) (said : List ℕ) : Type 0 where
-  pub fault : workload_of m text ≡ Err (line, code)
-  pub is : said ≡ refused_line line code
+pub record IsRefused (m : Mode) (text : List ℕ) (line : ℕ) (fault : Fault) (said : List ℕ) : Type 0 where
+  pub first : workload_of m text ≡ Err (line, number_of fault)
+  pub is : said ≡ refused_line line fault
 
 -- what is said of a text that was read; without a run no closed memory is left
 abbrev pub SaidOf : Mode → Policy → List ℕ → Status → Option Ended → List ℕ → Type 0
 SaidOf m policy text Done closed said = WasRun m policy text Done closed said
-SaidOf m policy text (Refused line code) closed said = IsRefused m text line code said × (closed ≡ None)
+SaidOf m policy text (Refused line fault) closed said = IsRefused m text line fault said × (closed ≡ None)
 SaidOf m policy text (ClockFull clock) closed said = WasRun m policy text (ClockFull clock) closed said
 SaidOf m policy text status closed said = ⊥
 
@@ -131,7 +133,7 @@ module _ {S : Type 0} (left : S → Option (List ℕ)) (faults : S → ℕ) (sou
   -- what is to be written by a command that reads a workload and runs it
   abbrev pub SaysRead : Mode → Policy → Status → Option Ended → List ℕ → Type 0
   SaysRead m policy Done closed said = HasRead most_read (λ text. SaidOf m policy text Done closed said)
-  SaysRead m policy (Refused line code) closed said = HasRead most_read (λ text. SaidOf m policy text (Refused line code) closed said)
+  SaysRead m policy (Refused line fault) closed said = HasRead most_read (λ text. SaidOf m policy text (Refused line fault) closed said)
   SaysRead m policy (ClockFull clock) closed said = HasRead most_read (λ text. SaidOf m policy text (ClockFull clock) closed said)
   SaysRead m policy ReadFault closed said = Unread most_read said × (closed ≡ None)
   SaysRead m policy status closed said = ⊥
@@ -140,14 +142,14 @@ module _ {S : Type 0} (left : S → Option (List ℕ)) (faults : S → ℕ) (sou
   abbrev pub SaysChecked : Status → Option Ended → List ℕ → Type 0
   SaysChecked Done closed said = HasRead most_checked (λ text. SaidOfCheck text Done said) × (closed ≡ None)
   SaysChecked (No line) closed said = HasRead most_checked (λ text. SaidOfCheck text (No line) said) × (closed ≡ None)
-  SaysChecked (Refused line code) closed said = HasRead most_checked (λ text. SaidOfCheck text (Refused line code) said) × (closed ≡ None)
+  SaysChecked (Refused line fault) closed said = HasRead most_checked (λ text. SaidOfCheck text (Refused line fault) said) × (closed ≡ None)
   SaysChecked ReadFault closed said = Unread most_checked said × (closed ≡ None)
   SaysChecked status closed said = ⊥
 
   -- what is to be written by `check` of a workload alone; no closed memory is left
   abbrev pub SaysAlone : Status → Option Ended → List ℕ → Type 0
   SaysAlone Done closed said = HasRead most_read (λ text. SaidOfAlone text Done said) × (closed ≡ None)
-  SaysAlone (Refused line code) closed said = HasRead most_read (λ text. SaidOfAlone text (Refused line code) said) × (closed ≡ None)
+  SaysAlone (Refused line fault) closed said = HasRead most_read (λ text. SaidOfAlone text (Refused line fault) said) × (closed ≡ None)
   SaysAlone ReadFault closed said = Unread most_read said × (closed ≡ None)
   SaysAlone status closed said = ⊥
 
@@ -170,7 +172,7 @@ module _ {S : Type 0} (left : S → Option (List ℕ)) (faults : S → ℕ) (sou
   abbrev pub SaysApart : Status → Option Ended → List ℕ → Type 0
   SaysApart Done closed said = HasReadBoth (λ text told. SaidOfApart text told Done said) × (closed ≡ None)
   SaysApart (No line) closed said = HasReadBoth (λ text told. SaidOfApart text told (No line) said) × (closed ≡ None)
-  SaysApart (Refused line code) closed said = HasReadBoth (λ text told. SaidOfApart text told (Refused line code) said) × (closed ≡ None)
+  SaysApart (Refused line fault) closed said = HasReadBoth (λ text told. SaidOfApart text told (Refused line fault) said) × (closed ≡ None)
   SaysApart ReadFault closed said = OneFailed said × (closed ≡ None)
   SaysApart status closed said = ⊥
 
@@ -214,7 +216,7 @@ module _ {S : Type 0} (left : S → Option (List ℕ)) (faults : S → ℕ) (sou
     Says Usage closed said = Misused said × (closed ≡ None)
     Says ReadFault closed said = Asked ReadFault closed said
     Says Done closed said = Asked Done closed said
-    Says (Refused line code) closed said = Asked (Refused line code) closed said
+    Says (Refused line fault) closed said = Asked (Refused line fault) closed said
     Says (ClockFull clock) closed said = Asked (ClockFull clock) closed said
     Says (No line) closed said = Asked (No line) closed said
     Says WriteFault closed said = ⊥
@@ -261,7 +263,7 @@ module _ {S : Type 0} (left : S → Option (List ℕ)) (faults : S → ℕ) (sou
       IsOutcome Done = Wrote Done
       IsOutcome Help = Wrote Help
       IsOutcome Usage = Wrote Usage
-      IsOutcome (Refused line code) = Wrote (Refused line code)
+      IsOutcome (Refused line fault) = Wrote (Refused line fault)
       IsOutcome ReadFault = Wrote ReadFault
       IsOutcome WriteFault = WroteSome
       IsOutcome Memory = WroteNothing

@@ -7,7 +7,7 @@ abbrev pub exit_code_of : Status → ℕ
 exit_code_of Ok = 0
 exit_code_of Help = 0
 exit_code_of Usage = 1
-exit_code_of (Refused line code) = 2
+exit_code_of (Refused line fault) = 2
 exit_code_of ReadFault = 3
 exit_code_of WriteFault = 4
 exit_code_of Memory = 5

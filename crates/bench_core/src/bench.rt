@@ -3,7 +3,7 @@ ghost use Rattle.std.specs.Prelude.{◌≡◌, IfOk, OnErr};
 ghost use Rattle.bench_core.specs.Outcomes.{SaidOf, Says, SaysAlone, SaysApart, SaysChecked, SaysRead, Spared, IsOutcome, kept, most_checked, most_read};
 ghost use Rattle.stm_io.specs.Ends.{TookSome};
 
-use crate::checks::{judge, judge_alone, judge_apart};
+use crate::checks::{judge, judge_alone, judge_apart, refused};
 use crate::commands::{Saying, report, summarize, trace};
 use crate::messages;
 use crate::status::Status;
@@ -17,6 +17,8 @@ use stm_cli::help::help_of;
 use stm_cli::laws::words_ask_once;
 use stm_cli::reading::read_words;
 use stm_cli::wrong::wrong_word;
+use stm_faults::fault::Fault;
+use stm_faults::laws::codes_are_faults;
 use stm_faults::workload::workload_fault_for;
 use stm_io::ends::{Failed, Sink, Source};
 use stm_io::whole::{ReadError, put_all, read_all};
@@ -227,20 +229,17 @@ fn saying_of_text<R: Threads + Wait + Sync, G: Turnstile + Sync>(
 ) -> Result<Saying, Memory>
     ensures { IfOk result (λ s. SaidOf mode policy text.now s.status s.closed s.text.items) }
 {
+    codes_are_faults();
     match parse(alloc, text, mode) {
         Ok(workload) => match mode {
             Mode::Run => report(rt, alloc, policy, workload, turnstile),
             Mode::Step => trace(rt, alloc, workload),
         },
-        Err(ParseError::Fault { line, code }) => Ok(Saying {
-            status: Status::Refused { line, code },
-            text: messages::refused(alloc, line, code)?,
-            closed: None,
-            why: Why::of(
-                Part::Workload,
-                workload_fault_for(alloc, mode, text, line, code).ok(),
-            ),
-        }),
+        Err(ParseError::Fault { line, code }) => {
+            let fault = Fault::of(code);
+            let why = workload_fault_for(alloc, mode, text, line, fault).ok();
+            refused(alloc, line, fault, Why::of(Part::Workload, why))
+        }
         Err(ParseError::Memory) => Err(Memory),
     }
 }

@@ -2,6 +2,8 @@
 ghost use Rattle.std.specs.Prelude.{◌≡◌, ◌≤◌, length, None, IfOk};
 ghost use Rattle.stm_check.specs.declared.checking.TheConstants.{MOST_CHECKED};
 ghost use Rattle.bench_core.specs.Checks.{SaidOfAlone, SaidOfApart, SaidOfCheck};
+ghost use Rattle.bench_core.specs.Messages.{refused_line};
+ghost use Rattle.bench_core.specs.declared.status.Status.TheVariants.{Refused};
 
 use crate::commands::Saying;
 use crate::messages;
@@ -11,8 +13,10 @@ use std::alloc::Global;
 use stm_check::apart::check_apart;
 use stm_check::checking::{Finding, Part, check};
 use stm_check::wanted::Wanted;
+use stm_faults::fault::Fault;
+use stm_faults::laws::codes_are_faults;
 use stm_faults::report::{checked_fault, told_fault};
-use stm_faults::workload::workload_fault;
+use stm_faults::workload::workload_fault_for;
 use stm_faults::wrong::{wrong_line, wrong_line_of};
 use stm_model::memory::Memory;
 use stm_text::parse::{Mode, ParseError, parse};
@@ -23,6 +27,7 @@ pub(crate) fn judge(alloc: Global, text: &[u8]) -> Result<Saying, Memory>
     ensures said { IfOk result (λ s. SaidOfCheck text.now s.status s.text.items) }
     ensures closed { IfOk result (λ s. s.closed ≡ None) }
 {
+    codes_are_faults();
     let checked = check(alloc, text)?;
     match checked.finding {
         Finding::Yes => Ok(Saying::short(Status::Ok, messages::yes(alloc)?)),
@@ -32,15 +37,11 @@ pub(crate) fn judge(alloc: Global, text: &[u8]) -> Result<Saying, Memory>
             closed: None,
             why: why_no(alloc, text, line, checked.wanted),
         }),
-        Finding::Faulty { line, code } => Ok(Saying {
-            status: Status::Refused { line, code },
-            text: messages::refused(alloc, line, code)?,
-            closed: None,
-            why: Why::of(
-                Part::Workload,
-                checked_fault(alloc, text, checked.part, line, code).ok(),
-            ),
-        }),
+        Finding::Faulty { line, code } => {
+            let fault = Fault::of(code);
+            let why = checked_fault(alloc, text, checked.part, line, fault).ok();
+            refused(alloc, line, fault, Why::of(Part::Workload, why))
+        }
     }
 }
 
@@ -50,6 +51,7 @@ pub(crate) fn judge_apart(alloc: Global, text: &[u8], told: &[u8]) -> Result<Say
     ensures said { IfOk result (λ s. SaidOfApart text.now told.now s.status s.text.items) }
     ensures closed { IfOk result (λ s. s.closed ≡ None) }
 {
+    codes_are_faults();
     let checked = check_apart(alloc, text, told)?;
     match checked.finding {
         Finding::Yes => Ok(Saying::short(Status::Ok, messages::yes(alloc)?)),
@@ -59,12 +61,11 @@ pub(crate) fn judge_apart(alloc: Global, text: &[u8], told: &[u8]) -> Result<Say
             closed: None,
             why: why_no_of(alloc, text, told, line, checked.wanted),
         }),
-        Finding::Faulty { line, code } => Ok(Saying {
-            status: Status::Refused { line, code },
-            text: messages::refused(alloc, line, code)?,
-            closed: None,
-            why: why_refused(alloc, text, told, checked.part, line, code),
-        }),
+        Finding::Faulty { line, code } => {
+            let fault = Fault::of(code);
+            let why = why_refused(alloc, text, told, checked.part, line, fault);
+            refused(alloc, line, fault, why)
+        }
     }
 }
 
@@ -73,16 +74,35 @@ pub(crate) fn judge_alone(alloc: Global, text: &[u8]) -> Result<Saying, Memory>
     ensures said { IfOk result (λ s. SaidOfAlone text.now s.status s.text.items) }
     ensures closed { IfOk result (λ s. s.closed ≡ None) }
 {
+    codes_are_faults();
     match parse(alloc, text, Mode::Step) {
         Ok(_) => Ok(Saying::short(Status::Ok, messages::yes(alloc)?)),
-        Err(ParseError::Fault { line, code }) => Ok(Saying {
-            status: Status::Refused { line, code },
-            text: messages::refused(alloc, line, code)?,
-            closed: None,
-            why: Why::of(Part::Workload, workload_fault(alloc, text, line, code).ok()),
-        }),
+        Err(ParseError::Fault { line, code }) => {
+            let fault = Fault::of(code);
+            let why = workload_fault_for(alloc, Mode::Step, text, line, fault).ok();
+            refused(alloc, line, fault, Why::of(Part::Workload, why))
+        }
         Err(ParseError::Memory) => Err(Memory),
     }
+}
+
+/// What is to be written of a text's first fault.
+pub(crate) fn refused(
+    alloc: Global,
+    line: usize,
+    fault: Fault,
+    why: Option<Why>,
+) -> Result<Saying, Memory>
+    ensures status { IfOk result (λ s. s.status ≡ Refused line fault) }
+    ensures text { IfOk result (λ s. s.text.items ≡ refused_line line fault) }
+    ensures closed { IfOk result (λ s. s.closed ≡ None) }
+{
+    Ok(Saying {
+        status: Status::Refused { line, fault },
+        text: messages::refused(alloc, line, fault)?,
+        closed: None,
+        why,
+    })
 }
 
 /// What the replay wants on a line, in a sentence, where memory for it is there.
@@ -111,10 +131,13 @@ fn why_refused(
     told: &[u8],
     part: Part,
     line: usize,
-    code: u32,
+    fault: Fault,
 ) -> Option<Why> {
     match part {
-        Part::Workload => Why::of(part, workload_fault(alloc, text, line, code).ok()),
-        Part::Report => Why::of(part, told_fault(alloc, told, line, code).ok()),
+        Part::Workload => Why::of(
+            part,
+            workload_fault_for(alloc, Mode::Step, text, line, fault).ok(),
+        ),
+        Part::Report => Why::of(part, told_fault(alloc, told, line, fault).ok()),
     }
 }

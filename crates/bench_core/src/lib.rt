@@ -14,6 +14,7 @@ pub mod status;
 pub mod telling;
 pub mod why;
 
+pub use stm_faults::fault::Fault;
 pub use stm_io::ends::{Sink, Source};
 pub use stm_io::memory::{MemSink, MemSource};
 pub use stm_worker::turnstile::{Open, Turnstile};

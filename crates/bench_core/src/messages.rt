@@ -1,11 +1,11 @@
 //! The lines that stand in place of a report.
 ghost use Rattle.std.specs.Prelude.{◌≡◌, IfOk, codes};
-ghost use Rattle.bench_core.specs.Messages.{help_text, usage_line, read_fault_line, name_of, refused_line, yes_line, no_line, clock_full_line};
+ghost use Rattle.bench_core.specs.Messages.{help_text, usage_line, read_fault_line, refused_line, yes_line, no_line, clock_full_line};
 
 use std::alloc::Global;
 use stm_cli::help::Topic;
+use stm_faults::fault::Fault;
 use stm_model::memory::Memory;
-use stm_text::code;
 
 /// How the program is called.
 pub fn usage(alloc: Global) -> Result<Vec<u8>, Memory>
@@ -50,11 +50,12 @@ pub fn read_fault(alloc: Global) -> Result<Vec<u8>, Memory>
 }
 
 /// The text isn't in its form.
-pub fn refused(alloc: Global, line: usize, code: u32) -> Result<Vec<u8>, Memory>
-    ensures { IfOk result (λ t. t.items ≡ refused_line line code) }
+pub fn refused(alloc: Global, line: usize, fault: Fault) -> Result<Vec<u8>, Memory>
+    ensures { IfOk result (λ t. t.items ≡ refused_line line fault) }
 {
-    let name = fault_name(code);
-    let text = format!(in alloc; "refused {line} {code} {name}\n")?;
+    let number = fault.number();
+    let name = fault.name();
+    let text = format!(in alloc; "refused {line} {number} {name}\n")?;
     Ok(text.into_bytes())
 }
 
@@ -80,25 +81,4 @@ pub fn clock_full(alloc: Global, clock: u64) -> Result<Vec<u8>, Memory>
 {
     let text = format!(in alloc; "clock full {clock}\n")?;
     Ok(text.into_bytes())
-}
-
-/// The name of a fault, by its code.
-fn fault_name(code: u32) -> &'static str
-    ensures { result.now ≡ name_of code }
-{
-    match code {
-        code::LONG => "long",
-        code::BYTES => "bytes",
-        code::UNENDED => "unended",
-        code::WORD => "word",
-        code::NUMBER => "number",
-        code::RANGE => "range",
-        code::ALG => "alg",
-        code::REGION => "region",
-        code::ORDER => "order",
-        code::MANY => "many",
-        code::EXTRA => "extra",
-        code::REPORT => "report",
-        _ => "longrep",
-    }
 }

@@ -1,6 +1,8 @@
 //! How a call of `bench` ended.
 ghost use Rattle.std.specs.Prelude.{◌≡◌};
 
+use stm_faults::fault::Fault;
+
 /// How a call of `bench` ended, and what it wrote by that.
 #[derive(Clone, Copy, Drop, Debug, PartialEq, Eq)]
 pub enum Status {
@@ -10,10 +12,10 @@ pub enum Status {
     Help,
     /// The usage line: the words aren't a command, and ask for no help.
     Usage,
-    /// `refused L C name`: the text read isn't a workload, or under `check` not a workload and a report; `line` and `code`
-    /// are those of its first fault. Lines count from 1 in the text at fault; line 0 stands for the whole text, under
+    /// `refused L C name`: the text read isn't a workload, or under `check` not a workload and a report; `line` and `fault`
+    /// are those of its first one. Lines count from 1 in the text at fault; line 0 stands for the whole text, under
     /// `check` for the whole of the part that is too long.
-    Refused { line: usize, code: u32 },
+    Refused { line: usize, fault: Fault },
     /// `read fault`: the source failed.
     ReadFault,
     /// A prefix of the text that was to be written: the sink failed.

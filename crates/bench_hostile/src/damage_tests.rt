@@ -1,6 +1,7 @@
 //! Texts that are cut off or have a wrong byte: `bench` says what a slow reading of the grammar says.
 use crate::cases::{lines, outcome};
 use crate::plain_grammar::first_fault;
+use bench_core::Fault;
 use bench_core::status::Status;
 use std::alloc::Global;
 use std::process::Abort;
@@ -91,7 +92,13 @@ fn compare(
     };
     let name = NAMES.get(code as usize).copied().unwrap_or("");
     let said = format!(in alloc; "refused {line} {code} {name}\n")?;
-    assert_eq!(rt; status, Status::Refused { line, code });
+    assert_eq!(rt;
+        status,
+        Status::Refused {
+            line,
+            fault: Fault::of(code)
+        }
+    );
     assert_eq!(rt; held, said);
     Ok(true)
 }
@@ -119,7 +126,13 @@ fn a_prefix_is_unended(rt: HostRuntime) -> Result<(), Fail> {
             let line = next_line(prefix);
             let said = format!(in alloc; "refused {line} 3 unended\n")?;
             let (status, held) = outcome(&rt, alloc, &["stm_bench", command], prefix)?;
-            assert_eq!(rt; status, Status::Refused { line, code: 3 });
+            assert_eq!(rt;
+                status,
+                Status::Refused {
+                    line,
+                    fault: Fault::Unended
+                }
+            );
             assert_eq!(rt; held, said);
         }
     }

@@ -2,7 +2,7 @@
 use crate::cases::{LIMIT, lines, nothing, status_over, workload};
 use crate::ends::{Dribble, Trickle};
 use bench_core::status::Status;
-use bench_core::{MemSink, MemSource};
+use bench_core::{Fault, MemSink, MemSource};
 use std::alloc::Global;
 use std::process::Abort;
 use std::sync::Wait;
@@ -66,7 +66,10 @@ const TALKS: [(&[&str], &str, &str, Status, &str); 7] = [
         RUN,
         "words 0",
         ADDS,
-        Status::Refused { line: 2, code: 6 },
+        Status::Refused {
+            line: 2,
+            fault: Fault::Range,
+        },
         "refused 2 6 range",
     ),
     (NONE, "", ADDS, Status::Usage, USAGE),

@@ -1,7 +1,7 @@
 //! `check` over a workload and a report.
 use crate::{report_tests, structure_tests};
-use bench_cases::Status;
 use bench_cases::cases::{check, header, lines, outcome, outcome_apart, workload};
+use bench_cases::{Fault, Status};
 use std::alloc::Global;
 use std::process::Abort;
 use std::sync::Wait;
@@ -40,12 +40,18 @@ const JUDGED: &[(&str, Status, &str)] = &[
     ),
     (
         "report 1 / W 01 0 0 : 1 / W 2 0 1 : 2 / R 2 0 2 : 2 / mem 3 2 / end",
-        Status::Refused { line: 22, code: 12 },
+        Status::Refused {
+            line: 22,
+            fault: Fault::Report,
+        },
         "refused 22 12 report\n",
     ),
     (
         "report 1 / W 1 0 0 : 1 / W 2 0 1 : 2 / R 2 0 2 : 2 / mem 3 2",
-        Status::Refused { line: 26, code: 3 },
+        Status::Refused {
+            line: 26,
+            fault: Fault::Unended,
+        },
         "refused 26 3 unended\n",
     ),
 ];
@@ -141,7 +147,10 @@ fn ends_in_the_order_of_the_statuses(rt: HostRuntime) -> Result<(), Fail> {
         &rt,
         rt.alloc(),
         "check",
-        Status::Refused { line: 2, code: 6 },
+        Status::Refused {
+            line: 2,
+            fault: Fault::Range,
+        },
         &[("words 0", "", "refused 2 6 range")],
     )?;
     let wrong = both(rt.alloc(), "", THREE, "report 1 / end")?;
@@ -209,7 +218,10 @@ const APART: [(&str, Status, &str); 5] = [
     ),
     (
         "0 begin CGL / finish / report 1 / W 1 0 0 1 / end",
-        Status::Refused { line: 4, code: 12 },
+        Status::Refused {
+            line: 4,
+            fault: Fault::Report,
+        },
         "refused 4 12 report\n",
     ),
 ];
@@ -227,7 +239,13 @@ fn two_texts_are_checked(rt: HostRuntime) -> Result<(), Fail> {
     }
     let wrong = workload(alloc, "", "tx 1 {add 3 1}")?;
     let (ended, _) = outcome_apart(&rt, alloc, &words, wrong.as_str(), "")?;
-    assert_eq!(rt; ended, Status::Refused { line: 11, code: 6 });
+    assert_eq!(rt;
+        ended,
+        Status::Refused {
+            line: 11,
+            fault: Fault::Range
+        }
+    );
     Ok(())
 }
 
@@ -243,7 +261,13 @@ fn a_workload_alone_is_checked(rt: HostRuntime) -> Result<(), Fail> {
     let (ended, held) = outcome(&rt, alloc, &words, text.as_str(), &[], 4096)?;
     assert_eq!(rt;
         (ended, held.as_str()),
-        (Status::Refused { line: 12, code: 4 }, "refused 12 4 word\n")
+        (
+            Status::Refused {
+                line: 12,
+                fault: Fault::Word
+            },
+            "refused 12 4 word\n"
+        )
     );
     let words = ["stm_bench", "--version"];
     let (ended, held) = outcome(&rt, alloc, &words, "", &[], 4096)?;

@@ -1,6 +1,6 @@
 //! `run` over a text, and every end without a report.
-use bench_cases::Status;
 use bench_cases::cases::{Case, check, command_line, header, outcome, workload};
+use bench_cases::{Fault, Status};
 use std::test::Fail;
 
 /// What was run, and its report.
@@ -171,7 +171,10 @@ fn says_why_there_is_no_report(rt: HostRuntime) -> Result<(), Fail> {
             "",
             &[],
             4096,
-            Status::Refused { line: 1, code: 3 },
+            Status::Refused {
+                line: 1,
+                fault: Fault::Unended,
+            },
             "refused 1 3 unended\n",
         ),
         (run, &text, &[0], 4096, Status::ReadFault, "read fault\n"),
@@ -187,7 +190,7 @@ fn says_why_there_is_no_report(rt: HostRuntime) -> Result<(), Fail> {
 }
 
 /// The command, the lines of the header that differ, the text after it, and its first fault.
-type Fault = (
+type FaultyText = (
     &'static str,
     &'static str,
     &'static str,
@@ -196,7 +199,7 @@ type Fault = (
     &'static str,
 );
 
-const FAULTS: &[Fault] = &[
+const FAULTS: &[FaultyText] = &[
     ("run", "words 0", "done\n", 2, 6, "range"),
     ("run", "alg NOrec", "done\n", 9, 7, "alg"),
     ("run", "", "", 11, 3, "unended"),
@@ -275,7 +278,7 @@ fn names_every_fault_of_the_text(rt: HostRuntime) -> Result<(), Fail> {
             status,
             Status::Refused {
                 line: *line,
-                code: *code
+                fault: Fault::of(*code)
             }
         );
     }
@@ -322,7 +325,10 @@ fn ends_with_a_number_for_each_status(rt: HostRuntime) {
     let table = [
         Status::Ok,
         Status::Usage,
-        Status::Refused { line: 1, code: 2 },
+        Status::Refused {
+            line: 1,
+            fault: Fault::Bytes,
+        },
         Status::ReadFault,
         Status::WriteFault,
         Status::Memory,

@@ -1,7 +1,7 @@
 //! Workloads with structures: the words that they leave, and refusals.
-use bench_cases::Status;
 use bench_cases::cases::{Case, check, header, outcome};
 use bench_cases::plain_sets::{holds, words_of};
+use bench_cases::{Fault, Status};
 use std::alloc::Global;
 use std::test::Fail;
 
@@ -151,7 +151,10 @@ fn refuses_what_is_in_a_region(rt: HostRuntime) -> Result<(), Fail> {
     ];
     for (changes, body, line) in table {
         let said = format!(in rt.alloc(); "refused {line} 8 region")?;
-        let status = Status::Refused { line, code: 8 };
+        let status = Status::Refused {
+            line,
+            fault: Fault::Region,
+        };
         check(
             &rt,
             rt.alloc(),

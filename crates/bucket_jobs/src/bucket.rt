@@ -6,7 +6,7 @@ use stm_model::access::Access;
 use stm_model::rule::MemRule;
 use stm_model::stop::Stop;
 use tx_transaction::transaction::Transaction;
-use tx_transaction::words::{read_three, write_three};
+use tx_transaction::words::{read_words, write_words};
 
 /// Buckets of this capacity, one for each of 16 clients. Word `n` of their memory has what client `n` was handed, word
 /// `16 + n` its tokens, and word 32 what all were handed.
@@ -58,16 +58,18 @@ impl Transaction<Limiter> for Wish {
     ghost postcondition = { λ it limiter words given log. DoesOver (IsFair limiter) words (wished_in limiter it) nothing given log };
 
     fn run<A: Access>(&self, limiter: &Limiter, memory: &mut A) -> Result<u64, Stop> {
-        let (found, handed, counted) = read_three(memory, 16 + self.client, self.client, 32)?;
+        let [found, handed, counted] = read_words(memory, [16 + self.client, self.client, 32])?;
         // this can't wrap: no bucket is over its capacity
         let tokens = found + self.more.min(limiter.capacity - found);
         let given = self.granted(tokens, counted);
         // nor can this: what one client was handed is a part of what was counted
-        write_three(
+        write_words(
             memory,
-            (16 + self.client, tokens - given),
-            (self.client, handed + given),
-            (32, counted + given),
+            [
+                (16 + self.client, tokens - given),
+                (self.client, handed + given),
+                (32, counted + given),
+            ],
         )?;
         Ok(given)
     }

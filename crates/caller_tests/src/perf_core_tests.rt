@@ -1,22 +1,17 @@
 //! Small runs of each workload under each algorithm, and the command line.
 
 use perf_core::conflicts::Conflicts;
-use perf_core::plan::{Plan, Workload, plan_of};
-use perf_core::program::told;
+use perf_core::ending::Ending;
+use perf_core::help::{Topic, help_of};
+use perf_core::plan::{Plan, WORKLOADS, Workload, plan_of};
+use perf_core::program::said_of;
 use perf_core::run::run;
+use perf_core::wrong::wrong_word;
 use std::test::Fail;
 use stm_model::alg::{ALGORITHMS, Alg};
 use stm_model::stop::Cause;
 use tx_atomic::observer::Observer;
 use tx_atomic::tally::Ended;
-
-const WORKLOADS: [Workload; 5] = [
-    Workload::Bank,
-    Workload::Hash,
-    Workload::List,
-    Workload::Count,
-    Workload::Sum,
-];
 
 #[test]
 fn each_memory_is_right(rt: HostRuntime) -> Result<(), Fail> {
@@ -171,20 +166,76 @@ fn no_word_is_named_unasked(rt: HostRuntime) -> Result<(), Fail> {
     Ok(())
 }
 
-/// What is told of each exit status but 0.
+/// What is told of each ending, and of words that ask for nothing.
 #[test]
-fn each_status_is_told(rt: HostRuntime) -> Result<(), Fail> {
+fn each_ending_is_told(rt: HostRuntime) -> Result<(), Fail> {
     let table = [
-        (0, None),
-        (1, Some("the memory isn't what the transactions leave")),
-        (4, Some("standard output could not be written to the end")),
-        (5, Some("memory was refused")),
+        (Ending::Right, 0, None),
+        (Ending::Help, 0, None),
+        (
+            Ending::WriteFault,
+            4,
+            Some("standard output could not be written to the end"),
+        ),
+        (Ending::Memory, 5, Some("memory was refused")),
+        (
+            Ending::Wrong,
+            7,
+            Some("the memory isn't what the transactions leave"),
+        ),
     ];
-    for (status, said) in table {
-        assert_eq!(rt; told(status), said, "{status}");
+    for (ending, status, wanted) in table {
+        let said = said_of(rt.alloc(), ending, &[])?;
+        assert_eq!(rt; said.as_deref(), wanted);
+        assert_eq!(rt; ending.exit_code(), status);
     }
-    let usage = told(2).unwrap_or("");
-    assert!(rt; usage.starts_with("usage: stm_perf WORKLOAD ALGORITHM THREADS COUNT SEED"));
-    assert!(rt; usage.contains("example: stm_perf bank OrecLazy 4 1000000 1"));
+    let words = [
+        ("", "WORKLOAD is missing; here stands one of `"),
+        ("bnk", "`bnk` is no WORKLOAD; here stands `bank`, "),
+        (
+            "bank oreclazy",
+            "`oreclazy` is no ALGORITHM; here stands `OrecLazy`, ",
+        ),
+        (
+            "bank TML 33",
+            "`33` is out of its range; here stands THREADS from 1 to 32",
+        ),
+        (
+            "bank TML 3 09",
+            "`09` is no number (digits alone, no 0 in front, below 2^64); here stands COUNT ",
+        ),
+        (
+            "bank TML 3 9",
+            "SEED is missing; here stands SEED from 0 to 18446744073709551615",
+        ),
+        (
+            "bank TML 3 9 1 5000",
+            "`5000` is out of its range; here stands READS from 1 to 4096",
+        ),
+        (
+            "bank TML 3 9 1 switches",
+            "N is missing; here stands N from 1 to 4294967295",
+        ),
+        (
+            "bank TML 3 9 1 switchs 4",
+            "`switchs` isn't used so; here stands `SEED [READS] [switches N] [conflicts]`",
+        ),
+    ];
+    for (text, wanted) in &words {
+        let mut line = Vec::new(rt.alloc());
+        line.push("stm_perf")?;
+        for word in text.split(' ') {
+            if !word.is_empty() {
+                line.push(word)?;
+            }
+        }
+        assert_eq!(rt; plan_of(line.as_slice()), None);
+        let said = wrong_word(rt.alloc(), line.as_slice())?;
+        assert!(rt; said.starts_with(wanted), "{said}");
+    }
+    assert_eq!(rt; help_of(&["stm_perf", "--help"]), Some(Topic::All));
+    assert_eq!(rt; help_of(&["stm_perf", "-V"]), Some(Topic::Version));
+    assert_eq!(rt; help_of(&["stm_perf", "bank", "--help"]), None);
+    assert!(rt; Topic::All.text().starts_with("usage: stm_perf WORKLOAD"));
     Ok(())
 }

@@ -3,7 +3,7 @@ ghost use Rattle.std.specs.Prelude.{◌≡◌, ◌<◌};
 
 use std::sync::Wait;
 use std::test::Fail;
-use stm_tx::{ALGORITHMS, Access, AnyMem, Stop};
+use stm_tx::{ALGORITHMS, Access, Alg, AnyMem, Stop};
 use tx_atomic::transaction::Transaction;
 use tx_jobs::calls::Calls;
 use tx_jobs::job::Job;
@@ -13,52 +13,58 @@ use tx_start::memory::with_memory;
 /// How many values go from the one caller to the other.
 const VALUES: u64 = 300;
 
-/// Puts a value into word 0, once that is empty: 0.
+/// Puts a value into a word, once that is empty: 0.
 #[derive(Drop)]
-struct Put(u64);
+struct Put {
+    at: usize,
+    value: u64,
+}
 
 impl Transaction<AnyMem> for Put {
     ghost use Rattle.std.specs.Prelude.{◌≡◌, ◌<◌, [], IfNone};
 
     type Output = Option<()>;
 
-    ghost precondition = { λ it rule words. 0 < words };
+    ghost precondition = { λ it rule words. it.at < words };
 
     ghost postcondition = { λ it rule words came log. IfNone came (log.writes ≡ []) };
 
     fn run<A: Access>(&self, _: &AnyMem, memory: &mut A) -> Result<Option<()>, Stop> {
-        if memory.read(0)? != 0 {
+        if memory.read(self.at)? != 0 {
             return Ok(None);
         }
-        memory.write(0, self.0)?;
+        memory.write(self.at, self.value)?;
         Ok(Some(()))
     }
 }
 
-/// Takes what word 0 holds, once it is something.
+/// Takes what a word holds, once it is something.
 #[derive(Drop)]
-struct Take;
+struct Take {
+    at: usize,
+}
 
 impl Transaction<AnyMem> for Take {
     ghost use Rattle.std.specs.Prelude.{◌≡◌, ◌<◌, [], IfNone};
 
     type Output = Option<u64>;
 
-    ghost precondition = { λ it rule words. 0 < words };
+    ghost precondition = { λ it rule words. it.at < words };
 
     ghost postcondition = { λ it rule words came log. IfNone came (log.writes ≡ []) };
 
     fn run<A: Access>(&self, _: &AnyMem, memory: &mut A) -> Result<Option<u64>, Stop> {
-        let value = memory.read(0)?;
+        let value = memory.read(self.at)?;
         if value == 0 {
             return Ok(None);
         }
-        memory.write(0, 0)?;
+        memory.write(self.at, 0)?;
         Ok(Some(value))
     }
 }
 
-/// Caller 0 puts the values from 1 on, and caller 1 takes them and answers whether they came in order.
+/// Caller 0 puts the values from 1 on into word 0, caller 1 takes them and answers whether they came in order, and each other
+/// caller installs one algorithm after the other meanwhile.
 struct Hand;
 
 impl<R: Wait> Job<R, AnyMem> for Hand {
@@ -80,16 +86,19 @@ impl<R: Wait> Job<R, AnyMem> for Hand {
     }
 }
 
-/// Caller 0 puts the value, and caller 1 takes one, and answers whether it is this.
 fn hand_over<R: Wait, C: Calls<R, AnyMem>>(caller: &mut C, value: u64) -> bool
     requires words { 0 < (C.seat caller.old).words }
     ensures keeps { C.keeps caller.old caller.new }
     ensures same { C.seat caller.new ≡ C.seat caller.old }
 {
-    if caller.number() == 0 {
-        caller.until_some(&Put(value)).is_some()
-    } else {
-        caller.until_some(&Take) == Some(value)
+    match caller.number() {
+        0 => caller.until_some(&Put { at: 0, value }).is_some(),
+        1 => caller.until_some(&Take { at: 0 }) == Some(value),
+        _ => {
+            let next = (value % 6) as usize;
+            caller.switch_to(ALGORITHMS[next]);
+            true
+        }
     }
 }
 
@@ -101,6 +110,77 @@ fn each_value_is_handed_over(rt: HostRuntime) -> Result<(), Fail> {
         for answer in came.answers.iter() {
             assert!(rt; *answer);
         }
+    }
+    Ok(())
+}
+
+#[test]
+fn each_value_is_handed_over_across_switches(rt: HostRuntime) -> Result<(), Fail> {
+    let came = with_memory(&rt, rt.alloc(), sizes(1, 3), Alg::OrecLazy, AnyMem, &Hand)?;
+    assert_eq!(rt; came.words.first().copied(), Some(0));
+    for answer in came.answers.iter() {
+        assert!(rt; *answer);
+    }
+    Ok(())
+}
+
+/// How many values each sleeper gets.
+const ROUNDS: u64 = 20;
+
+/// Caller 0 puts values into the word of each other caller in turn, who takes them, and sleeps while it has none.
+struct Serve;
+
+impl<R: Wait> Job<R, AnyMem> for Serve {
+    ghost use Rattle.std.specs.Prelude.{◌≡◌};
+
+    type Output = ();
+
+    ghost precondition = { λ job rule words. words ≡ 32 };
+
+    ghost postcondition = { λ job rule words caller answer before after. Unit {0} };
+
+    fn work<C: Calls<R, AnyMem>>(&self, caller: &mut C) {
+        for value in 1..ROUNDS + 1 {
+            serve_one(caller, value);
+        }
+    }
+}
+
+/// Caller 0 puts the value into the word of each other, and each other takes one from its own.
+fn serve_one<R: Wait, C: Calls<R, AnyMem>>(caller: &mut C, value: u64)
+    requires words { (C.seat caller.old).words ≡ 32 }
+    ensures keeps { C.keeps caller.old caller.new }
+    ensures same { C.seat caller.new ≡ C.seat caller.old }
+{
+    let number = caller.number();
+    if number == 0 {
+        put_all(caller, value);
+    } else {
+        caller.until_some(&Take { at: number % 32 });
+    }
+}
+
+fn put_all<R: Wait, C: Calls<R, AnyMem>>(caller: &mut C, value: u64)
+    requires words { (C.seat caller.old).words ≡ 32 }
+    ensures keeps { C.keeps caller.old caller.new }
+    ensures same { C.seat caller.new ≡ C.seat caller.old }
+{
+    for at in 1..32 {
+        caller.until_some(&Put { at, value });
+    }
+}
+
+/// A value costs its taker some ten attempts before it sleeps, and one after: were each woken by each write, it would be thirty
+/// more.
+#[test]
+fn each_sleeper_is_woken_by_its_own_word(rt: HostRuntime) -> Result<(), Fail> {
+    for alg in [Alg::OrecLazy, Alg::OrecEager, Alg::RingSw] {
+        let came = with_memory(&rt, rt.alloc(), sizes(32, 32), alg, AnyMem, &Serve)?;
+        let mut attempts: u64 = 0;
+        for tally in came.past.tallies.iter() {
+            attempts = attempts.saturating_add(tally.commits);
+        }
+        assert!(rt; attempts < 31 * 26 * ROUNDS);
     }
     Ok(())
 }

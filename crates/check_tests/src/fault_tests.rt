@@ -3,6 +3,7 @@ use std::alloc::Global;
 use std::process::Abort;
 use std::test::Fail;
 use stm_check::checking::{Finding, MOST_CHECKED, Part, check};
+use stm_faults::fault::Fault;
 use stm_faults::report::checked_fault;
 use stm_faults::trace::trace_fault;
 use stm_faults::workload::{workload_fault, workload_fault_for};
@@ -322,7 +323,7 @@ fn said_of_check(alloc: Global, text: &str) -> Result<String, Fail> {
     let Finding::Faulty { line, code } = checked.finding else {
         return Err(Fail::new("a text without a fault"));
     };
-    Ok(checked_fault(alloc, text.as_bytes(), checked.part, line, code)?)
+    Ok(checked_fault(alloc, text.as_bytes(), checked.part, line, Fault::of(code))?)
 }
 
 /// What is said of a workload and a report that doesn't replay it.
@@ -386,7 +387,7 @@ fn the_other_faults_are_told(rt: HostRuntime) -> Result<(), Fail> {
     let alloc = rt.alloc();
     let text = changed(alloc, ONE, 14, "schedule / done")?;
     assert_eq!(rt;
-        workload_fault_for(alloc, Mode::Run, text.as_bytes(), 14, 4)?.as_str(),
+        workload_fault_for(alloc, Mode::Run, text.as_bytes(), 14, Fault::Word)?.as_str(),
         "line 14, `schedule`: `run` takes no schedule, `step` does; here stands `done`, `switch C ALG`, `tx C`"
     );
     assert_eq!(rt;
@@ -398,7 +399,7 @@ fn the_other_faults_are_told(rt: HostRuntime) -> Result<(), Fail> {
         "the text has more than 16777216 bytes; here stands a workload of at most so many"
     );
     assert_eq!(rt;
-        checked_fault(alloc, b"", Part::Report, 0, 13)?.as_str(),
+        checked_fault(alloc, b"", Part::Report, 0, Fault::LongReport)?.as_str(),
         "the report has more than 134217728 bytes; here stands one of at most so many"
     );
     let text = changed(alloc, ONE, 0, "")?;

@@ -5,7 +5,7 @@ use Rattle.std.proofs.lemmas.Bool.Decides.{nat_tests}
 use Rattle.std.proofs.lemmas.List.{take_rest}
 use Rattle.stm_check.specs.Grammar.{words_left}
 use Rattle.stm_text.specs.LineLaws.{words_of-some}
-use Rattle.draw_core.specs.declared.step.Step.{Step}
+use Rattle.draw_core.specs.declared.row.Row.{Row}
 use Rattle.draw_core.specs.Grammar.{is_nil}
 use Rattle.stm_model.specs.declared.alg.Alg.{Alg}
 use Rattle.draw_core.specs.declared.kind.Kind.{Kind}
@@ -14,16 +14,16 @@ use Rattle.draw_core.specs.declared.shape.Sought.{Sought}
 use Rattle.draw_core.specs.declared.shape.Sought.TheVariants.{End}
 use Rattle.draw_core.specs.Shapes.{box_of, boxes_of, before, more, part, ended_by, attempt_at}
 
-pub length-boxes : (ls : List Step) → length (boxes_of ls) ≡ length ls
+pub length-boxes : (ls : List Row) → length (boxes_of ls) ≡ length ls
 length-boxes [] = refl
 length-boxes (l ∷ ls) = ap suc (length-boxes ls)
 
-pub drop-boxes : (k : ℕ) (ls : List Step) → boxes_of (drop k ls) ≡ drop k (boxes_of ls)
+pub drop-boxes : (k : ℕ) (ls : List Row) → boxes_of (drop k ls) ≡ drop k (boxes_of ls)
 drop-boxes zero ls = refl
 drop-boxes (suc k) [] = refl
 drop-boxes (suc k) (l ∷ ls) = drop-boxes k ls
 
-pub take-boxes : (k : ℕ) (ls : List Step) → boxes_of (take k ls) ≡ take k (boxes_of ls)
+pub take-boxes : (k : ℕ) (ls : List Row) → boxes_of (take k ls) ≡ take k (boxes_of ls)
 take-boxes zero ls = refl
 take-boxes (suc k) [] = refl
 take-boxes (suc k) (l ∷ ls) = ap (λ t. box_of l ∷ t) (take-boxes k ls)
@@ -36,7 +36,7 @@ no-words [] b e = e
 no-words (x ∷ xs) b e = let w = words_of-some xs in e ∙ (some-left (length xs) ∙ sym (ap is_nil w.2))
 
 -- the part of an attempt, by where it ends and by where what is looked for stands
-module _ (sought : Sought) (row lane k m : ℕ) (ls : List Step) (end : k ≡ before End lane (boxes_of ls)) (first : m ≡ before sought lane (boxes_of (take k ls))) where
+module _ (sought : Sought) (row lane k m : ℕ) (ls : List Row) (end : k ≡ before End lane (boxes_of ls)) (first : m ≡ before sought lane (boxes_of (take k ls))) where
   part-by : part sought row lane (boxes_of ls) ≡ (if ltb m k then Some (row + 1 + m, more k (boxes_of ls) - (m + 1)) else None)
   part-by = let at : m ≡ before sought lane (take k (boxes_of ls)) = first ∙ ap (before sought lane) (take-boxes k ls) in rw (← end, ← at) refl
 
@@ -47,8 +47,8 @@ module _ (sought : Sought) (row lane k m : ℕ) (ls : List Step) (end : k ≡ be
   part-none le = let t : ltb m k ≡ false = grind (arith, nat_tests) in part-by ∙ rw t refl
 
 -- an attempt, by where it ends
-pub attempt-by : (row lane k m : ℕ) (alg : Alg) (kind : Kind) (ls : List Step) → k ≡ before End lane (boxes_of ls) → m ≡ more k (boxes_of ls) → kind ≡ ended_by alg (boxes_of (take (length ls - k) (drop k ls)))
+pub attempt-by : (row lane k m : ℕ) (alg : Alg) (kind : Kind) (ls : List Row) → k ≡ before End lane (boxes_of ls) → m ≡ more k (boxes_of ls) → kind ≡ ended_by alg (boxes_of (take (length ls - k) (drop k ls)))
     → Attempt lane row m kind ≡ attempt_at row lane alg (boxes_of ls)
 attempt-by row lane k m alg kind ls end rows is =
-    let last : kind ≡ ended_by alg (drop k (boxes_of ls)) = is ∙ ap (λ (x : List Step). ended_by alg (boxes_of x)) (take_rest ls k) ∙ ap (ended_by alg) (drop-boxes k ls) in
+    let last : kind ≡ ended_by alg (drop k (boxes_of ls)) = is ∙ ap (λ (x : List Row). ended_by alg (boxes_of x)) (take_rest ls k) ∙ ap (ended_by alg) (drop-boxes k ls) in
     (λ i. Attempt lane row (rows i) (last i)) ∙ (rw (← end) refl)

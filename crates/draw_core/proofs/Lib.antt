@@ -8,3 +8,9 @@ pub mod Drawing
 pub mod Marking
 pub mod Labelling
 pub mod Pictured
+pub mod Slots
+pub mod Paging
+pub mod PageLaws
+pub mod WalkLaws
+pub mod PageDrawn
+pub mod Saids

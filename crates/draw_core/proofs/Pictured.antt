@@ -1,9 +1,10 @@
 -- Each part of a picture is markup.
-use Rattle.std.proofs.Common.{ℕ, ◌≡◌, ◌+◌, ◌*◌, List, [], ◌∷◌, ◌++◌, Bool, true, false, refl, subst, ◌∙◌, append_assoc}
-use Rattle.std.specs.Prelude.{if◌then◌else◌, ltb, length, Option, Some, None, codes}
+use Rattle.std.proofs.Common.{ℕ, ◌≡◌, ◌+◌, ◌-◌, ◌*◌, ◌/◌, List, zero, suc, [], ◌∷◌, ◌++◌, Bool, true, false, refl, subst, ◌∙◌, append_assoc}
+use Rattle.std.specs.Prelude.{if◌then◌else◌, ltb, leb, ◌==◌, length, Option, Some, None, codes, bytes_eq}
 use Rattle.std.specs.Fmt.{decimal}
 use Rattle.stm_model.specs.Algorithms.{alg_name}
-use Rattle.draw_core.specs.declared.step.Step.{Step}
+use Rattle.draw_core.specs.declared.picture.Leaf.{Leaf}
+use Rattle.draw_core.specs.declared.row.Row.{Row}
 use Rattle.draw_core.specs.declared.kind.Kind.{Kind}
 use Rattle.draw_core.specs.declared.kind.Kind.TheVariants.{Begins}
 use Rattle.draw_core.specs.declared.picture.Sheet.{Sheet}
@@ -11,11 +12,12 @@ use Rattle.draw_core.specs.declared.shape.Shape.{Shape}
 use Rattle.draw_core.specs.declared.shape.Shape.TheVariants.{Lane, Closed, Installed, Attempt, Irrevocable, Clock}
 use Rattle.draw_core.specs.declared.shape.Layer.{Layer}
 use Rattle.draw_core.specs.declared.shape.Layer.TheVariants.{Lanes, Closings, Installs as Installings, Attempts, Promotions, Clocks}
-use Rattle.draw_core.specs.Kinds.{class_of}
+use Rattle.draw_core.specs.Kinds.{class_of, is_finish}
 use Rattle.draw_core.specs.Markup.{Words, Attributes, Value, reads_on, IsMarkup}
-use Rattle.draw_core.specs.Shapes.{Box, box_of, boxes_of, shape_at, is_finish}
-use Rattle.draw_core.specs.Texts.{place_bytes, size_bytes, rect_bytes, open_bytes, close_bytes, left, top, tall, edge, shape_bytes, part_bytes, layer_bytes, narrowed, squeezed, box_rect, box_bytes, boxes_bytes, page_width, page_height, style_bytes, legend_bytes, page_bytes, name_bytes, axis_bytes, head_bytes, foot_bytes, drawing_bytes, svg_of, sheet_of}
-use Rattle.draw_core.proofs.Marking.{all_calm, Calm, calm, calm-append, calm-decimal, Keeps, keeps-none, keeps-append, onto, past-value, past-words}
+use Rattle.draw_core.specs.Shown.{shown_words, title_bytes, words_bytes}
+use Rattle.draw_core.specs.Shapes.{Box, box_of, boxes_of, shape_at}
+use Rattle.draw_core.specs.Texts.{place_bytes, size_bytes, rect_bytes, open_bytes, close_bytes, left, top, tall, edge, shape_bytes, part_bytes, layer_bytes, squeezed, head_at, heads_bytes, lane_bytes, clock_bytes, deep, box_rect, box_bytes, boxes_bytes, said_on, turn_bytes, number_bytes, page_number, page_width, page_height, style_bytes, legend_bytes, view_bytes, page_bytes, naming_bytes, name_bytes, axis_bytes, head_bytes, foot_bytes, drawing_bytes, svg_of, sheet_of}
+use Rattle.draw_core.proofs.Marking.{all_calm, Calm, calm, calm-append, calm-decimal, calm-keeps, shown-calm, Keeps, keeps-none, keeps-append, onto, past-value, past-words}
 use Rattle.draw_core.proofs.Labelling.{alg-calm, label-calm}
 
 class-test : (k : Kind) → all_calm (class_of k) ≡ true
@@ -73,55 +75,76 @@ opening-reads tags class kind x y more c k m =
     ∙ (past-value tags (codes "text") (decimal y) (codes "'" ++ (more ++ codes ">")) (calm-decimal y)
     ∙ onto (Some (Attributes tags (codes "text"))) more (codes ">") (Some (Attributes tags (codes "text"))) (m.on tags (codes "text")))))
 
-text-keeps : (class kind : List ℕ) (x y : ℕ) (more words : List ℕ) → Calm class → Calm kind → More more → Calm words → Keeps (open_bytes class kind x y more ++ (words ++ close_bytes))
-text-keeps class kind x y more words c k m w = record {
+-- with what leaves open what was open, and with words alone
+text-holds : (class kind : List ℕ) (x y : ℕ) (more inner : List ℕ) → Calm class → Calm kind → More more → Keeps inner → Keeps (open_bytes class kind x y more ++ (inner ++ close_bytes))
+text-holds class kind x y more inner c k m w = record {
   keeps = λ tags.
-      onto (Some (Words tags)) (open_bytes class kind x y more) (words ++ close_bytes) (Some (Words (codes "text" ∷ tags))) (opening-reads tags class kind x y more c k m)
-      ∙ past-words (codes "text" ∷ tags) words close_bytes w;
+      onto (Some (Words tags)) (open_bytes class kind x y more) (inner ++ close_bytes) (Some (Words (codes "text" ∷ tags))) (opening-reads tags class kind x y more c k m)
+      ∙ onto (Some (Words (codes "text" ∷ tags))) inner close_bytes (Some (Words (codes "text" ∷ tags))) (w.keeps (codes "text" ∷ tags));
 }
 
-narrowed-by : (b : Bool) → More (if b then codes " textLength='36' lengthAdjust='spacingAndGlyphs'" else [])
-narrowed-by true = record { on = λ tags name. refl }
-narrowed-by false = none-more
+text-keeps : (class kind : List ℕ) (x y : ℕ) (more words : List ℕ) → Calm class → Calm kind → More more → Calm words → Keeps (open_bytes class kind x y more ++ (words ++ close_bytes))
+text-keeps class kind x y more words c k m w = text-holds class kind x y more words c k m (calm-keeps words w)
 
-narrowed-more : (time : ℕ) → More (narrowed time)
-narrowed-more time = narrowed-by (ltb 99999 time)
+titled-by : (b : Bool) (words : List ℕ) → Calm words → Keeps (if b then [] else codes "<title>" ++ (words ++ codes "</title>"))
+titled-by true words c = keeps-none
+titled-by false words c = record { keeps = λ tags. past-words (codes "title" ∷ tags) words (codes "</title>") c }
+
+words-keep : (words : List ℕ) → Calm words → Keeps (words_bytes words)
+words-keep words c =
+    keeps-append (title_bytes words (shown_words words)) (shown_words words) (titled-by (bytes_eq (shown_words words) words) words c) (calm-keeps (shown_words words) (shown-calm words c))
 
 -- the shapes
 
 plain : Calm (codes "words")
 plain = calm (codes "words") refl
 
+head-keeps : (lane y : ℕ) → Keeps (head_at lane y)
+unfolding head_at
+head-keeps lane y =
+    text-keeps (codes "head") (codes "words") (left lane + 108) y [] (codes "caller " ++ decimal lane) (calm (codes "head") refl) plain
+    none-more (calm-append (codes "caller ") (decimal lane) (calm (codes "caller ") refl) (calm-decimal lane))
+
+heads-keep : (lane blocks : ℕ) → Keeps (heads_bytes lane blocks)
+heads-keep lane zero = keeps-none
+heads-keep lane (suc blocks) = keeps-append (heads_bytes lane blocks) (head_at lane (top ((blocks + 1) * 40) - 8)) (heads-keep lane blocks) (head-keeps lane (top ((blocks + 1) * 40) - 8))
+
+lane-keeps : (s : Sheet) (lane : ℕ) → Keeps (lane_bytes s lane)
+unfolding lane_bytes
+lane-keeps s lane =
+    keeps-append (rect_bytes (codes "lane") (codes "shape") (left lane + 2) 36 212 (deep s * 24 + 16)) (head_at lane 28 ++ heads_bytes lane ((s.rows - 1) / 40))
+    (rect-keeps (codes "lane") (codes "shape") (left lane + 2) 36 212 (deep s * 24 + 16) (calm (codes "lane") refl) (calm (codes "shape") refl))
+    (keeps-append (head_at lane 28) (heads_bytes lane ((s.rows - 1) / 40)) (head-keeps lane 28) (heads-keep lane ((s.rows - 1) / 40)))
+
+clock-keeps : (row time : ℕ) → Keeps (clock_bytes row time)
+unfolding clock_bytes
+clock-keeps row time =
+    keeps-append (rect_bytes (codes "tick") (codes "shape") 126 (top row + 8) 8 8) (open_bytes (codes "clock") (codes "words") 120 (top row + 16) [] ++ (words_bytes (decimal time) ++ close_bytes))
+    (rect-keeps (codes "tick") (codes "shape") 126 (top row + 8) 8 8 (calm (codes "tick") refl) (calm (codes "shape") refl))
+    (text-holds (codes "clock") (codes "words") 120 (top row + 16) [] (words_bytes (decimal time)) (calm (codes "clock") refl) plain none-more (words-keep (decimal time) (calm-decimal time)))
+
 shape-keeps : (s : Sheet) (shape : Shape) → Keeps (shape_bytes s shape)
 unfolding shape_bytes
-shape-keeps s (Lane lane) =
-    keeps-append (rect_bytes (codes "lane") (codes "shape") (left lane + 2) 36 212 (s.rows * 24 + 16))
-    (open_bytes (codes "head") (codes "words") (left lane + 108) 28 [] ++ (codes "caller " ++ (decimal lane ++ close_bytes)))
-    (rect-keeps (codes "lane") (codes "shape") (left lane + 2) 36 212 (s.rows * 24 + 16) (calm (codes "lane") refl) (calm (codes "shape") refl))
-    (text-keeps (codes "head") (codes "words") (left lane + 108) 28 [] (codes "caller " ++ decimal lane) (calm (codes "head") refl) plain
-    none-more (calm-append (codes "caller ") (decimal lane) (calm (codes "caller ") refl) (calm-decimal lane)))
+shape-keeps s (Lane lane) = lane-keeps s lane
 shape-keeps s (Closed lane from more) =
-    keeps-append (rect_bytes (codes "closed") (codes "shape") 84 (top from) (s.lanes * 216 + 16) (tall more + 2))
+    keeps-append (rect_bytes (codes "closed") (codes "shape") 130 (top from) (s.lanes * 216 + 16) (tall from more + 2))
     (open_bytes (codes "side") (codes "words") (edge s + 14) (top from + 16) []
     ++ (codes "gate closed by " ++ (decimal lane ++ close_bytes)))
-    (rect-keeps (codes "closed") (codes "shape") 84 (top from) (s.lanes * 216 + 16) (tall more + 2) (calm (codes "closed") refl) (calm (codes "shape") refl))
+    (rect-keeps (codes "closed") (codes "shape") 130 (top from) (s.lanes * 216 + 16) (tall from more + 2) (calm (codes "closed") refl) (calm (codes "shape") refl))
     (text-keeps (codes "side") (codes "words") (edge s + 14) (top from + 16) [] (codes "gate closed by " ++ decimal lane)
     (calm (codes "side") refl) plain none-more
     (calm-append (codes "gate closed by ") (decimal lane) (calm (codes "gate closed by ") refl) (calm-decimal lane)))
 shape-keeps s (Installed row alg) =
-    keeps-append (rect_bytes (codes "installed") (codes "shape") 84 (top row + 23) (s.lanes * 216 + 16) 2)
+    keeps-append (rect_bytes (codes "installed") (codes "shape") 130 (top row + 23) (s.lanes * 216 + 16) 2)
     (open_bytes (codes "side") (codes "words") (edge s + 14) (top row + 28) [] ++ (alg_name alg ++ codes " from here</text>\n"))
-    (rect-keeps (codes "installed") (codes "shape") 84 (top row + 23) (s.lanes * 216 + 16) 2 (calm (codes "installed") refl) (calm (codes "shape") refl))
+    (rect-keeps (codes "installed") (codes "shape") 130 (top row + 23) (s.lanes * 216 + 16) 2 (calm (codes "installed") refl) (calm (codes "shape") refl))
     (subst (λ (t : List ℕ). Keeps (open_bytes (codes "side") (codes "words") (edge s + 14) (top row + 28) [] ++ t)) (append_assoc (alg_name alg) (codes " from here") close_bytes)
     (text-keeps (codes "side") (codes "words") (edge s + 14) (top row + 28) [] (alg_name alg ++ codes " from here")
     (calm (codes "side") refl) plain none-more
     (calm-append (alg_name alg) (codes " from here") (alg-calm alg) (calm (codes " from here") refl))))
-shape-keeps s (Attempt lane from more kind) = rect-keeps (codes "attempt") (class_of kind) (left lane + 4) (top from + 1) 208 (tall more) (calm (codes "attempt") refl) (class-calm kind)
-shape-keeps s (Irrevocable lane from more) = rect-keeps (codes "sure") (codes "shape") (left lane + 4) (top from + 1) 6 (tall more) (calm (codes "sure") refl) (calm (codes "shape") refl)
-shape-keeps s (Clock row time) =
-    keeps-append (rect_bytes (codes "tick") (codes "shape") 80 (top row + 8) 8 8) (open_bytes (codes "clock") (codes "words") 74 (top row + 16) (narrowed time) ++ (decimal time ++ close_bytes))
-    (rect-keeps (codes "tick") (codes "shape") 80 (top row + 8) 8 8 (calm (codes "tick") refl) (calm (codes "shape") refl))
-    (text-keeps (codes "clock") (codes "words") 74 (top row + 16) (narrowed time) (decimal time) (calm (codes "clock") refl) plain (narrowed-more time) (calm-decimal time))
+shape-keeps s (Attempt lane from more kind) = rect-keeps (codes "attempt") (class_of kind) (left lane + 4) (top from + 1) 208 (tall from more) (calm (codes "attempt") refl) (class-calm kind)
+shape-keeps s (Irrevocable lane from more) = rect-keeps (codes "sure") (codes "shape") (left lane + 4) (top from + 1) 6 (tall from more) (calm (codes "sure") refl) (calm (codes "shape") refl)
+shape-keeps s (Clock row time) = clock-keeps row time
 
 part-keeps : (s : Sheet) (shape : Option Shape) → Keeps (part_bytes s shape)
 part-keeps s None = keeps-none
@@ -140,39 +163,86 @@ either false xs ys c d = d
 box-rect-keeps : (s : Sheet) (row : ℕ) (b : Box) → Keeps (box_rect s row b)
 unfolding box_rect
 box-rect-keeps s row b =
-    either (is_finish b.kind) (rect_bytes (codes "box") (class_of b.kind) 88 (top row + 3) (s.lanes * 216 + 8) 18) (rect_bytes (codes "box") (class_of b.kind) (left b.lane + 14) (top row + 3) 194 18)
-    (rect-keeps (codes "box") (class_of b.kind) 88 (top row + 3) (s.lanes * 216 + 8) 18 (calm (codes "box") refl) (class-calm b.kind))
+    either (is_finish b.kind) (rect_bytes (codes "box") (class_of b.kind) 134 (top row + 3) (s.lanes * 216 + 8) 18) (rect_bytes (codes "box") (class_of b.kind) (left b.lane + 14) (top row + 3) 194 18)
+    (rect-keeps (codes "box") (class_of b.kind) 134 (top row + 3) (s.lanes * 216 + 8) 18 (calm (codes "box") refl) (class-calm b.kind))
     (rect-keeps (codes "box") (class_of b.kind) (left b.lane + 14) (top row + 3) 194 18 (calm (codes "box") refl) (class-calm b.kind))
 
-number_text : ℕ → List ℕ
-number_text row = open_bytes (codes "row") (codes "words") 34 (top row + 16) [] ++ (decimal (row + 1) ++ close_bytes)
+number_text : ℕ → ℕ → List ℕ
+number_text row number = open_bytes (codes "row") (codes "words") 58 (top row + 16) [] ++ (decimal number ++ close_bytes)
+
+said-by : (b : Bool) (words : List ℕ) (times : ℕ) → Calm words → Calm (if b then words else codes " idle " ++ (decimal times ++ codes " times"))
+said-by true words times c = c
+said-by false words times c =
+    calm-append (codes " idle ") (decimal times ++ codes " times") (calm (codes " idle ") refl) (calm-append (decimal times) (codes " times") (calm-decimal times) (calm (codes " times") refl))
+
+said-calm : (b : Box) → Calm b.label → Calm (said_on b)
+said-calm b c = said-by (leb b.times 1) b.label b.times c
 
 box-keeps : (s : Sheet) (row : ℕ) (b : Box) → Calm b.label → Keeps (box_bytes s row b)
 unfolding box_bytes number_text
-box-keeps s row b c = record {
-  keeps = λ tags.
-      onto (Some (Words tags)) (box_rect s row b) (open_bytes (codes "label") (class_of b.kind) (left b.lane + 19) (top row + 16)
-      (squeezed b.label) ++ (b.label ++ (close_bytes ++ number_text row))) (Some (Words tags)) ((box-rect-keeps s row b).keeps tags)
-      ∙ (onto (Some (Words tags)) (open_bytes (codes "label") (class_of b.kind) (left b.lane + 19) (top row + 16) (squeezed b.label)) (b.label ++ (close_bytes ++ number_text row)) (Some (Words (codes "text" ∷ tags)))
-      (opening-reads tags (codes "label") (class_of b.kind) (left b.lane + 19) (top row + 16) (squeezed b.label) (calm (codes "label") refl) (class-calm b.kind) (squeezed-more b.label))
-      ∙ (past-words (codes "text" ∷ tags) b.label (close_bytes ++ number_text row) c
-      ∙ (text-keeps (codes "row") (codes "words") 34 (top row + 16) [] (decimal (row + 1)) (calm (codes "row") refl) plain none-more (calm-decimal (row + 1))).keeps tags));
-}
+box-keeps s row b c =
+    let words : List ℕ = said_on b in
+    let number : List ℕ = number_text row b.number in
+    let calm-words : Calm words = said-calm b c in
+    record {
+      keeps = λ tags.
+          onto (Some (Words tags)) (box_rect s row b) (open_bytes (codes "label") (class_of b.kind) (left b.lane + 19) (top row + 16)
+          (squeezed (shown_words words)) ++ (words_bytes words ++ (close_bytes ++ number))) (Some (Words tags)) ((box-rect-keeps s row b).keeps tags)
+          ∙ (onto (Some (Words tags)) (open_bytes (codes "label") (class_of b.kind) (left b.lane + 19) (top row + 16) (squeezed (shown_words words))) (words_bytes words ++ (close_bytes ++ number)) (Some (Words (codes "text" ∷ tags)))
+          (opening-reads tags (codes "label") (class_of b.kind) (left b.lane + 19) (top row + 16) (squeezed (shown_words words)) (calm (codes "label") refl) (class-calm b.kind) (squeezed-more (shown_words words)))
+          ∙ (onto (Some (Words (codes "text" ∷ tags))) (words_bytes words) (close_bytes ++ number) (Some (Words (codes "text" ∷ tags))) ((words-keep words calm-words).keeps (codes "text" ∷ tags))
+          ∙ (text-keeps (codes "row") (codes "words") 58 (top row + 16) [] (decimal b.number) (calm (codes "row") refl) plain none-more (calm-decimal b.number)).keeps tags));
+    }
 
-boxes-keep : (s : Sheet) (row : ℕ) (ls : List Step) → Keeps (boxes_bytes s row (boxes_of ls))
+boxes-keep : (s : Sheet) (row : ℕ) (ls : List Row) → Keeps (boxes_bytes s row (boxes_of ls))
 boxes-keep s row [] = keeps-none
-boxes-keep s row (l ∷ ls) = keeps-append (box_bytes s row (box_of l)) (boxes_bytes s (row + 1) (boxes_of ls)) (box-keeps s row (box_of l) (label-calm l)) (boxes-keep s (row + 1) ls)
+boxes-keep s row (l ∷ ls) = keeps-append (box_bytes s row (box_of l)) (boxes_bytes s (row + 1) (boxes_of ls)) (box-keeps s row (box_of l) (label-calm l.step)) (boxes-keep s (row + 1) ls)
 
 -- the page, and what stands around the lanes
 
 abbrev page : List (List ℕ)
 page = codes "svg" ∷ []
 
+view-reads : (width height : ℕ) → reads_on (Some (Words [])) (view_bytes width height) ≡ Some (Value [] (codes "svg"))
+unfolding view_bytes
+view-reads width height =
+    past-value [] (codes "svg") (decimal width) (codes " " ++ decimal height) (calm-decimal width)
+    ∙ (calm-decimal height).value [] (codes "svg")
+
 page-reads : (width height : ℕ) → reads_on (Some (Words [])) (page_bytes width height) ≡ Some (Words page)
 unfolding page_bytes
 page-reads width height =
-    past-value [] (codes "svg") (decimal width) (codes "' height='" ++ (decimal height ++ codes "'>\n")) (calm-decimal width)
-    ∙ past-value [] (codes "svg") (decimal height) (codes "'>\n") (calm-decimal height)
+    onto (Some (Words [])) (view_bytes width height) (codes "' width='" ++ (decimal width ++ (codes "' height='" ++ (decimal height ++ codes "'>\n")))) (Some (Value [] (codes "svg"))) (view-reads width height)
+    ∙ (past-value [] (codes "svg") (decimal width) (codes "' height='" ++ (decimal height ++ codes "'>\n")) (calm-decimal width)
+    ∙ past-value [] (codes "svg") (decimal height) (codes "'>\n") (calm-decimal height))
+
+naming-keeps : (s : Sheet) → Keeps (naming_bytes s)
+unfolding naming_bytes
+naming-keeps s = record {
+  keeps = λ tags.
+      past-words (codes "title" ∷ tags) (decimal s.leaf.page) (codes " of " ++ (decimal s.leaf.pages ++ codes " of a trace</title>\n")) (calm-decimal s.leaf.page)
+      ∙ past-words (codes "title" ∷ tags) (decimal s.leaf.pages) (codes " of a trace</title>\n") (calm-decimal s.leaf.pages);
+}
+
+page-number-keeps : (s : Sheet) → Keeps (page_number s)
+unfolding page_number
+page-number-keeps s = record {
+  keeps = λ tags.
+      let now : List (List ℕ) = codes "text" ∷ tags in
+      onto (Some (Words tags)) (open_bytes (codes "side") (codes "words") (edge s + 14) 28 [])
+      (codes "page " ++ (decimal s.leaf.page ++ (codes " of " ++ (decimal s.leaf.pages ++ close_bytes)))) (Some (Words now))
+      (opening-reads tags (codes "side") (codes "words") (edge s + 14) 28 [] (calm (codes "side") refl) plain none-more)
+      ∙ (past-words now (decimal s.leaf.page) (codes " of " ++ (decimal s.leaf.pages ++ close_bytes)) (calm-decimal s.leaf.page)
+      ∙ past-words now (decimal s.leaf.pages) close_bytes (calm-decimal s.leaf.pages));
+}
+
+number-keeps : (s : Sheet) → Keeps (number_bytes s)
+number-keeps s = either (leb s.leaf.pages 1) [] (page_number s) keeps-none (page-number-keeps s)
+
+turn-keeps : (s : Sheet) → Keeps (turn_bytes s)
+turn-keeps s =
+    either (s.leaf.above == 0) [] (rect_bytes (codes "turn") (codes "shape") 130 (top s.leaf.above - 1) (s.lanes * 216 + 16) 2) keeps-none
+    (rect-keeps (codes "turn") (codes "shape") 130 (top s.leaf.above - 1) (s.lanes * 216 + 16) 2 (calm (codes "turn") refl) (calm (codes "shape") refl))
 
 style-reads : reads_on (Some (Words page)) style_bytes ≡ Some (Words page)
 unfolding style_bytes
@@ -189,30 +259,34 @@ name-keeps x words w = text-keeps (codes "name") (codes "words") x 28 [] words (
 axis-keeps : (s : Sheet) → Keeps (axis_bytes s)
 unfolding axis_bytes
 axis-keeps s =
-    keeps-append (rect_bytes (codes "axis") (codes "shape") 83 36 2 (s.rows * 24 + 16)) (name_bytes 34 (codes "line") ++ name_bytes 74 (codes "clock"))
-    (rect-keeps (codes "axis") (codes "shape") 83 36 2 (s.rows * 24 + 16) (calm (codes "axis") refl) (calm (codes "shape") refl))
-    (keeps-append (name_bytes 34 (codes "line")) (name_bytes 74 (codes "clock")) (name-keeps 34 (codes "line") (calm (codes "line") refl)) (name-keeps 74 (codes "clock") (calm (codes "clock") refl)))
+    keeps-append (rect_bytes (codes "axis") (codes "shape") 129 36 2 (deep s * 24 + 16)) (name_bytes 58 (codes "line") ++ name_bytes 120 (codes "clock"))
+    (rect-keeps (codes "axis") (codes "shape") 129 36 2 (deep s * 24 + 16) (calm (codes "axis") refl) (calm (codes "shape") refl))
+    (keeps-append (name_bytes 58 (codes "line")) (name_bytes 120 (codes "clock")) (name-keeps 58 (codes "line") (calm (codes "line") refl)) (name-keeps 120 (codes "clock") (calm (codes "clock") refl)))
 
 head-reads : (s : Sheet) → reads_on (Some (Words [])) (head_bytes s) ≡ Some (Words page)
 unfolding head_bytes
 head-reads s =
+    let page-rect : List ℕ = rect_bytes (codes "page") (codes "shape") 0 0 (page_width s) (page_height s) in
+    let last : List ℕ = axis_bytes s ++ number_bytes s in
     onto (Some (Words [])) (page_bytes (page_width s) (page_height s))
-    (style_bytes ++ (rect_bytes (codes "page") (codes "shape") 0 0 (page_width s) (page_height s) ++ axis_bytes s)) (Some (Words page))
+    (naming_bytes s ++ (style_bytes ++ (page-rect ++ last))) (Some (Words page))
     (page-reads (page_width s) (page_height s))
-    ∙ (onto (Some (Words page)) style_bytes (rect_bytes (codes "page") (codes "shape") 0 0 (page_width s) (page_height s) ++ axis_bytes s) (Some (Words page)) style-reads
-    ∙ (keeps-append (rect_bytes (codes "page") (codes "shape") 0 0 (page_width s) (page_height s)) (axis_bytes s)
-    (rect-keeps (codes "page") (codes "shape") 0 0 (page_width s) (page_height s) (calm (codes "page") refl) (calm (codes "shape") refl)) (axis-keeps s)).keeps page)
+    ∙ (onto (Some (Words page)) (naming_bytes s) (style_bytes ++ (page-rect ++ last)) (Some (Words page)) ((naming-keeps s).keeps page)
+    ∙ (onto (Some (Words page)) style_bytes (page-rect ++ last) (Some (Words page)) style-reads
+    ∙ (keeps-append page-rect last
+    (rect-keeps (codes "page") (codes "shape") 0 0 (page_width s) (page_height s) (calm (codes "page") refl) (calm (codes "shape") refl))
+    (keeps-append (axis_bytes s) (number_bytes s) (axis-keeps s) (number-keeps s))).keeps page))
 
 foot-reads : (s : Sheet) → reads_on (Some (Words page)) (foot_bytes s) ≡ Some (Words [])
 unfolding foot_bytes
 foot-reads s =
-    past-value page (codes "g") (decimal (s.rows * 24 + 66)) (codes ")'>\n" ++ (legend_bytes ++ codes "</g>\n</svg>\n")) (calm-decimal (s.rows * 24 + 66))
+    past-value page (codes "g") (decimal (deep s * 24 + 66)) (codes ")'>\n" ++ (legend_bytes ++ codes "</g>\n</svg>\n")) (calm-decimal (deep s * 24 + 66))
     ∙ onto (Some (Words (codes "g" ∷ page))) legend_bytes (codes "</g>\n</svg>\n") (Some (Words (codes "g" ∷ page))) legend-reads
 
 on-page : (xs ys : List ℕ) → reads_on (Some (Words [])) xs ≡ Some (Words page) → Keeps ys → reads_on (Some (Words [])) (xs ++ ys) ≡ Some (Words page)
 on-page xs ys is c = onto (Some (Words [])) xs ys (Some (Words page)) is ∙ c.keeps page
 
-module _ (s : Sheet) (ls : List Step) where
+module _ (s : Sheet) (ls : List Row) where
   abbrev over : Layer → List ℕ
   over y = layer_bytes s y 0 (boxes_of ls)
 
@@ -232,7 +306,9 @@ module _ (s : Sheet) (ls : List Step) where
       let r5 = on-page t4 (over Promotions) r4 (layer-keeps s Promotions 0 (boxes_of ls)) in
       let r6 = on-page t5 (over Clocks) r5 (layer-keeps s Clocks 0 (boxes_of ls)) in
       let r7 = on-page t6 (boxes_bytes s 0 (boxes_of ls)) r6 (boxes-keep s 0 ls) in
-      onto (Some (Words [])) t7 (foot_bytes s) (Some (Words page)) r7 ∙ foot-reads s
+      let t8 : List ℕ = t7 ++ turn_bytes s in
+      let r8 = on-page t7 (turn_bytes s) r7 (turn-keeps s) in
+      onto (Some (Words [])) t8 (foot_bytes s) (Some (Words page)) r8 ∙ foot-reads s
 
-pub picture-is-markup : (ls : List Step) → IsMarkup (svg_of (boxes_of ls))
-picture-is-markup ls = drawing-is-markup (sheet_of (boxes_of ls)) ls
+pub picture-is-markup : (leaf : Leaf) (ls : List Row) → IsMarkup (svg_of leaf (boxes_of ls))
+picture-is-markup leaf ls = drawing-is-markup (sheet_of leaf (boxes_of ls)) ls

@@ -1,13 +1,15 @@
 -- How a text is read, line by line.
 use Rattle.std.proofs.Common.{ℕ, ◌≡◌, ◌+◌, List, [], ◌∷◌, ◌++◌, length, take, drop, Bool, true, false, refl, sym, ap, ◌∙◌}
-use Rattle.std.specs.Prelude.{◌==◌, if◌then◌else◌, Some, None, Ok, Err}
+use Rattle.std.specs.Prelude.{◌==◌, if◌then◌else◌, Some, None, Result, Ok, Err, OnOk, IfErr}
 use Rattle.stm_text.specs.LineLaws.{cut-at, lines_of-first, lines_of-last}
 use Rattle.stm_text.specs.Lines.{Line as TextLine, with_byte, lines_of, words_of, Lacks}
 use Rattle.stm_text.specs.WordLaws.{unlines, unlines-lines_of}
 use Rattle.stm_check.specs.Grammar.{report_of}
 use Rattle.stm_trace.specs.declared.line.Line.{Line}
 use Rattle.draw_core.proofs.Boxes.{some-left}
+use Rattle.draw_core.specs.declared.walk.Walk.{Walk}
 use Rattle.draw_core.specs.Grammar.{line_of, is_full_clock, is_title, reported, closed, read}
+use Rattle.draw_core.specs.Walks.{IsWalk}
 
 abbrev whole_line : List ℕ → TextLine
 whole_line bytes = record { bytes = bytes; ended = true }
@@ -67,3 +69,17 @@ closed-none told k (x ∷ xs) e is t = let no = some-left (length xs) in cc
 pub closed-some : (told : List Line) (k : ℕ) (s : List ℕ) (e : Bool) → e ≡ (length s == 0) → e ≡ false → closed told k (lines_of s) ≡ Err k
 closed-some told k [] e is f = cc
 closed-some told k (x ∷ xs) e is f = closed-by told k x xs (x == 10)
+
+-- how far a text was read: the lines told so far, which the walk has gone over
+pub record ReadSoFar (text left : List ℕ) (number : ℕ) (walk : Walk) : Type 0 where
+  pub told : List Line
+  pub same : read [] 1 (lines_of text) ≡ read told number (lines_of left)
+  pub is : IsWalk walk told
+
+pub ok-then : {T E : Type 0} (r : Result T E) (A B : Type 0) → OnOk r A → (A → B) → OnOk r B
+ok-then (Ok t) A B a f = f a
+ok-then (Err e) A B a f = tt
+
+pub err-then : {T E : Type 0} (r : Result T E) (P Q : E → Type 0) → IfErr r P → ((e : E) → P e → Q e) → IfErr r Q
+err-then (Ok t) P Q a f = tt
+err-then (Err e) P Q a f = f e a

@@ -23,7 +23,7 @@ use Rattle.draw_core.specs.declared.reading.TheConstants.{MOST_DRAWN}
 use Rattle.draw_core.specs.Grammar.{said_of, line_of, is_full_clock, is_title, reported, read, trace_of}
 use Rattle.draw_core.specs.declared.kind.Kind.{Kind}
 use Rattle.draw_core.specs.Kinds.{said_kind}
-use Rattle.draw_core.specs.Shapes.{Box, box_of, boxes_of}
+use Rattle.draw_core.specs.Shapes.{Box, line_box, line_boxes}
 use Rattle.draw_core.specs.Steps.{bare, bare_of}
 use Rattle.draw_core.specs.Statements.{LinesFit, LinesHaveWords, IsTail, TraceIsDrawn}
 use Rattle.draw_core.proofs.Saying.{spaced_words, Reads, said-reads}
@@ -59,14 +59,15 @@ full-by w (v ∷ ws) other = rw other refl
 -- what a line is read as, which has the same box
 pub record LineReads (line : Line) : Type 0 where
   pub got : Line
-  pub box : box_of (bare got) ≡ box_of (bare line)
+  pub box : (number : ℕ) → line_box number (bare got) ≡ line_box number (bare line)
   pub step : (told : List Line) (k : ℕ) (rest : List ℕ) → read told k (lines_of (line_bytes line ++ rest)) ≡ read (told ++ got ∷ []) (k + 1) (lines_of rest)
 
 regroup : (d s rest : List ℕ) → (d ++ (s ++ 10 ∷ [])) ++ rest ≡ (d ++ s) ++ 10 ∷ rest
 regroup d s rest = simp append_assoc
 
-box-same : (n : ℕ) (k l : Kind) (v w : List ℕ) → k ≡ l → v ≡ w → (let b : Box = record { lane = n; kind = k; label = v } in b) ≡ record { lane = n; kind = l; label = w }
-box-same n k l v w p q = cc
+box-same : (n number : ℕ) (k l : Kind) (v w : List ℕ) → k ≡ l → v ≡ w
+    → (let b : Box = record { lane = n; kind = k; label = v; number = number; times = 1 } in b) ≡ record { lane = n; kind = l; label = w; number = number; times = 1 }
+box-same n number k l v w p q = cc
 
 module _ (n : ℕ) (said : Said) (few : n < MAX_CALLERS) (r : Reads said) where
   small : n < 2 ^ 64
@@ -99,7 +100,7 @@ module _ (n : ℕ) (said : Said) (few : n < MAX_CALLERS) (r : Reads said) where
   turn-reads : LineReads (Of n said)
   turn-reads = record {
     got = Of n r.read;
-    box = box-same n (said_kind r.read) (said_kind said) (said_bytes r.read) (said_bytes said) r.kind r.label;
+    box = λ number. box-same n number (said_kind r.read) (said_kind said) (said_bytes r.read) (said_bytes said) r.kind r.label;
     step = λ told k rest.
         ap (λ t. read told k (lines_of t)) (cut rest)
         ∙ (ap (read told k) (lines_of-first (joined (decimal n ∷ r.words)) rest (joined-lacks (decimal n ∷ r.words) visible))
@@ -112,7 +113,7 @@ finish-lines rest = lines_of-first (codes "finish") rest (joined-lacks (codes "f
 finish-reads : LineReads Finish
 finish-reads = record {
   got = Finish;
-  box = refl;
+  box = λ number. refl;
   step = λ told k rest. ap (read told k) (finish-lines rest) ∙ read-line told k (codes "finish") Finish (lines_of rest) refl refl refl;
 }
 
@@ -120,7 +121,7 @@ finish-reads = record {
 pub record TraceReads (lines told : List Line) (k : ℕ) (tail : List ℕ) : Type 0 where
   pub got : List Line
   pub at : ℕ
-  pub boxes : boxes_of (bare_of got) ≡ boxes_of (bare_of lines)
+  pub boxes : (number : ℕ) → line_boxes number (bare_of got) ≡ line_boxes number (bare_of lines)
   pub is : read told k (lines_of (trace_bytes lines ++ tail)) ≡ read (told ++ got) at (lines_of tail)
 
 cons-same : (b c : Box) (bs cs : List Box) → b ≡ c → bs ≡ cs → b ∷ bs ≡ c ∷ cs
@@ -130,14 +131,14 @@ one-more : (l : Line) (ls told : List Line) (k : ℕ) (tail : List ℕ) (one : L
 one-more l ls told k tail one rest = record {
   got = one.got ∷ rest.got;
   at = rest.at;
-  boxes = cons-same (box_of (bare one.got)) (box_of (bare l)) (boxes_of (bare_of rest.got)) (boxes_of (bare_of ls)) one.box rest.boxes;
+  boxes = λ number. cons-same (line_box number (bare one.got)) (line_box number (bare l)) (line_boxes (number + 1) (bare_of rest.got)) (line_boxes (number + 1) (bare_of ls)) (one.box number) (rest.boxes (number + 1));
   is = ap (λ t. read told k (lines_of t)) (append_assoc (line_bytes l) (trace_bytes ls) tail)
       ∙ (one.step told k (trace_bytes ls ++ tail) ∙ (rest.is ∙ ap (λ t. read t rest.at (lines_of tail)) (append_assoc told (one.got ∷ []) rest.got)));
 }
 
 trace-reads : (lines : List Line) → LinesFit lines → LinesHaveWords lines → (told : List Line) (k : ℕ) (tail : List ℕ) → TraceReads lines told k tail
 unfolding finish-reads
-trace-reads [] f w told k tail = record { got = []; at = k; boxes = refl; is = ap (λ t. read t k (lines_of tail)) (sym (append-nil told)) }
+trace-reads [] f w told k tail = record { got = []; at = k; boxes = λ number. refl; is = ap (λ t. read t k (lines_of tail)) (sym (append-nil told)) }
 trace-reads (Of n said ∷ ls) f w told k tail =
     let one = turn-reads n said f.0 (said-reads said w.0 f.1) in
     one-more (Of n said) ls told k tail one (trace-reads ls f.2 w.1 (told ++ one.got ∷ []) (k + 1) tail)
@@ -188,4 +189,4 @@ tail-short text tail le = let both = length-append text tail in omega (arith, bo
 pub trace-is-drawn : ReportIsRead → TraceIsDrawn
 trace-is-drawn law lines tail fits words end le =
     let r = trace-reads lines fits words [] 1 tail in
-    (r.got, short (trace_bytes lines ++ tail) le ∙ (r.is ∙ tail-read law r.got r.at tail end (tail-short (trace_bytes lines) tail le)), r.boxes)
+    (r.got, short (trace_bytes lines ++ tail) le ∙ (r.is ∙ tail-read law r.got r.at tail end (tail-short (trace_bytes lines) tail le)), r.boxes 1)

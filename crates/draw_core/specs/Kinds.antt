@@ -78,3 +78,38 @@ ends_attempt Cancels = true
 ends_attempt Conflicts = true
 ends_attempt Overflows = true
 ends_attempt k = false
+
+abbrev pub is_finish : Kind → Bool
+is_finish Finishes = true
+is_finish k = false
+
+abbrev pub is_idle : Kind → Bool
+is_idle Idles = true
+is_idle k = false
+
+abbrev pub is_begin : Kind → Bool
+is_begin (Begins alg) = true
+is_begin k = false
+
+abbrev pub is_commit : Kind → Bool
+is_commit (Commits time) = true
+is_commit k = false
+
+abbrev pub is_promotion : Kind → Bool
+is_promotion Promotes = true
+is_promotion k = false
+
+-- it asks to be alone, or was granted it
+abbrev pub is_holding : Kind → Bool
+is_holding Promotes = true
+is_holding Holds = true
+is_holding k = false
+
+abbrev pub is_closing : Kind → Bool
+is_closing Closes = true
+is_closing k = false
+
+abbrev pub is_opening : Kind → Bool
+is_opening (Installs alg) = true
+is_opening Reopens = true
+is_opening k = false

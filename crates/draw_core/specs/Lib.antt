@@ -6,7 +6,12 @@ pub mod Walks
 pub mod Whole
 pub mod Labels
 pub mod Shapes
+pub mod Rows
+pub mod Standing
+pub mod Pages
+pub mod Shown
 pub mod Texts
 pub mod Markup
 pub mod Outcomes
 pub mod Statements
+pub mod Asking

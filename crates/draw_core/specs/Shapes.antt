@@ -5,52 +5,44 @@ use Rattle.stm_model.specs.declared.alg.Alg.{Alg}
 use Rattle.stm_trace.specs.declared.line.Line.{Line}
 use Rattle.stm_trace.specs.declared.line.Line.TheVariants.{Of, Finish}
 use Rattle.draw_core.specs.declared.kind.Kind.{Kind}
-use Rattle.draw_core.specs.declared.kind.Kind.TheVariants.{Begins, Holds, Promotes, Commits, Closes, Installs, Reopens, Finishes}
+use Rattle.draw_core.specs.declared.kind.Kind.TheVariants.{Begins, Commits, Closes, Installs}
 use Rattle.draw_core.specs.declared.shape.Shape.{Shape}
 use Rattle.draw_core.specs.declared.shape.Shape.TheVariants.{Lane, Closed, Installed, Attempt, Irrevocable, Clock}
 use Rattle.draw_core.specs.declared.shape.Layer.{Layer}
 use Rattle.draw_core.specs.declared.shape.Layer.TheVariants.{Lanes, Closings, Installs as Installings, Attempts, Promotions, Clocks}
 use Rattle.draw_core.specs.declared.shape.Sought.{Sought}
 use Rattle.draw_core.specs.declared.shape.Sought.TheVariants.{Any, End, Promotion, Holding, Opening}
+use Rattle.draw_core.specs.declared.row.Row.{Row}
 use Rattle.draw_core.specs.declared.step.Step.{Step}
-use Rattle.draw_core.specs.Kinds.{kind_of, ends_attempt}
+use Rattle.draw_core.specs.Kinds.{kind_of, ends_attempt, is_finish, is_holding, is_opening, is_promotion}
 use Rattle.draw_core.specs.Labels.{label_of}
 
--- a box: the caller in whose lane it lies, what it is, and the words on it; its row is its place in the list
+-- a box: the caller in whose lane it lies, what it is, the words on it, its line's number in the trace, and how many lines it is of; its row is its place in the list
 pub record Box : Type 0 where
   pub lane : ℕ
   pub kind : Kind
   pub label : List ℕ
+  pub number : ℕ
+  pub times : ℕ
 
 abbrev pub lane_of : Line → ℕ
 lane_of (Of caller said) = caller
 lane_of Finish = 0
 
-abbrev pub box_of : Step → Box
-box_of step = record { lane = lane_of step.line; kind = kind_of step.line; label = label_of step }
+abbrev pub box_of : Row → Box
+box_of row = record { lane = lane_of row.step.line; kind = kind_of row.step.line; label = label_of row.step; number = row.number; times = row.times }
 
--- ONE BOX A LINE
-abbrev pub boxes_of : List Step → List Box
+abbrev pub boxes_of : List Row → List Box
 boxes_of [] = []
-boxes_of (step ∷ steps) = box_of step ∷ boxes_of steps
+boxes_of (row ∷ rows) = box_of row ∷ boxes_of rows
 
-abbrev pub is_finish : Kind → Bool
-is_finish Finishes = true
-is_finish kind = false
+-- ONE BOX A LINE: those of a trace, whose first line has this number
+abbrev pub line_box : ℕ → Step → Box
+line_box number step = box_of (record { number = number; times = 1; step = step })
 
-abbrev pub is_promotion : Kind → Bool
-is_promotion Promotes = true
-is_promotion kind = false
-
-abbrev pub is_holding : Kind → Bool
-is_holding Promotes = true
-is_holding Holds = true
-is_holding kind = false
-
-abbrev pub is_opening : Kind → Bool
-is_opening (Installs alg) = true
-is_opening Reopens = true
-is_opening kind = false
+abbrev pub line_boxes : ℕ → List Step → List Box
+line_boxes number [] = []
+line_boxes number (step ∷ steps) = line_box number step ∷ line_boxes (number + 1) steps
 
 abbrev pub meets : Sought → Kind → Bool
 meets Any kind = if is_finish kind then false else true

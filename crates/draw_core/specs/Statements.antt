@@ -25,7 +25,7 @@ use Rattle.stm_trace.specs.Texts.{trace_bytes}
 use Rattle.stm_trace.specs.Turns.{is_call}
 use Rattle.draw_core.specs.declared.reading.TheConstants.{MOST_DRAWN}
 use Rattle.draw_core.specs.Grammar.{trace_of}
-use Rattle.draw_core.specs.Shapes.{boxes_of}
+use Rattle.draw_core.specs.Shapes.{line_boxes}
 use Rattle.draw_core.specs.Steps.{bare_of}
 
 -- the numbers of an answer are words of the machine, as in each line that code holds
@@ -86,7 +86,7 @@ IsTail text = ((r : Report) × IsReadable r × (text ≡ report_bytes r)) ⊎ ((
 
 -- THE LAW: what is read of the text has the boxes of these lines: one for each, in its caller's lane, at its place, with its words
 abbrev pub IsDrawnAs : List ℕ → List Line → Type 0
-IsDrawnAs text lines = (told : List Line) × (trace_of text ≡ Ok told) × (boxes_of (bare_of told) ≡ boxes_of (bare_of lines))
+IsDrawnAs text lines = (told : List Line) × (trace_of text ≡ Ok told) × (line_boxes 1 (bare_of told) ≡ line_boxes 1 (bare_of lines))
 
 abbrev pub TraceIsDrawn : Type 0
 TraceIsDrawn = (lines : List Line) (tail : List ℕ) → LinesFit lines → LinesHaveWords lines → IsTail tail → length (trace_bytes lines ++ tail) ≤ MOST_DRAWN → IsDrawnAs (trace_bytes lines ++ tail) lines

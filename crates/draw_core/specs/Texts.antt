@@ -1,15 +1,17 @@
 -- THE TEXT OF A DRAWING, as an SVG.
-use Rattle.std.specs.Prelude.{ℕ, ◌+◌, ◌*◌, max, ltb, if◌then◌else◌, List, [], ◌∷◌, ◌++◌, length, Option, Some, None, codes}
+use Rattle.std.specs.Prelude.{ℕ, zero, suc, ◌+◌, ◌-◌, ◌*◌, ◌/◌, max, ltb, leb, ◌==◌, if◌then◌else◌, List, [], ◌∷◌, ◌++◌, length, Option, Some, None, codes}
 use Rattle.std.specs.Fmt.{decimal}
 use Rattle.stm_model.specs.Algorithms.{alg_name}
+use Rattle.draw_core.specs.declared.picture.Leaf.{Leaf}
 use Rattle.draw_core.specs.declared.picture.Sheet.{Sheet}
 use Rattle.draw_core.specs.declared.shape.Shape.{Shape}
 use Rattle.draw_core.specs.declared.shape.Shape.TheVariants.{Lane, Closed, Installed, Attempt, Irrevocable, Clock}
 use Rattle.draw_core.specs.declared.shape.Layer.{Layer}
 use Rattle.draw_core.specs.declared.shape.Layer.TheVariants.{Lanes, Closings, Installs as Installings, Attempts, Promotions, Clocks}
 use Rattle.draw_core.specs.declared.style.TheConstants.{STYLE, LEGEND}
-use Rattle.draw_core.specs.Kinds.{class_of}
-use Rattle.draw_core.specs.Shapes.{Box, shape_at, is_finish}
+use Rattle.draw_core.specs.Kinds.{class_of, is_finish}
+use Rattle.draw_core.specs.Shapes.{Box, shape_at}
+use Rattle.draw_core.specs.Shown.{words_bytes, shown_words}
 
 -- what is unfoldable here is opened only where the function that writes it is proved, and where it is shown to be markup
 -- a rectangle of two classes: where it lies, and how large it is
@@ -29,47 +31,62 @@ open_bytes class kind x y more =
 abbrev pub close_bytes : List ℕ
 close_bytes = codes "</text>\n"
 
--- a lane is 216 pixels wide, after 92 for the rows' numbers and the clock; a row is 24 high, after 44 for the heads
+-- a lane is 216 pixels wide, after 138 for the rows' numbers and the clock; a row is 24 high, after 44 for the heads, which stand once more above every fortieth
 abbrev pub left : ℕ → ℕ
-left lane = 92 + lane * 216
+left lane = 138 + lane * 216
 
 abbrev pub top : ℕ → ℕ
-top row = 44 + row * 24
+top row = 44 + (row + row / 40) * 24
 
-abbrev pub tall : ℕ → ℕ
-tall more = 22 + more * 24
+abbrev pub tall : ℕ → ℕ → ℕ
+tall from more = 22 + (top (from + more) - top from)
 
 -- how many lanes the boxes lie in
 abbrev pub lanes_of : List Box → ℕ
 lanes_of [] = 0
 lanes_of (b ∷ bs) = max (b.lane + 1) (lanes_of bs)
 
-abbrev pub sheet_of : List Box → Sheet
-sheet_of bs = record { lanes = lanes_of bs; rows = length bs }
+abbrev pub sheet_of : Leaf → List Box → Sheet
+sheet_of leaf bs = record { lanes = lanes_of bs; rows = length bs; leaf = leaf }
 
 -- where the lanes end
 abbrev pub edge : Sheet → ℕ
-edge s = 92 + s.lanes * 216
+edge s = 138 + s.lanes * 216
 
--- a time of more than five digits is made narrower, so that it ends before the line's number
-abbrev pub narrowed : ℕ → List ℕ
-narrowed time = if ltb 99999 time then codes " textLength='36' lengthAdjust='spacingAndGlyphs'" else []
+-- how many rows there are, with those of the heads
+abbrev pub deep : Sheet → ℕ
+deep s = s.rows + s.rows / 40
+
+-- the head of a lane; and above each of so many blocks of forty rows
+unfoldable pub head_at : ℕ → ℕ → List ℕ
+head_at lane y = open_bytes (codes "head") (codes "words") (left lane + 108) y [] ++ (codes "caller " ++ (decimal lane ++ close_bytes))
+
+abbrev pub heads_bytes : ℕ → ℕ → List ℕ
+heads_bytes lane zero = []
+heads_bytes lane (suc blocks) = heads_bytes lane blocks ++ head_at lane (top ((blocks + 1) * 40) - 8)
+
+unfoldable pub lane_bytes : Sheet → ℕ → List ℕ
+lane_bytes s lane =
+    rect_bytes (codes "lane") (codes "shape") (left lane + 2) 36 212 (deep s * 24 + 16)
+    ++ (head_at lane 28 ++ heads_bytes lane ((s.rows - 1) / 40))
+
+-- a time, which ends before the axis, and whose number is shortened as that of a box
+unfoldable pub clock_bytes : ℕ → ℕ → List ℕ
+clock_bytes row time =
+    rect_bytes (codes "tick") (codes "shape") 126 (top row + 8) 8 8
+    ++ (open_bytes (codes "clock") (codes "words") 120 (top row + 16) [] ++ (words_bytes (decimal time) ++ close_bytes))
 
 unfoldable pub shape_bytes : Sheet → Shape → List ℕ
-shape_bytes s (Lane lane) =
-    rect_bytes (codes "lane") (codes "shape") (left lane + 2) 36 212 (s.rows * 24 + 16)
-    ++ (open_bytes (codes "head") (codes "words") (left lane + 108) 28 [] ++ (codes "caller " ++ (decimal lane ++ close_bytes)))
+shape_bytes s (Lane lane) = lane_bytes s lane
 shape_bytes s (Closed lane from more) =
-    rect_bytes (codes "closed") (codes "shape") 84 (top from) (s.lanes * 216 + 16) (tall more + 2)
+    rect_bytes (codes "closed") (codes "shape") 130 (top from) (s.lanes * 216 + 16) (tall from more + 2)
     ++ (open_bytes (codes "side") (codes "words") (edge s + 14) (top from + 16) [] ++ (codes "gate closed by " ++ (decimal lane ++ close_bytes)))
 shape_bytes s (Installed row alg) =
-    rect_bytes (codes "installed") (codes "shape") 84 (top row + 23) (s.lanes * 216 + 16) 2
+    rect_bytes (codes "installed") (codes "shape") 130 (top row + 23) (s.lanes * 216 + 16) 2
     ++ (open_bytes (codes "side") (codes "words") (edge s + 14) (top row + 28) [] ++ (alg_name alg ++ codes " from here</text>\n"))
-shape_bytes s (Attempt lane from more kind) = rect_bytes (codes "attempt") (class_of kind) (left lane + 4) (top from + 1) 208 (tall more)
-shape_bytes s (Irrevocable lane from more) = rect_bytes (codes "sure") (codes "shape") (left lane + 4) (top from + 1) 6 (tall more)
-shape_bytes s (Clock row time) =
-    rect_bytes (codes "tick") (codes "shape") 80 (top row + 8) 8 8
-    ++ (open_bytes (codes "clock") (codes "words") 74 (top row + 16) (narrowed time) ++ (decimal time ++ close_bytes))
+shape_bytes s (Attempt lane from more kind) = rect_bytes (codes "attempt") (class_of kind) (left lane + 4) (top from + 1) 208 (tall from more)
+shape_bytes s (Irrevocable lane from more) = rect_bytes (codes "sure") (codes "shape") (left lane + 4) (top from + 1) 6 (tall from more)
+shape_bytes s (Clock row time) = clock_bytes row time
 
 abbrev pub part_bytes : Sheet → Option Shape → List ℕ
 part_bytes s None = []
@@ -86,13 +103,17 @@ squeezed words = if ltb 29 (length words) then codes " textLength='184' lengthAd
 
 -- a box lies in its lane; the line that ends the schedule goes across all
 unfoldable pub box_rect : Sheet → ℕ → Box → List ℕ
-box_rect s row b = if is_finish b.kind then rect_bytes (codes "box") (class_of b.kind) 88 (top row + 3) (s.lanes * 216 + 8) 18 else rect_bytes (codes "box") (class_of b.kind) (left b.lane + 14) (top row + 3) 194 18
+box_rect s row b = if is_finish b.kind then rect_bytes (codes "box") (class_of b.kind) 134 (top row + 3) (s.lanes * 216 + 8) 18 else rect_bytes (codes "box") (class_of b.kind) (left b.lane + 14) (top row + 3) 194 18
+
+-- the words on a box: how many lines it is of, where they are more
+abbrev pub said_on : Box → List ℕ
+said_on b = if leb b.times 1 then b.label else codes " idle " ++ (decimal b.times ++ codes " times")
 
 unfoldable pub box_bytes : Sheet → ℕ → Box → List ℕ
 box_bytes s row b =
     box_rect s row b
-    ++ (open_bytes (codes "label") (class_of b.kind) (left b.lane + 19) (top row + 16) (squeezed b.label) ++ (b.label ++ (close_bytes
-    ++ (open_bytes (codes "row") (codes "words") 34 (top row + 16) [] ++ (decimal (row + 1) ++ close_bytes)))))
+    ++ (open_bytes (codes "label") (class_of b.kind) (left b.lane + 19) (top row + 16) (squeezed (shown_words (said_on b))) ++ (words_bytes (said_on b) ++ (close_bytes
+    ++ (open_bytes (codes "row") (codes "words") 58 (top row + 16) [] ++ (decimal b.number ++ close_bytes)))))
 
 -- the boxes, from this row on
 abbrev pub boxes_bytes : Sheet → ℕ → List Box → List ℕ
@@ -101,10 +122,10 @@ boxes_bytes s row (b ∷ bs) = box_bytes s row b ++ boxes_bytes s (row + 1) bs
 
 -- a page wide enough for the legend too
 abbrev pub page_width : Sheet → ℕ
-page_width s = max 720 (edge s + 140)
+page_width s = max 766 (edge s + 140)
 
 abbrev pub page_height : Sheet → ℕ
-page_height s = s.rows * 24 + 116
+page_height s = deep s * 24 + 116
 
 unfoldable pub style_bytes : List ℕ
 style_bytes = STYLE.now
@@ -112,27 +133,46 @@ style_bytes = STYLE.now
 unfoldable pub legend_bytes : List ℕ
 legend_bytes = LEGEND.now
 
+unfoldable pub view_bytes : ℕ → ℕ → List ℕ
+view_bytes width height = codes "<svg xmlns='http://www.w3.org/2000/svg' role='img' viewBox='0 0 " ++ (decimal width ++ (codes " " ++ decimal height))
+
 unfoldable pub page_bytes : ℕ → ℕ → List ℕ
-page_bytes width height = codes "<svg xmlns='http://www.w3.org/2000/svg' width='" ++ (decimal width ++ (codes "' height='" ++ (decimal height ++ codes "'>\n")))
+page_bytes width height = view_bytes width height ++ (codes "' width='" ++ (decimal width ++ (codes "' height='" ++ (decimal height ++ codes "'>\n"))))
+
+-- what the picture is, for who can't see it
+unfoldable pub naming_bytes : Sheet → List ℕ
+naming_bytes s = codes "<title>Page " ++ (decimal s.leaf.page ++ (codes " of " ++ (decimal s.leaf.pages ++ codes " of a trace</title>\n")))
+
+-- which page it is, where there are more
+unfoldable pub page_number : Sheet → List ℕ
+page_number s =
+    open_bytes (codes "side") (codes "words") (edge s + 14) 28 [] ++ (codes "page " ++ (decimal s.leaf.page ++ (codes " of " ++ (decimal s.leaf.pages ++ close_bytes))))
+
+abbrev pub number_bytes : Sheet → List ℕ
+number_bytes s = if leb s.leaf.pages 1 then [] else page_number s
+
+-- the line under the rows that stand above the page's own
+abbrev pub turn_bytes : Sheet → List ℕ
+turn_bytes s = if s.leaf.above == 0 then [] else rect_bytes (codes "turn") (codes "shape") 130 (top s.leaf.above - 1) (s.lanes * 216 + 16) 2
 
 -- what stands over a column
 unfoldable pub name_bytes : ℕ → List ℕ → List ℕ
 name_bytes x words = open_bytes (codes "name") (codes "words") x 28 [] ++ (words ++ close_bytes)
 
 unfoldable pub axis_bytes : Sheet → List ℕ
-axis_bytes s = rect_bytes (codes "axis") (codes "shape") 83 36 2 (s.rows * 24 + 16) ++ (name_bytes 34 (codes "line") ++ name_bytes 74 (codes "clock"))
+axis_bytes s = rect_bytes (codes "axis") (codes "shape") 129 36 2 (deep s * 24 + 16) ++ (name_bytes 58 (codes "line") ++ name_bytes 120 (codes "clock"))
 
 unfoldable pub head_bytes : Sheet → List ℕ
 head_bytes s =
-    page_bytes (page_width s) (page_height s) ++ (style_bytes ++ (rect_bytes (codes "page") (codes "shape") 0 0 (page_width s) (page_height s) ++ axis_bytes s))
+    page_bytes (page_width s) (page_height s) ++ (naming_bytes s ++ (style_bytes ++ (rect_bytes (codes "page") (codes "shape") 0 0 (page_width s) (page_height s) ++ (axis_bytes s ++ number_bytes s))))
 
 unfoldable pub foot_bytes : Sheet → List ℕ
-foot_bytes s = codes "<g transform='translate(92," ++ (decimal (s.rows * 24 + 66) ++ (codes ")'>\n" ++ (legend_bytes ++ codes "</g>\n</svg>\n")))
+foot_bytes s = codes "<g transform='translate(138," ++ (decimal (deep s * 24 + 66) ++ (codes ")'>\n" ++ (legend_bytes ++ codes "</g>\n</svg>\n")))
 
 -- THE TEXT of the boxes and of what they tell together, the layers one on the other
 abbrev pub drawing_bytes : Sheet → List Box → List ℕ
 drawing_bytes s bs =
-    (((((((head_bytes s
+    ((((((((head_bytes s
     ++ layer_bytes s Lanes 0 bs)
     ++ layer_bytes s Closings 0 bs)
     ++ layer_bytes s Installings 0 bs)
@@ -140,7 +180,8 @@ drawing_bytes s bs =
     ++ layer_bytes s Promotions 0 bs)
     ++ layer_bytes s Clocks 0 bs)
     ++ boxes_bytes s 0 bs)
+    ++ turn_bytes s)
     ++ foot_bytes s
 
-abbrev pub svg_of : List Box → List ℕ
-svg_of bs = drawing_bytes (sheet_of bs) bs
+abbrev pub svg_of : Leaf → List Box → List ℕ
+svg_of leaf bs = drawing_bytes (sheet_of leaf bs) bs

@@ -1,5 +1,5 @@
 -- What a line does to its caller's attempt, and which operation of the script it tells of.
-use Rattle.std.specs.Prelude.{Bool, true, false, List, [], ◌∷◌, Option, Some, None, bytes_eq, if◌then◌else◌, is_some}
+use Rattle.std.specs.Prelude.{Bool, true, false, not, ◌&&◌, List, [], ◌∷◌, Option, Some, None, bytes_eq, if◌then◌else◌, is_some}
 use Rattle.stm_script.specs.declared.op.Op.{Op}
 use Rattle.stm_script.specs.declared.op.Op.TheVariants.{Cancel, Irrev}
 use Rattle.stm_script.specs.Operations.{op_name}
@@ -9,26 +9,33 @@ use Rattle.tx_answers.specs.declared.answers.Commit.TheVariants.{Committed, Read
 use Rattle.tx_answers.specs.declared.answers.Irrev.TheVariants as irrevs
 use Rattle.stm_trace.specs.declared.said.Said.{Said}
 use Rattle.stm_trace.specs.declared.said.Said.TheVariants.{TryBegin, Reply, Stopped, TryCancel, TryIrrevocable, TryCommit, TryClose, Looked, Installed, Reserved, Idle, Dropped, Reopened}
+use Rattle.tx_answers.specs.declared.answers.Irrev.{Irrev as IrrevAnswer}
+use Rattle.draw_core.specs.declared.turn.Stage.{Stage}
+use Rattle.draw_core.specs.declared.turn.Stage.TheVariants.{Before, Inside, Done, Outside, Over}
 use Rattle.draw_core.specs.declared.turn.Turn.{Turn}
 use Rattle.draw_core.specs.declared.turn.Turn.TheVariants.{Begins, Does, Stops, Grants, Cancels, Commits, Fails, Stays}
+
+abbrev pub irrevocable_turn : IrrevAnswer → Turn
+irrevocable_turn irrevs.Granted = Grants
+irrevocable_turn (irrevs.Busy caller status) = Stays Inside
+irrevocable_turn answer = Fails Inside
 
 -- THE TABLE: what each answer does to its caller's attempt
 abbrev pub turn_of : Said → Turn
 turn_of (TryBegin (Begun alg)) = Begins
+turn_of (TryBegin answer) = Stays Before
 turn_of (Reply op reply) = Does op
 turn_of (Stopped op stop) = Stops op
 turn_of (TryCancel (Cancelled time)) = Cancels
 turn_of (TryCancel Irrevocable) = Does Cancel
-turn_of (TryIrrevocable irrevs.Granted) = Grants
-turn_of (TryIrrevocable (irrevs.Taken gate)) = Fails
-turn_of (TryIrrevocable (irrevs.Conflict cause)) = Fails
-turn_of (TryIrrevocable (irrevs.ClockFull clock)) = Fails
+turn_of (TryIrrevocable answer) = irrevocable_turn answer
 turn_of (TryCommit (Committed time)) = Commits
 turn_of (TryCommit (ReadOnly time)) = Commits
-turn_of (TryCommit (Conflict cause)) = Fails
-turn_of (TryCommit (ClockFull clock)) = Fails
-turn_of Dropped = Fails
-turn_of said = Stays
+turn_of (TryCommit (Again word had now)) = Stays Done
+turn_of (TryCommit answer) = Fails Done
+turn_of Dropped = Fails Inside
+turn_of Idle = Stays Over
+turn_of said = Stays Outside
 
 -- where a caller stands: the scripts of its transactions that haven't ended; and of an open attempt, which runs the first of them, the operations still to come
 pub record Stand : Type 0 where
@@ -55,6 +62,22 @@ abbrev pub is_done : Option (List Op) → Bool
 is_done None = false
 is_done (Some []) = true
 is_done (Some (op ∷ ops)) = false
+
+abbrev pub is_outside : Option (List Op) → Bool
+is_outside None = true
+is_outside (Some rest) = false
+
+abbrev pub is_over : List (List Op) → Bool
+is_over [] = true
+is_over (script ∷ scripts) = false
+
+-- the caller stands at this stage
+abbrev pub is_at : Stage → Stand → Bool
+is_at Before at = is_outside at.attempt && not (is_over at.scripts)
+is_at Inside at = not (is_outside at.attempt)
+is_at Done at = is_done at.attempt
+is_at Outside at = is_outside at.attempt
+is_at Over at = is_outside at.attempt && is_over at.scripts
 
 abbrev pub later : List (List Op) → List (List Op)
 later [] = []
@@ -88,8 +111,8 @@ after at (Stops like) = if is_next like (next_of at.attempt) then Some (given_up
 after at Grants = if is_some at.attempt then Some (granted at) else None
 after at Cancels = if is_next Cancel (next_of at.attempt) then Some (ended at) else None
 after at Commits = if is_done at.attempt then Some (ended at) else None
-after at Fails = Some (given_up at)
-after at Stays = Some at
+after at (Fails stage) = if is_at stage at then Some (given_up at) else None
+after at (Stays stage) = if is_at stage at then Some at else None
 
 -- the operation that the line tells of: its caller's next one
 abbrev pub told_by : Stand → Turn → Option Op

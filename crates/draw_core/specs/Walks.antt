@@ -1,8 +1,9 @@
 -- A TRACE ALONG ITS WORKLOAD: a line of an operation tells of the one that comes next in its caller's script.
-use Rattle.std.specs.Prelude.{ℕ, zero, suc, ◌≤◌, ◌+◌, List, [], ◌∷◌, ◌++◌, drop, length, ltb, if◌then◌else◌, Option, Some, None, Result, Ok, Err, slice_index_or, slice_set}
+use Rattle.std.specs.Prelude.{ℕ, zero, suc, ◌≡◌, ◌≤◌, ◌+◌, List, [], ◌∷◌, ◌++◌, drop, length, ltb, if◌then◌else◌, Option, Some, None, Result, Ok, Err, slice_index_or, slice_set, option_map}
 use Rattle.stm_script.specs.declared.op.Op.{Op}
 use Rattle.stm_script.specs.declared.workload.Item.{Item}
 use Rattle.stm_script.specs.declared.workload.Version.{Version}
+use Rattle.stm_script.specs.declared.workload.Workload.{Workload}
 use Rattle.stm_script.specs.Reports.{scripts_of}
 use Rattle.stm_trace.specs.declared.line.Line.{Line}
 use Rattle.stm_trace.specs.declared.line.Line.TheVariants.{Of, Finish}
@@ -10,7 +11,10 @@ use Rattle.stm_trace.specs.declared.said.Said.{Said}
 use Rattle.draw_core.specs.declared.cursor.Cursor.{Cursor}
 use Rattle.draw_core.specs.declared.step.Deed.{Deed}
 use Rattle.draw_core.specs.declared.step.Step.{Step}
-use Rattle.draw_core.specs.Steps.{bare}
+use Rattle.draw_core.specs.declared.walk.Walk.{Walk}
+use Rattle.draw_core.specs.Pages.{IsPageOf}
+use Rattle.draw_core.specs.Shapes.{line_boxes}
+use Rattle.draw_core.specs.Steps.{bare, bare_of}
 use Rattle.draw_core.specs.Turns.{Stand, turn_of, after, told_by}
 
 -- where each caller stands at first: all its transactions are still to do
@@ -46,6 +50,11 @@ abbrev pub walked : Version → List Step → ℕ → List Stand → List Line �
 walked version told k stands [] = Ok told
 walked version told k stands (line ∷ lines) = go_on (goes version stands line) k (λ went. walked version (told ++ went.0 ∷ []) (k + 1) went.1 lines)
 
+-- THE STEPS of a trace, along its workload where one stands above it, below so many lines
+abbrev pub told_steps : Option Workload → ℕ → List Line → Result (List Step) ℕ
+told_steps None above lines = Ok (bare_of lines)
+told_steps (Some w) above lines = walked w.header.version [] (above + 1) (first_stands w.items w.header.callers) lines
+
 -- what a cursor says of its caller
 abbrev pub first_of : List (List Op) → List Op
 first_of [] = []
@@ -65,3 +74,50 @@ stands_of items n (c ∷ cs) = stand_of items n c ∷ stands_of items (n + 1) cs
 abbrev pub AreWithin : List Item → List Cursor → Type 0
 AreWithin items [] = Unit {0}
 AreWithin items (c ∷ cs) = (c.item ≤ length items) × AreWithin items cs
+
+-- where the callers of a workload stand, by these cursors
+abbrev pub stands_in : Option Workload → List Cursor → List Stand
+stands_in None cursors = []
+stands_in (Some w) cursors = stands_of w.items 0 cursors
+
+abbrev pub callers_in : Option Workload → ℕ
+callers_in None = 0
+callers_in (Some w) = w.header.callers
+
+abbrev pub AreWithinOf : Option Workload → List Cursor → Type 0
+AreWithinOf None cursors = Unit {0}
+AreWithinOf (Some w) cursors = AreWithin w.items cursors
+
+-- the step of a line, and where the callers stand after it
+abbrev pub next_step : Option Workload → List Cursor → Line → Option (Step × List Stand)
+next_step None cursors line = Some (bare line, [])
+next_step (Some w) cursors line = goes w.header.version (stands_of w.items 0 cursors) line
+
+-- the steps so far and those of these lines
+abbrev pub goes_along : Option Workload → List Step → ℕ → List Cursor → List Line → Result (List Step) ℕ
+goes_along None told k cursors lines = Ok (told ++ bare_of lines)
+goes_along (Some w) told k cursors lines = walked w.header.version told k (stands_of w.items 0 cursors) lines
+
+abbrev pub workload_in : Walk → Option Workload
+workload_in walk = option_map (λ w. w.now) walk.workload
+
+-- the walk has seen these lines, which have steps, whatever follows
+pub record HasWalked (walk : Walk) (lines : List Line) : Type 0 where
+  pub steps : List Step
+  pub along : (more : List Line) → told_steps (workload_in walk) walk.above (lines ++ more) ≡ goes_along (workload_in walk) steps (walk.above + length steps + 1) walk.cursors.items more
+  pub within : AreWithinOf (workload_in walk) walk.cursors.items
+  pub page : IsPageOf walk.page (line_boxes 1 steps)
+
+-- it has seen them, or one of them that may not come where its caller stands
+abbrev pub IsWalkBy : Option ℕ → Walk → List Line → Type 0
+IsWalkBy None walk lines = HasWalked walk lines
+IsWalkBy (Some k) walk lines = (more : List Line) → told_steps (workload_in walk) walk.above (lines ++ more) ≡ Err k
+
+abbrev pub IsWalk : Walk → List Line → Type 0
+IsWalk walk lines = IsWalkBy walk.misfit walk lines
+
+-- the walk has gone over the lines that a text has
+pub record HasRead (walk : Walk) (r : Result (List Line) ℕ) : Type 0 where
+  pub told : List Line
+  pub are : r ≡ Ok told
+  pub is : IsWalk walk told

@@ -1,9 +1,9 @@
 //! How far a caller has come in its scripts.
 ghost use Rattle.std.specs.Prelude.{◌≡◌, ◌≤◌, Some, None, MatchOption, IfSome, length, true, false};
-ghost use Rattle.draw_core.specs.Turns.{after, begun, done, ended, granted, is_done, is_next, next_of, past_next, told_by};
+ghost use Rattle.draw_core.specs.Turns.{after, begun, done, ended, granted, is_at, is_done, is_next, is_over, next_of, past_next, told_by};
 ghost use Rattle.draw_core.specs.Walks.{stand_of};
 
-use crate::turn::Turn;
+use crate::turn::{Stage, Turn};
 use stm_check::scripts::next_script;
 use stm_script::op::Op;
 use stm_script::workload::Item;
@@ -100,6 +100,28 @@ fn is_done(items: &[Item], caller: usize, cursor: Cursor) -> bool
     cursor.done.is_some() && next_op(items, caller, cursor).is_none()
 }
 
+/// Whether no transaction is left to the caller.
+fn is_over(items: &[Item], caller: usize, cursor: Cursor) -> bool
+    requires { cursor.item ≤ length items.now }
+    ensures { result ≡ is_over (stand_of items.now caller cursor).scripts }
+{
+    next_script(items, caller, cursor.item).is_none()
+}
+
+/// Whether the caller stands at this stage.
+fn is_at(items: &[Item], caller: usize, cursor: Cursor, stage: Stage) -> bool
+    requires { cursor.item ≤ length items.now }
+    ensures { result ≡ is_at stage (stand_of items.now caller cursor) }
+{
+    match stage {
+        Stage::Before => cursor.done.is_none() && !is_over(items, caller, cursor),
+        Stage::Inside => cursor.done.is_some(),
+        Stage::Done => is_done(items, caller, cursor),
+        Stage::Outside => cursor.done.is_none(),
+        Stage::Over => cursor.done.is_none() && is_over(items, caller, cursor),
+    }
+}
+
 /// Where the caller stands once its attempt is irrevocable.
 fn grant(items: &[Item], caller: usize, cursor: Cursor) -> Cursor
     requires { cursor.item ≤ length items.now }
@@ -153,7 +175,17 @@ pub fn after(
             }
             Some((end(items, caller, cursor), None))
         }
-        Turn::Fails => Some((outside, None)),
-        Turn::Stays => Some((cursor, None)),
+        Turn::Fails(stage) => {
+            if !is_at(items, caller, cursor, stage) {
+                return None;
+            }
+            Some((outside, None))
+        }
+        Turn::Stays(stage) => {
+            if !is_at(items, caller, cursor, stage) {
+                return None;
+            }
+            Some((cursor, None))
+        }
     }
 }

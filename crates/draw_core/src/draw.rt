@@ -1,14 +1,20 @@
 //! The top call.
-ghost use Rattle.std.specs.Prelude.{◌≡◌, IfOk, OnErr};
-ghost use Rattle.draw_core.specs.Outcomes.{SaidOf, Says, IsOutcome, most_read, usage_line, read_fault_line, refused_line};
+ghost use Rattle.std.specs.Prelude.{◌≡◌, ◌<◌, ◌≤◌, ◌^◌, List, IfOk, OnErr};
+ghost use Rattle.draw_core.specs.Asking.{texts_of};
+ghost use Rattle.draw_core.specs.Outcomes.{SaidOf, SaidOfPage, Says, SaysOf, IsOutcome, rows_in, help_text, most_read, refused_line};
+ghost use Rattle.draw_core.specs.Pages.{rows_before, IsSettled};
+ghost use Rattle.draw_core.specs.declared.step.Step.{Step};
 ghost use Rattle.draw_core.specs.declared.status.Status.TheVariants.{Refused};
 ghost use Rattle.stm_io.specs.Ends.{TookSome};
 
-use crate::picture::picture;
+use crate::asking::{Topic, asked, help_of, page_in};
+use crate::page::{Page, pages_of, rows_before};
+use crate::picture::{Leaf, picture};
 use crate::reading::MOST_DRAWN;
 use crate::status::Status;
+use crate::style::HELP;
 use crate::walk::StepsError;
-use crate::whole::{has_workload, read_steps};
+use crate::whole::{has_workload, read_page};
 use std::alloc::Global;
 use stm_faults::trace::{trace_fault, traced_fault, unfit_line};
 use stm_faults::workload::workload_fault;
@@ -20,24 +26,26 @@ use stm_text::parting::part_at_done;
 /// How many bytes are read: one more than a text may have.
 const MOST_READ: usize = 134217729;
 
-/// Reads the text that `stm_bench step` writes from `source`, and writes its picture to `sink`, whole once it is made:
-/// one box for each line of the trace, in its caller's lane and in the order of the lines, with the line's words. Where
-/// the text is a workload and after its line `done` that, a box has what its caller did: the operation as the script has
-/// it, and the reply. Where `words`, the program's name and what follows it, has more than the name, it writes the usage
-/// line and reads nothing. Every other end writes one line, or with `Memory` nothing; see [`Status`].
+/// Reads the text that `stm_bench step` writes from `source`, and writes a page of its picture to `sink`, whole once it
+/// is made: one box for each line of the trace, in its caller's lane and in the order of the lines, with the line's words,
+/// but one box for idle turns of a caller that follow each other. A page has 1,000 such rows of its own, below those above
+/// it that still stand. Where the text is a workload and after its line `done` that, a box has what its caller did: the
+/// operation as the script has it, and the reply. `words`, the program's name and what follows it, name the page, or call
+/// for help; where they are in no form, it writes the usage line. Then it reads nothing. Every other end writes one line,
+/// or with `Memory` nothing; see [`Status`].
 ///
 /// `Refused` leaves in `why` what is wrong with the text, in a sentence, where memory for it is there.
 pub fn draw<S: Source, K: Sink>(
     alloc: Global,
-    words: usize,
+    words: &[&str],
     source: &mut S,
     sink: &mut K,
     why: &mut Option<String>,
 ) -> Status
-    ensures { IsOutcome S.left S.faults source.old source.new words K.held K.faults sink.old
-        sink.new result }
+    ensures { IsOutcome S.left S.faults source.old source.new (texts_of words.now) K.held K.faults
+        sink.old sink.new result }
 {
-    let Ok(saying) = drawn_of_source(alloc, words, source) else {
+    let Ok(saying) = saying_of_words(alloc, words, source) else {
         return Status::Memory;
     };
     match put_all(sink, saying.text.as_slice()) {
@@ -59,24 +67,56 @@ pub struct Saying {
 }
 
 /// What is to be written, made whole before any of it is.
-fn drawn_of_source<S: Source>(alloc: Global, words: usize, source: &mut S) -> Result<Saying, Memory>
+fn saying_of_words<S: Source>(
+    alloc: Global,
+    words: &[&str],
+    source: &mut S,
+) -> Result<Saying, Memory>
     ensures says { IfOk result (λ s.
-        Says S.left S.faults source.old source.new words s.status s.text.items) }
+        Says S.left S.faults source.old source.new (texts_of words.now) s.status s.text.items) }
     ensures lost { OnErr result (TookSome most_read (S.left source.old) (S.left source.new)) }
     ensures calm { OnErr result (S.faults source.new ≡ S.faults source.old) }
 {
-    if words != 1 {
-        let usage = b"usage: stm_draw\n".to_vec(alloc)?;
+    if let Some(topic) = help_of(words) {
         return Ok(Saying {
-            status: Status::Usage,
-            text: usage,
+            status: Status::Help,
+            text: help(alloc, topic)?,
             why: None,
         });
     }
+    match asked(words) {
+        None => Ok(Saying {
+            status: Status::Usage,
+            text: b"usage: stm_draw [--page P] [FILE [TRACE]]\n".to_vec(alloc)?,
+            why: None,
+        }),
+        Some(ask) => saying_of_source(alloc, page_in(ask), source),
+    }
+}
+
+/// The help that is asked for.
+fn help(alloc: Global, topic: Topic) -> Result<Vec<u8>, Memory>
+    ensures { IfOk result (λ t. t.items ≡ help_text topic) }
+{
+    let text = match topic {
+        Topic::All => HELP,
+        Topic::Version => "stm_draw 1.0.0\n",
+    };
+    Ok(text.as_bytes().to_vec(alloc)?)
+}
+
+/// What is to be written of a page of what the source has.
+fn saying_of_source<S: Source>(alloc: Global, page: usize, source: &mut S) -> Result<Saying, Memory>
+    requires { page < 2 ^ 16 }
+    ensures says { IfOk result (λ s.
+        SaysOf S.left S.faults source.old source.new page s.status s.text.items) }
+    ensures lost { OnErr result (TookSome most_read (S.left source.old) (S.left source.new)) }
+    ensures calm { OnErr result (S.faults source.new ≡ S.faults source.old) }
+{
     // made before the source is read, so that its fault is never told as want of memory
     let read_fault = b"read fault\n".to_vec(alloc)?;
     match read_all(alloc, source, MOST_READ) {
-        Ok(text) => drawn(alloc, text.as_slice()),
+        Ok(text) => drawn(alloc, text.as_slice(), page),
         Err(TakeError::Failed) => Ok(Saying {
             status: Status::ReadFault,
             text: read_fault,
@@ -86,16 +126,13 @@ fn drawn_of_source<S: Source>(alloc: Global, words: usize, source: &mut S) -> Re
     }
 }
 
-/// What is to be written of a text that was read.
-pub fn drawn(alloc: Global, text: &[u8]) -> Result<Saying, Memory>
-    ensures { IfOk result (λ s. SaidOf text.now s.status s.text.items) }
+/// What is to be written of a page of a text that was read.
+pub fn drawn(alloc: Global, text: &[u8], page: usize) -> Result<Saying, Memory>
+    requires { page < 2 ^ 16 }
+    ensures { IfOk result (λ s. SaidOf text.now page s.status s.text.items) }
 {
-    match read_steps(alloc, text) {
-        Ok(steps) => Ok(Saying {
-            status: Status::Ok,
-            text: picture(alloc, steps.as_slice())?,
-            why: None,
-        }),
+    match read_page(alloc, text, rows_before(page)) {
+        Ok(made) => drawn_page(alloc, page, &made),
         Err(StepsError::Workload { line, code }) => {
             let (head, _) = part_at_done(text);
             refused(alloc, line, workload_fault(alloc, head, line, code).ok())
@@ -106,6 +143,31 @@ pub fn drawn(alloc: Global, text: &[u8]) -> Result<Saying, Memory>
         Err(StepsError::Unfit { line }) => refused(alloc, line, unfit_line(alloc, text, line).ok()),
         Err(StepsError::Memory) => Err(Memory),
     }
+}
+
+/// The picture of a page, where there is one.
+fn drawn_page(alloc: Global, page: usize, made: &Page) -> Result<Saying, Memory>
+    requires { made.now.count < 2 ^ 62 }
+    ensures { IfOk result (λ s. (steps : List Step) → made.now.from ≡ rows_before page
+        → IsSettled made.now (rows_in steps) → SaidOfPage steps page s.status s.text.items) }
+{
+    let pages = pages_of(made.count());
+    if pages < page {
+        let text = format!(in alloc; "pages {pages}\n")?;
+        return Ok(Saying {
+            status: Status::NoPage { pages },
+            text: text.into_bytes(),
+            why: None,
+        });
+    }
+    let rows = made.rows(alloc)?;
+    let above = rows.len() - made.own_len();
+    let leaf = Leaf { page, pages, above };
+    Ok(Saying {
+        status: Status::Ok,
+        text: picture(alloc, leaf, rows.as_slice())?,
+        why: None,
+    })
 }
 
 /// What is wrong with the trace's text, which a workload may stand above.

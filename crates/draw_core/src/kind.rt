@@ -1,6 +1,6 @@
 //! What a line of a trace is to a reader of its picture.
 ghost use Rattle.std.specs.Prelude.{◌≡◌};
-ghost use Rattle.draw_core.specs.Kinds.{kind_of, said_kind, stop_kind, class_of, ends_attempt};
+ghost use Rattle.draw_core.specs.Kinds.{kind_of, said_kind, stop_kind, class_of, ends_attempt, is_begin, is_closing, is_commit, is_holding, is_idle, is_opening};
 
 use stm_model::alg::Alg;
 use stm_model::stop::Stop;
@@ -141,6 +141,66 @@ impl Kind {
             | Kind::Reopens
             | Kind::Idles
             | Kind::Finishes => false,
+        }
+    }
+
+    /// Whether nothing is left to its caller.
+    pub fn is_idle(self) -> bool
+        ensures { result ≡ is_idle self }
+    {
+        match self {
+            Kind::Idles => true,
+            _ => false,
+        }
+    }
+
+    /// Whether it begins an attempt.
+    pub fn is_begin(self) -> bool
+        ensures { result ≡ is_begin self }
+    {
+        match self {
+            Kind::Begins(_) => true,
+            _ => false,
+        }
+    }
+
+    /// Whether it commits what was written.
+    pub fn is_commit(self) -> bool
+        ensures { result ≡ is_commit self }
+    {
+        match self {
+            Kind::Commits(_) => true,
+            _ => false,
+        }
+    }
+
+    /// Whether its attempt asks to be alone, or was granted it.
+    pub fn is_holding(self) -> bool
+        ensures { result ≡ is_holding self }
+    {
+        match self {
+            Kind::Promotes | Kind::Holds => true,
+            _ => false,
+        }
+    }
+
+    /// Whether it closes the gate.
+    pub fn is_closing(self) -> bool
+        ensures { result ≡ is_closing self }
+    {
+        match self {
+            Kind::Closes => true,
+            _ => false,
+        }
+    }
+
+    /// Whether it opens the gate again.
+    pub fn is_opening(self) -> bool
+        ensures { result ≡ is_opening self }
+    {
+        match self {
+            Kind::Installs(_) | Kind::Reopens => true,
+            _ => false,
         }
     }
 }

@@ -1,9 +1,12 @@
 //! The words on a box.
-ghost use Rattle.std.specs.Prelude.{◌≡◌, ◌++◌, IfOk, OnOk, string_bytes};
+ghost use Rattle.std.specs.Prelude.{◌≡◌, ◌++◌, IfOk, OnOk, codes, string_bytes};
+ghost use Rattle.std.specs.Fmt.{decimal};
 ghost use Rattle.stm_trace.specs.Texts.{spaced};
-ghost use Rattle.draw_core.specs.Labels.{deed_bytes, done_bytes, operands, region_numbers};
+ghost use Rattle.draw_core.specs.Labels.{deed_bytes, done_bytes, label_of, operands, region_numbers};
 ghost use Rattle.draw_core.specs.Shapes.{box_of};
+ghost use Rattle.draw_core.specs.Texts.{said_on};
 
+use crate::row::Row;
 use crate::step::{Deed, Step};
 use crate::style::ARROW;
 use std::alloc::{AllocError, Global};
@@ -88,7 +91,7 @@ fn put_done(text: &mut String, deed: Deed, said: Said) -> Result<(), AllocError>
 
 /// The words on the box of a line: those after the caller's number.
 fn put_label(text: &mut String, step: Step) -> Result<(), AllocError>
-    ensures { OnOk result (string_bytes text.new ≡ string_bytes text.old ++ (box_of step).label) }
+    ensures { OnOk result (string_bytes text.new ≡ string_bytes text.old ++ label_of step) }
 {
     match step.line {
         Line::Of { said, .. } => match step.deed {
@@ -99,11 +102,23 @@ fn put_label(text: &mut String, step: Step) -> Result<(), AllocError>
     }
 }
 
-/// The words on the box of a step. Memory may be refused.
-pub fn label(alloc: Global, step: Step) -> Result<String, AllocError>
-    ensures { IfOk result (λ t. string_bytes t ≡ (box_of step).label) }
+/// The words on the box of a row. Memory may be refused.
+pub fn label(alloc: Global, row: Row) -> Result<String, AllocError>
+    ensures { IfOk result (λ t. string_bytes t ≡ said_on (box_of row)) }
 {
     let mut words = String::new(alloc);
-    put_label(&mut words, step)?;
+    if row.times <= 1 {
+        put_label(&mut words, row.step)?;
+        return Ok(words);
+    }
+    put_times(&mut words, row.times)?;
     Ok(words)
+}
+
+/// The words on idle turns that follow each other.
+fn put_times(text: &mut String, times: usize) -> Result<(), AllocError>
+    ensures { OnOk result (string_bytes text.new
+        ≡ string_bytes text.old ++ (codes " idle " ++ (decimal times ++ codes " times"))) }
+{
+    write!(text, " idle {times} times")
 }

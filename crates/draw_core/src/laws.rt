@@ -1,4 +1,6 @@
 //! Laws of the definitions, each the contract of a function.
+ghost use Rattle.draw_core.specs.Pages.{PagesAreBounded, PagesAreWhole};
+ghost use Rattle.draw_core.specs.Shown.{WordsFit};
 ghost use Rattle.draw_core.specs.Statements.{TraceIsDrawn, StepIsDrawn};
 
 use stm_check::laws::report_is_read;
@@ -17,3 +19,18 @@ pub fn step_is_drawn()
 {
     report_is_read();
 }
+
+/// The pages of a picture together have each of its rows once, in order.
+pub fn pages_are_whole()
+    ensures { PagesAreWhole }
+{}
+
+/// A page has at most 1,000 rows of its own, and 97 above them.
+pub fn pages_are_bounded()
+    ensures { PagesAreBounded }
+{}
+
+/// No box shows more than 40 bytes of words, whatever its numbers.
+pub fn words_fit()
+    ensures { WordsFit }
+{}

@@ -3,54 +3,68 @@ ghost use Rattle.std.specs.Prelude.{◌≡◌, ◌++◌, ◌+◌, ◌<◌, ◌^�
 ghost use Rattle.stm_model.specs.Algorithms.{alg_name};
 ghost use Rattle.draw_core.specs.Shapes.{boxes_of, box_of, shape_at};
 ghost use Rattle.draw_core.specs.Markup.{IsMarkup};
-ghost use Rattle.draw_core.specs.Texts.{left, top, tall, edge, lanes_of, sheet_of, shape_bytes, part_bytes, layer_bytes, narrowed, squeezed, box_rect, box_bytes, boxes_bytes, page_width, page_height, page_bytes, style_bytes, legend_bytes, name_bytes, axis_bytes, head_bytes, foot_bytes, svg_of};
+ghost use Rattle.draw_core.specs.Texts.{left, top, tall, edge, lanes_of, sheet_of, shape_bytes, part_bytes, layer_bytes, squeezed, box_rect, box_bytes, boxes_bytes, clock_bytes, deep, head_at, heads_bytes, lane_bytes, naming_bytes, number_bytes, page_number, turn_bytes, page_width, page_height, page_bytes, view_bytes, style_bytes, legend_bytes, name_bytes, axis_bytes, head_bytes, foot_bytes, svg_of};
 
-use crate::kind::{Kind, line_kind};
+use crate::kind::Kind;
 use crate::label::label;
-use crate::shape::{Layer, Shape, lane, shape_at};
-use crate::step::Step;
+use crate::row::Row;
+use crate::shape::{Layer, Shape, shape_at};
+use crate::shown::{put_words, shown};
 use crate::style::{LEGEND, STYLE};
 use crate::writing::{put_open, put_rect};
 use std::alloc::{AllocError, Global};
 use stm_model::alg::Alg;
 use stm_model::memory::Memory;
 
-/// The page: how many lanes and rows it has.
+/// Which page of how many a picture is, and how many of its rows stand above the page's own.
+#[derive(Clone, Copy, Drop, Debug, PartialEq, Eq)]
+pub struct Leaf {
+    pub page: usize,
+    pub pages: usize,
+    pub above: usize,
+}
+
+/// The page: how many lanes and rows it has, and which it is.
 #[derive(Clone, Copy, Drop, Debug, PartialEq, Eq)]
 pub struct Sheet {
     lanes: u128,
     rows: u128,
+    leaf: Leaf,
 }
 
-/// Where a lane begins; where a row does; how high one is with so many after it.
+/// Where a lane begins; where a row does, below the heads above it; how high one is with so many after it.
 fn left(lane: usize) -> u128
     ensures { result ≡ left lane }
 {
-    92 + lane as u128 * 216
+    138 + lane as u128 * 216
 }
 
-fn top(row: usize) -> u128
+fn top(row: u128) -> u128
+    requires { row ≤ 2 ^ 65 }
     ensures { result ≡ top row }
 {
-    44 + row as u128 * 24
+    44 + (row + row / 40) * 24
 }
 
-fn tall(more: usize) -> u128
-    ensures { result ≡ tall more }
+fn tall(from: usize, more: usize) -> u128
+    ensures { result ≡ tall from more }
 {
-    22 + more as u128 * 24
+    let first = from as u128;
+    let last = first + more as u128;
+    22 + (top(last) - top(first))
 }
 
 impl Sheet {
     /// The page that these lines need.
-    fn of(lines: &[Step]) -> Sheet
-        ensures is { result ≡ sheet_of (boxes_of lines.now) }
+    fn of(leaf: Leaf, lines: &[Row]) -> Sheet
+        ensures is { result ≡ sheet_of leaf (boxes_of lines.now) }
         ensures lanes { result.lanes ≤ 2 ^ 64 }
         ensures rows { result.rows ≤ 2 ^ 64 }
     {
         Sheet {
             lanes: lanes(lines),
             rows: lines.len() as u128,
+            leaf,
         }
     }
 
@@ -59,45 +73,43 @@ impl Sheet {
         requires { self.lanes ≤ 2 ^ 64 }
         ensures { result ≡ edge self }
     {
-        92 + self.lanes * 216
+        138 + self.lanes * 216
+    }
+
+    /// How many rows there are with those of the heads.
+    fn deep(self) -> u128
+        requires { self.rows ≤ 2 ^ 64 }
+        ensures is { result ≡ deep self }
+        ensures within { result ≤ 2 ^ 65 }
+    {
+        self.rows + self.rows / 40
     }
 
     fn width(self) -> u128
         requires { self.lanes ≤ 2 ^ 64 }
         ensures { result ≡ page_width self }
     {
-        (self.edge() + 140).max(720)
+        (self.edge() + 140).max(766)
     }
 
     fn height(self) -> u128
         requires { self.rows ≤ 2 ^ 64 }
         ensures { result ≡ page_height self }
     {
-        self.rows * 24 + 116
+        self.deep() * 24 + 116
     }
 }
 
 /// How many lanes the lines lie in.
-fn lanes(lines: &[Step]) -> u128
+fn lanes(lines: &[Row]) -> u128
     ensures all { result ≡ lanes_of (boxes_of lines.now) }
     ensures few { result ≤ 2 ^ 64 }
 {
     let mut lanes = 0u128;
     for line in lines {
-        lanes = lanes.max(lane(*line) as u128 + 1);
+        lanes = lanes.max(line.lane() as u128 + 1);
     }
     lanes
-}
-
-/// What makes a time narrower that would reach into the line's number.
-fn narrowed(time: u64) -> &'static str
-    ensures { result.now ≡ narrowed time }
-{
-    if 99_999 < time {
-        " textLength='36' lengthAdjust='spacingAndGlyphs'"
-    } else {
-        ""
-    }
 }
 
 /// The words beside an install, and what closes them.
@@ -109,8 +121,64 @@ fn put_install(text: &mut String, alg: Alg) -> Result<(), AllocError>
     text.push_str(" from here</text>\n")
 }
 
+/// The head of a lane.
+#[tactic(auto, unfolding(crate::specs::Texts::head_at))]
+fn put_head_at(text: &mut String, lane: usize, y: u128) -> Result<(), AllocError>
+    ensures { OnOk result
+        (string_bytes text.new ≡ string_bytes text.old ++ head_at lane y) }
+{
+    put_open(text, "head", "words", left(lane) + 108, y, "")?;
+    write!(text, "caller {lane}</text>\n")
+}
+
+/// The heads of a lane once more, above each block of forty rows.
+fn put_heads(text: &mut String, lane: usize, blocks: u128) -> Result<(), AllocError>
+    requires { blocks ≤ 2 ^ 59 }
+    ensures { OnOk result
+        (string_bytes text.new ≡ string_bytes text.old ++ heads_bytes lane blocks) }
+{
+    for block in 0..blocks {
+        put_head_at(text, lane, top((block + 1) * 40) - 8)?;
+    }
+    Ok(())
+}
+
+/// A caller's lane, with its heads.
+#[tactic(auto, unfolding(crate::specs::Texts::lane_bytes))]
+fn put_lane(text: &mut String, sheet: Sheet, lane: usize) -> Result<(), AllocError>
+    requires { sheet.rows ≤ 2 ^ 64 }
+    ensures { OnOk result
+        (string_bytes text.new ≡ string_bytes text.old ++ lane_bytes sheet lane) }
+{
+    put_rect(
+        text,
+        "lane",
+        "shape",
+        left(lane) + 2,
+        36,
+        212,
+        sheet.deep() * 24 + 16,
+    )?;
+    put_head_at(text, lane, 28)?;
+    put_heads(text, lane, sheet.rows.saturating_sub(1) / 40)
+}
+
+/// The clock, after a commit.
+#[tactic(auto, unfolding(crate::specs::Texts::clock_bytes))]
+fn put_clock(alloc: Global, text: &mut String, row: usize, time: u64) -> Result<(), AllocError>
+    ensures { OnOk result
+        (string_bytes text.new ≡ string_bytes text.old ++ clock_bytes row time) }
+{
+    let words = format!(in alloc; "{time}")?;
+    let short = shown(alloc, words.as_str())?;
+    put_rect(text, "tick", "shape", 126, top(row as u128) + 8, 8, 8)?;
+    put_open(text, "clock", "words", 120, top(row as u128) + 16, "")?;
+    put_words(text, words.as_str(), short.as_str())?;
+    text.push_str("</text>\n")
+}
+
 #[tactic(auto, unfolding(crate::specs::Texts::shape_bytes))]
-fn put_shape(text: &mut String, sheet: Sheet, shape: Shape) -> Result<(), AllocError>
+fn put_shape(alloc: Global, text: &mut String, sheet: Sheet, shape: Shape) -> Result<(), AllocError>
     requires lanes { sheet.lanes ≤ 2 ^ 64 }
     requires rows { sheet.rows ≤ 2 ^ 64 }
     ensures { OnOk result
@@ -119,20 +187,24 @@ fn put_shape(text: &mut String, sheet: Sheet, shape: Shape) -> Result<(), AllocE
     let wide = sheet.lanes * 216 + 16;
     let side = sheet.edge() + 14;
     match shape {
-        Shape::Lane { lane } => {
-            let high = sheet.rows * 24 + 16;
-            put_rect(text, "lane", "shape", left(lane) + 2, 36, 212, high)?;
-            put_open(text, "head", "words", left(lane) + 108, 28, "")?;
-            write!(text, "caller {lane}</text>\n")
-        }
+        Shape::Lane { lane } => put_lane(text, sheet, lane),
         Shape::Closed { lane, from, more } => {
-            put_rect(text, "closed", "shape", 84, top(from), wide, tall(more) + 2)?;
-            put_open(text, "side", "words", side, top(from) + 16, "")?;
+            let high = tall(from, more) + 2;
+            put_rect(text, "closed", "shape", 130, top(from as u128), wide, high)?;
+            put_open(text, "side", "words", side, top(from as u128) + 16, "")?;
             write!(text, "gate closed by {lane}</text>\n")
         }
         Shape::Installed { row, alg } => {
-            put_rect(text, "installed", "shape", 84, top(row) + 23, wide, 2)?;
-            put_open(text, "side", "words", side, top(row) + 28, "")?;
+            put_rect(
+                text,
+                "installed",
+                "shape",
+                130,
+                top(row as u128) + 23,
+                wide,
+                2,
+            )?;
+            put_open(text, "side", "words", side, top(row as u128) + 28, "")?;
             put_install(text, alg)
         }
         Shape::Attempt {
@@ -145,58 +217,61 @@ fn put_shape(text: &mut String, sheet: Sheet, shape: Shape) -> Result<(), AllocE
             "attempt",
             kind.class(),
             left(lane) + 4,
-            top(from) + 1,
+            top(from as u128) + 1,
             208,
-            tall(more),
+            tall(from, more),
         ),
         Shape::Irrevocable { lane, from, more } => put_rect(
             text,
             "sure",
             "shape",
             left(lane) + 4,
-            top(from) + 1,
+            top(from as u128) + 1,
             6,
-            tall(more),
+            tall(from, more),
         ),
-        Shape::Clock { row, time } => {
-            put_rect(text, "tick", "shape", 80, top(row) + 8, 8, 8)?;
-            put_open(text, "clock", "words", 74, top(row) + 16, narrowed(time))?;
-            write!(text, "{time}</text>\n")
-        }
+        Shape::Clock { row, time } => put_clock(alloc, text, row, time),
     }
 }
 
 /// The shape of a layer at a line, where there is one.
 fn put_at(
+    alloc: Global,
     text: &mut String,
     sheet: Sheet,
     sort: Layer,
     row: usize,
-    step: Step,
-    rest: &[Step],
+    line: Row,
+    rest: &[Row],
 ) -> Result<(), AllocError>
     requires lanes { sheet.lanes ≤ 2 ^ 64 }
     requires rows { sheet.rows ≤ 2 ^ 64 }
     requires room { row + length rest.now + 1 < 2 ^ 64 }
     ensures { OnOk result (string_bytes text.new
         ≡ string_bytes text.old
-        ++ part_bytes sheet (shape_at sort row (box_of step) (boxes_of rest.now))) }
+        ++ part_bytes sheet (shape_at sort row (box_of line) (boxes_of rest.now))) }
 {
-    match shape_at(sort, row, step, rest) {
+    match shape_at(sort, row, line, rest) {
         None => Ok(()),
-        Some(shape) => put_shape(text, sheet, shape),
+        Some(shape) => put_shape(alloc, text, sheet, shape),
     }
 }
 
 /// A layer, shape by shape.
-fn put_layer(text: &mut String, sheet: Sheet, sort: Layer, lines: &[Step]) -> Result<(), AllocError>
+fn put_layer(
+    alloc: Global,
+    text: &mut String,
+    sheet: Sheet,
+    sort: Layer,
+    lines: &[Row],
+) -> Result<(), AllocError>
     requires lanes { sheet.lanes ≤ 2 ^ 64 }
     requires rows { sheet.rows ≤ 2 ^ 64 }
     ensures { OnOk result (string_bytes text.new
         ≡ string_bytes text.old ++ layer_bytes sheet sort 0 (boxes_of lines.now)) }
 {
     for (row, line) in lines.iter().enumerate() {
-        put_at(text, sheet, sort, row, *line, &lines[row + 1..])?;
+        put_at(alloc, text, sheet, sort, row, *line, &lines[row + 1..])?;
     }
     Ok(())
 }
@@ -214,16 +289,16 @@ fn squeezed(words: &str) -> &'static str
 
 /// The rectangle of a box: in its lane, or across all where it ends the schedule.
 #[tactic(auto, unfolding(crate::specs::Texts::box_rect))]
-fn put_box_rect(text: &mut String, sheet: Sheet, row: usize, step: Step) -> Result<(), AllocError>
+fn put_box_rect(text: &mut String, sheet: Sheet, row: usize, line: Row) -> Result<(), AllocError>
     requires { sheet.lanes ≤ 2 ^ 64 }
     ensures { OnOk result
-        (string_bytes text.new ≡ string_bytes text.old ++ box_rect sheet row (box_of step)) }
+        (string_bytes text.new ≡ string_bytes text.old ++ box_rect sheet row (box_of line)) }
 {
-    let class = line_kind(step.line).class();
-    let y = top(row) + 3;
-    match line_kind(step.line) {
-        Kind::Finishes => put_rect(text, "box", class, 88, y, sheet.lanes * 216 + 8, 18),
-        _ => put_rect(text, "box", class, left(lane(step)) + 14, y, 194, 18),
+    let class = line.kind().class();
+    let y = top(row as u128) + 3;
+    match line.kind() {
+        Kind::Finishes => put_rect(text, "box", class, 134, y, sheet.lanes * 216 + 8, 18),
+        _ => put_rect(text, "box", class, left(line.lane()) + 14, y, 194, 18),
     }
 }
 
@@ -234,28 +309,29 @@ fn put_box(
     text: &mut String,
     sheet: Sheet,
     row: usize,
-    step: Step,
+    line: Row,
 ) -> Result<(), AllocError>
     requires { sheet.lanes ≤ 2 ^ 64 }
     ensures { OnOk result
-        (string_bytes text.new ≡ string_bytes text.old ++ box_bytes sheet row (box_of step)) }
+        (string_bytes text.new ≡ string_bytes text.old ++ box_bytes sheet row (box_of line)) }
 {
-    let words = label(alloc, step)?;
-    let class = line_kind(step.line).class();
-    let y = top(row) + 16;
-    put_box_rect(text, sheet, row, step)?;
+    let words = label(alloc, line)?;
+    let short = shown(alloc, words.as_str())?;
+    let class = line.kind().class();
+    let y = top(row as u128) + 16;
+    put_box_rect(text, sheet, row, line)?;
     put_open(
         text,
         "label",
         class,
-        left(lane(step)) + 19,
+        left(line.lane()) + 19,
         y,
-        squeezed(words.as_str()),
+        squeezed(short.as_str()),
     )?;
-    text.push_str(words.as_str())?;
+    put_words(text, words.as_str(), short.as_str())?;
     text.push_str("</text>\n")?;
-    put_open(text, "row", "words", 34, y, "")?;
-    let number = row as u128 + 1;
+    put_open(text, "row", "words", 58, y, "")?;
+    let number = line.number;
     write!(text, "{number}</text>\n")
 }
 
@@ -263,7 +339,7 @@ fn put_boxes(
     alloc: Global,
     text: &mut String,
     sheet: Sheet,
-    lines: &[Step],
+    lines: &[Row],
 ) -> Result<(), AllocError>
     requires { sheet.lanes ≤ 2 ^ 64 }
     ensures { OnOk result (string_bytes text.new
@@ -292,9 +368,9 @@ fn put_axis(text: &mut String, sheet: Sheet) -> Result<(), AllocError>
     requires { sheet.rows ≤ 2 ^ 64 }
     ensures { OnOk result (string_bytes text.new ≡ string_bytes text.old ++ axis_bytes sheet) }
 {
-    put_rect(text, "axis", "shape", 83, 36, 2, sheet.rows * 24 + 16)?;
-    put_name(text, 34, "line")?;
-    put_name(text, 74, "clock")
+    put_rect(text, "axis", "shape", 129, 36, 2, sheet.deep() * 24 + 16)?;
+    put_name(text, 58, "line")?;
+    put_name(text, 120, "clock")
 }
 
 #[tactic(auto, unfolding(crate::specs::Texts::page_bytes))]
@@ -302,10 +378,66 @@ fn put_page(text: &mut String, width: u128, height: u128) -> Result<(), AllocErr
     ensures { OnOk result
         (string_bytes text.new ≡ string_bytes text.old ++ page_bytes width height) }
 {
+    put_view(text, width, height)?;
+    write!(text, "' width='{width}' height='{height}'>\n")
+}
+
+/// What opens the page, up to the size that it is drawn for.
+#[tactic(auto, unfolding(crate::specs::Texts::view_bytes))]
+fn put_view(text: &mut String, width: u128, height: u128) -> Result<(), AllocError>
+    ensures { OnOk result
+        (string_bytes text.new ≡ string_bytes text.old ++ view_bytes width height) }
+{
     write!(
         text,
-        "<svg xmlns='http://www.w3.org/2000/svg' width='{width}' height='{height}'>\n"
+        "<svg xmlns='http://www.w3.org/2000/svg' role='img' viewBox='0 0 {width} {height}"
     )
+}
+
+/// What the picture is, for who can't see it.
+#[tactic(auto, unfolding(crate::specs::Texts::naming_bytes))]
+fn put_naming(text: &mut String, sheet: Sheet) -> Result<(), AllocError>
+    ensures { OnOk result
+        (string_bytes text.new ≡ string_bytes text.old ++ naming_bytes sheet) }
+{
+    let Leaf { page, pages, .. } = sheet.leaf;
+    write!(text, "<title>Page {page} of {pages} of a trace</title>\n")
+}
+
+/// Which page it is, where there are more.
+fn put_number(text: &mut String, sheet: Sheet) -> Result<(), AllocError>
+    requires { sheet.lanes ≤ 2 ^ 64 }
+    ensures { OnOk result
+        (string_bytes text.new ≡ string_bytes text.old ++ number_bytes sheet) }
+{
+    if sheet.leaf.pages <= 1 {
+        return Ok(());
+    }
+    put_page_number(text, sheet)
+}
+
+#[tactic(auto, unfolding(crate::specs::Texts::page_number))]
+fn put_page_number(text: &mut String, sheet: Sheet) -> Result<(), AllocError>
+    requires { sheet.lanes ≤ 2 ^ 64 }
+    ensures { OnOk result
+        (string_bytes text.new ≡ string_bytes text.old ++ page_number sheet) }
+{
+    let Leaf { page, pages, .. } = sheet.leaf;
+    put_open(text, "side", "words", sheet.edge() + 14, 28, "")?;
+    write!(text, "page {page} of {pages}</text>\n")
+}
+
+/// The line under the rows that stand above the page's own.
+fn put_turn(text: &mut String, sheet: Sheet) -> Result<(), AllocError>
+    requires { sheet.lanes ≤ 2 ^ 64 }
+    ensures { OnOk result
+        (string_bytes text.new ≡ string_bytes text.old ++ turn_bytes sheet) }
+{
+    if sheet.leaf.above == 0 {
+        return Ok(());
+    }
+    let y = top(sheet.leaf.above as u128) - 1;
+    put_rect(text, "turn", "shape", 130, y, sheet.lanes * 216 + 16, 2)
 }
 
 #[tactic(auto, unfolding(crate::specs::Texts::style_bytes))]
@@ -331,9 +463,11 @@ fn put_head(text: &mut String, sheet: Sheet) -> Result<(), AllocError>
     let width = sheet.width();
     let height = sheet.height();
     put_page(text, width, height)?;
+    put_naming(text, sheet)?;
     put_style(text)?;
     put_rect(text, "page", "shape", 0, 0, width, height)?;
-    put_axis(text, sheet)
+    put_axis(text, sheet)?;
+    put_number(text, sheet)
 }
 
 #[tactic(auto, unfolding(crate::specs::Texts::foot_bytes))]
@@ -341,28 +475,29 @@ fn put_foot(text: &mut String, sheet: Sheet) -> Result<(), AllocError>
     requires { sheet.rows ≤ 2 ^ 64 }
     ensures { OnOk result (string_bytes text.new ≡ string_bytes text.old ++ foot_bytes sheet) }
 {
-    let y = sheet.rows * 24 + 66;
-    write!(text, "<g transform='translate(92,{y})'>\n")?;
+    let y = sheet.deep() * 24 + 66;
+    write!(text, "<g transform='translate(138,{y})'>\n")?;
     put_legend(text)?;
     text.push_str("</g>\n</svg>\n")
 }
 
-/// The picture of a trace: one box for each of its lines, in the lane of its caller and in the order of the lines, with
-/// what the line tells; and under them what the lines tell together. Its text is markup. Memory may be refused.
-pub fn picture(alloc: Global, lines: &[Step]) -> Result<Vec<u8>, Memory>
-    ensures is { IfOk result (λ t. t.items ≡ svg_of (boxes_of lines.now)) }
+/// The picture of a page: one box for each of its rows, in the lane of its caller and in the order of the rows, with
+/// what the row tells; and under them what the rows tell together. Its text is markup. Memory may be refused.
+pub fn picture(alloc: Global, leaf: Leaf, lines: &[Row]) -> Result<Vec<u8>, Memory>
+    ensures is { IfOk result (λ t. t.items ≡ svg_of leaf (boxes_of lines.now)) }
     ensures markup { IfOk result (λ t. IsMarkup t.items) }
 {
-    let sheet = Sheet::of(lines);
+    let sheet = Sheet::of(leaf, lines);
     let mut text = String::new(alloc);
     put_head(&mut text, sheet)?;
-    put_layer(&mut text, sheet, Layer::Lanes, lines)?;
-    put_layer(&mut text, sheet, Layer::Closings, lines)?;
-    put_layer(&mut text, sheet, Layer::Installs, lines)?;
-    put_layer(&mut text, sheet, Layer::Attempts, lines)?;
-    put_layer(&mut text, sheet, Layer::Promotions, lines)?;
-    put_layer(&mut text, sheet, Layer::Clocks, lines)?;
+    put_layer(alloc, &mut text, sheet, Layer::Lanes, lines)?;
+    put_layer(alloc, &mut text, sheet, Layer::Closings, lines)?;
+    put_layer(alloc, &mut text, sheet, Layer::Installs, lines)?;
+    put_layer(alloc, &mut text, sheet, Layer::Attempts, lines)?;
+    put_layer(alloc, &mut text, sheet, Layer::Promotions, lines)?;
+    put_layer(alloc, &mut text, sheet, Layer::Clocks, lines)?;
     put_boxes(alloc, &mut text, sheet, lines)?;
+    put_turn(&mut text, sheet)?;
     put_foot(&mut text, sheet)?;
     Ok(text.into_bytes())
 }

@@ -1,29 +1,31 @@
-//! The program: `draw` over a runtime's standard input and output.
+//! The program: `draw` over a runtime's arguments, files, standard input and output.
 ghost use Rattle.std.specs.Prelude.{◌≡◌};
 ghost use Rattle.std.specs.Process.{exit_status};
+ghost use Rattle.draw_core.specs.Asking.{texts_of};
 ghost use Rattle.draw_core.specs.Outcomes.{Exits, exit_code_of};
 
+use crate::asking::{Ask, asked};
 use crate::draw::draw;
+use crate::input::Text;
 use crate::status::Status;
 use crate::telling::told;
 use std::alloc::{AllocGlobal, Global};
 use std::env::{self, Env};
+use std::fs;
 use std::io::{self, Eprint, ErrorKind, Input, Print};
 use std::process::ExitCode;
+use std::rt::Files;
 use stm_io::adapters::{ReadSource, WriteSink};
 use stm_io::ends::{Sink, Source};
 
-/// Draws what standard input has to standard output, and answers the status as exit status. Once all is written, standard
-/// error says why, where the status isn't `Ok`.
-pub fn program<R: Env + AllocGlobal + Input + Print + Eprint>(rt: &R) -> ExitCode {
-    match words(rt) {
-        Ok(words) => answer(rt, words),
-        // an argument that isn't UTF-8 is a word too
-        Err(ErrorKind::InvalidData) => answer(rt, 2),
-        Err(_) => {
-            tell(rt, Status::Memory, None);
-            ending(Status::Memory)
-        }
+/// Draws what the files have that the arguments name, or else standard input, to standard output, and answers the status
+/// as exit status. Once all is written, standard error says why, where the status isn't `Ok`.
+pub fn program<R: Env + AllocGlobal + Files + Input + Print + Eprint>(rt: &R) -> ExitCode {
+    match arguments(rt) {
+        Ok(arguments) => answer(rt, arguments.as_slice()),
+        // an argument that isn't UTF-8 is a word of no form
+        Err(ErrorKind::InvalidData) => answer(rt, &[]),
+        Err(_) => refused(rt),
     }
 }
 
@@ -34,39 +36,77 @@ fn ending(status: Status) -> ExitCode
     ExitCode::from(status.exit_code())
 }
 
-/// How many words the command line has, the program's name with them.
-fn words<R: Env + AllocGlobal>(rt: &R) -> Result<usize, ErrorKind> {
+/// The words of the command line, the program's name first.
+fn arguments<R: Env + AllocGlobal>(rt: &R) -> Result<Vec<String>, ErrorKind> {
     match env::args(rt) {
-        Ok(words) => {
-            let words: Vec<String> = words
-                .collect(rt.alloc())
-                .map_err(|_| ErrorKind::OutOfMemory)?;
-            Ok(words.len())
-        }
+        Ok(words) => words
+            .collect(rt.alloc())
+            .map_err(|_| ErrorKind::OutOfMemory),
         Err(error) => Err(error.kind()),
     }
 }
 
-/// Draws what standard input has to standard output.
-fn answer<R: AllocGlobal + Input + Print + Eprint>(rt: &R, words: usize) -> ExitCode {
-    let mut source = ReadSource::new(rt.reader());
+/// Ends where memory for the words was refused.
+fn refused<R: AllocGlobal + Eprint>(rt: &R) -> ExitCode {
+    tell(rt, Status::Memory, &[], None);
+    ending(Status::Memory)
+}
+
+/// The text that the words ask for. A file that can't be opened can't be read.
+fn text_of<R: Files + Input>(rt: &R, ask: Option<Ask<'_>>) -> Text<R::Reader, R::File> {
+    let Some(ask) = ask else {
+        return Text::Missing;
+    };
+    let Some(first) = ask.first else {
+        return Text::Input(rt.reader());
+    };
+    let Ok(file) = fs::open(rt, first) else {
+        return Text::Missing;
+    };
+    let Some(second) = ask.second else {
+        return Text::File(file);
+    };
+    match fs::open(rt, second) {
+        Ok(other) => Text::Both(file, other),
+        Err(_) => Text::Missing,
+    }
+}
+
+/// Draws what the words ask for.
+fn answer<R: AllocGlobal + Files + Input + Print + Eprint>(
+    rt: &R,
+    arguments: &[String],
+) -> ExitCode {
+    let mut words = Vec::new(rt.alloc());
+    for argument in arguments {
+        if words.push(argument.as_str()).is_err() {
+            return refused(rt);
+        }
+    }
+    let mut source = ReadSource::new(text_of(rt, asked(words.as_slice())));
     let mut sink = WriteSink::new(io::writer(rt));
     let mut why = None;
-    let (status, exit) = exits(rt.alloc(), words, &mut source, &mut sink, &mut why);
-    tell(rt, status, why);
+    let (status, exit) = exits(
+        rt.alloc(),
+        words.as_slice(),
+        &mut source,
+        &mut sink,
+        &mut why,
+    );
+    tell(rt, status, words.as_slice(), why);
     exit
 }
 
 /// Draws over a source and a sink. The exit status is that of what was read and written.
 fn exits<S: Source, K: Sink>(
     alloc: Global,
-    words: usize,
+    words: &[&str],
     source: &mut S,
     sink: &mut K,
     why: &mut Option<String>,
 ) -> (Status, ExitCode)
-    ensures { Exits S.left S.faults source.old source.new words K.held K.faults sink.old sink.new
-        result.0 (exit_status result.1) }
+    ensures { Exits S.left S.faults source.old source.new (texts_of words.now) K.held K.faults
+        sink.old sink.new result.0 (exit_status result.1) }
 {
     let status = draw(alloc, words, source, sink, why);
     (status, ending(status))
@@ -74,8 +114,8 @@ fn exits<S: Source, K: Sink>(
 
 /// Tells on standard error what a status means, where there is something to tell and memory to say it; nothing is known
 /// of whether it is read.
-fn tell<R: AllocGlobal + Eprint>(rt: &R, status: Status, why: Option<String>) {
-    if let Ok(Some(said)) = told(rt.alloc(), status, why) {
+fn tell<R: AllocGlobal + Eprint>(rt: &R, status: Status, words: &[&str], why: Option<String>) {
+    if let Ok(Some(said)) = told(rt.alloc(), status, words, why) {
         let _written = eprintln!(rt; "stm_draw: {said}");
     }
 }

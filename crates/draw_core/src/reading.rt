@@ -1,15 +1,17 @@
 //! A text that `step` wrote, read back: its trace, where a report or a full clock follows it.
-ghost use Rattle.std.specs.Prelude.{◌≡◌, ◌≤◌, ◌+◌, ◌^◌, ◌-◌, [], min, length, IfOk, IfErr, Ok, if◌then◌else◌};
+ghost use Rattle.std.specs.Prelude.{◌≡◌, ◌≤◌, ◌<◌, ◌^◌, [], List, length, IfErr, OnOk, Ok};
+ghost use Rattle.stm_trace.specs.declared.line.Line.{Line};
 ghost use Rattle.stm_text.specs.Lines.{lines_of};
 ghost use Rattle.draw_core.specs.Grammar.{trace_of, read, reported, closed, IsFault};
+ghost use Rattle.draw_core.specs.Walks.{IsWalk, HasRead};
 ghost use Rattle.stm_check.specs.Grammar.{report_of};
 
 use crate::said::{is_full_clock, line};
-use std::alloc::{AllocFailed, Global};
+use crate::walk::Walk;
+use std::alloc::{AllocError, Global};
 use stm_check::reading::read_report;
 use stm_text::lines;
 use stm_text::parse::ParseError;
-use stm_trace::line::Line;
 use thiserror::Error;
 
 /// The greatest number of bytes of a text that is drawn: as many as a report may have.
@@ -26,56 +28,66 @@ pub enum ReadError {
     Memory,
 }
 
-impl<T: Drop> From<AllocFailed<T>> for ReadError {
+impl From<AllocError> for ReadError {
     ghost use Rattle.std.specs.Prelude.{◌≡◌};
     ghost use Rattle.draw_core.specs.declared.reading.ReadError.TheVariants.{Memory};
 
     ghost from_gives = { λ _ e. e ≡ Memory };
 
-    fn from(_: AllocFailed<T>) -> ReadError {
+    fn from(_: AllocError) -> ReadError {
         ReadError::Memory
     }
 }
 
-/// The trace of a text: a line for each of its lines before the report, or before the line that tells of a full clock.
+/// Goes over the trace of a text, line by line: those before the report, or before the line that tells of a full clock.
 /// What an operation worked on isn't told by a trace, so it is 0 here. The report is read too, and must be in its form.
 ///
 /// # Errors
 /// `Refused` with the first line at fault, `Memory` where it is refused.
-pub fn read_trace(alloc: Global, text: &[u8]) -> Result<Vec<Line>, ReadError>
-    ensures told { IfOk result (λ t. trace_of text.now ≡ Ok t.items) }
-    ensures few { IfOk result (λ t.
-        (length t.items ≤ length text.now) × (length text.now ≤ 134217728)) }
+pub fn walk_trace(alloc: Global, text: &[u8], walk: &mut Walk<'_>) -> Result<(), ReadError>
+    requires is { IsWalk walk.old [] }
+    requires first { walk.old.page.lines ≡ 0 }
+    requires few { walk.old.above < 2 ^ 61 }
+    ensures told { OnOk result (HasRead walk.new (trace_of text.now)) }
     ensures fault { IfErr result (λ e. IsFault e (trace_of text.now)) }
+    ensures workload { walk.new.workload ≡ walk.old.workload }
+    ensures above { walk.new.above ≡ walk.old.above }
+    ensures lines { OnOk result (walk.new.page.lines ≤ 134217728) }
+    ensures from { walk.new.page.from ≡ walk.old.page.from }
 {
     if MOST_DRAWN < text.len() {
         return Err(ReadError::Refused { line: 0 });
     }
-    read_lines(alloc, text)
+    walk_lines(alloc, text, walk)
 }
 
-/// The lines of a text from the first one on.
-fn read_lines(alloc: Global, text: &[u8]) -> Result<Vec<Line>, ReadError>
-    requires { length text.now ≤ 134217728 }
-    ensures told { IfOk result (λ t. read [] 1 (lines_of text.now) ≡ Ok t.items) }
-    ensures few { IfOk result (λ t. length t.items ≤ length text.now) }
+/// Goes over the lines of a text from the first one on.
+fn walk_lines(alloc: Global, text: &[u8], walk: &mut Walk<'_>) -> Result<(), ReadError>
+    requires short { length text.now ≤ 134217728 }
+    requires is { IsWalk walk.old [] }
+    requires first { walk.old.page.lines ≡ 0 }
+    requires few { walk.old.above < 2 ^ 61 }
+    ensures told { OnOk result (HasRead walk.new (read [] 1 (lines_of text.now))) }
     ensures fault { IfErr result (λ e. IsFault e (read [] 1 (lines_of text.now))) }
+    ensures workload { walk.new.workload ≡ walk.old.workload }
+    ensures above { walk.new.above ≡ walk.old.above }
+    ensures lines { OnOk result (walk.new.page.lines ≤ 134217728) }
+    ensures from { walk.new.page.from ≡ walk.old.page.from }
 {
-    let mut told = Vec::new(alloc);
     let mut rest = text;
     let mut number = 1usize;
     while let Some(i) = lines::find(b'\n', rest) {
         let bytes = &rest[..i];
         if lines::is(bytes, b"report 1") {
-            return reported(alloc, told, number, rest);
+            return check_report(alloc, number, rest);
         }
         let after = lines::past(rest, i);
         if is_full_clock(bytes) {
-            return closed(told, number + 1, after);
+            return check_closed(number + 1, after);
         }
         match line(bytes) {
             None => return Err(ReadError::Refused { line: number }),
-            Some(line) => told.push(line)?,
+            Some(line) => walk.step(line)?,
         }
         rest = after;
         number += 1;
@@ -83,22 +95,15 @@ fn read_lines(alloc: Global, text: &[u8]) -> Result<Vec<Line>, ReadError>
     Err(ReadError::Refused { line: number })
 }
 
-/// The lines told, where a report follows them; the text has its lines from this number on.
-fn reported(
-    alloc: Global,
-    told: Vec<Line>,
-    number: usize,
-    report: &[u8],
-) -> Result<Vec<Line>, ReadError>
+/// Whether a report follows the lines told; the text has its lines from this number on.
+fn check_report(alloc: Global, number: usize, report: &[u8]) -> Result<(), ReadError>
     requires { 1 ≤ number }
-    ensures told { IfOk result (λ t.
-        reported told.items number (report_of report.now) ≡ Ok t.items) }
-    ensures same { IfOk result (λ t. t.items ≡ told.items) }
-    ensures fault { IfErr result (λ e.
-        IsFault e (reported told.items number (report_of report.now))) }
+    ensures told { OnOk result ((told : List Line) → reported told number (report_of report.now) ≡ Ok told) }
+    ensures fault { IfErr result (λ e. (told : List Line)
+        → IsFault e (reported told number (report_of report.now))) }
 {
     match read_report(alloc, report) {
-        Ok(_) => Ok(told),
+        Ok(_) => Ok(()),
         Err(ParseError::Fault { line, .. }) => Err(ReadError::Refused {
             line: (number - 1).saturating_add(line),
         }),
@@ -106,14 +111,14 @@ fn reported(
     }
 }
 
-/// The lines told, where nothing follows the line that tells of a full clock; the next one would have this number.
-fn closed(told: Vec<Line>, number: usize, after: &[u8]) -> Result<Vec<Line>, ReadError>
-    ensures told { IfOk result (λ t. closed told.items number (lines_of after.now) ≡ Ok t.items) }
-    ensures same { IfOk result (λ t. t.items ≡ told.items) }
-    ensures fault { IfErr result (λ e. IsFault e (closed told.items number (lines_of after.now))) }
+/// Whether nothing follows the line that tells of a full clock; the next one would have this number.
+fn check_closed(number: usize, after: &[u8]) -> Result<(), ReadError>
+    ensures told { OnOk result ((told : List Line) → closed told number (lines_of after.now) ≡ Ok told) }
+    ensures fault { IfErr result (λ e. (told : List Line)
+        → IsFault e (closed told number (lines_of after.now))) }
 {
     if after.is_empty() {
-        return Ok(told);
+        return Ok(());
     }
     Err(ReadError::Refused { line: number })
 }

@@ -3,10 +3,9 @@ ghost use Rattle.std.specs.Prelude.{◌≡◌, ◌≤◌, ◌<◌, ◌+◌, ◌^
 ghost use Rattle.stm_model.specs.Algorithms.{closes_gate};
 ghost use Rattle.draw_core.specs.Shapes.{boxes_of, box_of, meets, is_by, before, more, ended_by, attempt_at, part, closing_at, promotion_at, is_over, lane_at, shape_at};
 
-use crate::kind::{Kind, line_kind};
-use crate::step::Step;
+use crate::kind::Kind;
+use crate::row::Row;
 use stm_model::alg::Alg;
-use stm_trace::line::Line;
 
 /// A shape. Lanes are callers; rows count the lines of the trace from 0, and `more` the rows after the first one.
 #[derive(Clone, Copy, Drop, Debug, PartialEq, Eq)]
@@ -84,26 +83,20 @@ fn meets(sought: Sought, kind: Kind) -> bool
             Kind::Promotes => true,
             _ => false,
         },
-        Sought::Holding => match kind {
-            Kind::Promotes | Kind::Holds => true,
-            _ => false,
-        },
-        Sought::Opening => match kind {
-            Kind::Installs(_) | Kind::Reopens => true,
-            _ => false,
-        },
+        Sought::Holding => kind.is_holding(),
+        Sought::Opening => kind.is_opening(),
     }
 }
 
 /// Whether a line is this caller's, and what is looked for.
-fn is_by(sought: Sought, caller: usize, step: Step) -> bool
-    ensures { result ≡ is_by sought caller (box_of step) }
+fn is_by(sought: Sought, caller: usize, line: Row) -> bool
+    ensures { result ≡ is_by sought caller (box_of line) }
 {
-    lane(step) == caller && meets(sought, line_kind(step.line))
+    line.lane() == caller && meets(sought, line.kind())
 }
 
 /// How many lines come before the first of this caller that is looked for; all where none is.
-fn before(sought: Sought, lane: usize, lines: &[Step]) -> usize
+fn before(sought: Sought, lane: usize, lines: &[Row]) -> usize
     ensures place { result ≡ before sought lane (boxes_of lines.now) }
     ensures within { result ≤ length lines.now }
 {
@@ -116,25 +109,25 @@ fn before(sought: Sought, lane: usize, lines: &[Step]) -> usize
 }
 
 /// How many rows follow the first, up to and with the line that so many come before.
-fn more(k: usize, lines: &[Step]) -> usize
+fn more(k: usize, lines: &[Row]) -> usize
     ensures { result ≡ more k (boxes_of lines.now) }
 {
     if k < lines.len() { k + 1 } else { lines.len() }
 }
 
 /// The kind of an attempt's end, which is the first of these lines; where it has none, that of its begin.
-fn ended_by(alg: Alg, lines: &[Step]) -> Kind
+fn ended_by(alg: Alg, lines: &[Row]) -> Kind
     ensures { result ≡ ended_by alg (boxes_of lines.now) }
 {
     if lines.is_empty() {
         Kind::Begins(alg)
     } else {
-        line_kind(lines[0].line)
+        lines[0].kind()
     }
 }
 
 /// The attempt that begins in this row, where these lines follow.
-fn attempt_at(row: usize, lane: usize, alg: Alg, rest: &[Step]) -> Shape
+fn attempt_at(row: usize, lane: usize, alg: Alg, rest: &[Row]) -> Shape
     ensures { result ≡ attempt_at row lane alg (boxes_of rest.now) }
 {
     let k = before(Sought::End, lane, rest);
@@ -158,7 +151,7 @@ fn closes_gate(alg: Alg) -> bool
 
 /// The part of an attempt from its first line that is looked for on: its first row, and how many follow. The attempt
 /// begins in this row, and these lines follow.
-fn part(sought: Sought, row: usize, lane: usize, rest: &[Step]) -> Option<(usize, usize)>
+fn part(sought: Sought, row: usize, lane: usize, rest: &[Row]) -> Option<(usize, usize)>
     requires { row + length rest.now + 1 < 2 ^ 64 }
     ensures { result ≡ part sought row lane (boxes_of rest.now) }
 {
@@ -173,7 +166,7 @@ fn part(sought: Sought, row: usize, lane: usize, rest: &[Step]) -> Option<(usize
 }
 
 /// The gate closed: from the line that closes it, or by an attempt that is to become irrevocable.
-fn closing_at(row: usize, lane: usize, kind: Kind, rest: &[Step]) -> Option<Shape>
+fn closing_at(row: usize, lane: usize, kind: Kind, rest: &[Row]) -> Option<Shape>
     requires { row + length rest.now + 1 < 2 ^ 64 }
     ensures { result ≡ closing_at row lane kind (boxes_of rest.now) }
 {
@@ -195,7 +188,7 @@ fn closing_at(row: usize, lane: usize, kind: Kind, rest: &[Step]) -> Option<Shap
 }
 
 /// The part of an attempt in which it is irrevocable: the whole under an algorithm that makes it so at its begin.
-fn promotion_at(row: usize, lane: usize, kind: Kind, rest: &[Step]) -> Option<Shape>
+fn promotion_at(row: usize, lane: usize, kind: Kind, rest: &[Row]) -> Option<Shape>
     requires { row + length rest.now + 1 < 2 ^ 64 }
     ensures { result ≡ promotion_at row lane kind (boxes_of rest.now) }
 {
@@ -215,29 +208,19 @@ fn promotion_at(row: usize, lane: usize, kind: Kind, rest: &[Step]) -> Option<Sh
     }
 }
 
-/// The caller in whose lane a line lies.
-pub fn lane(step: Step) -> usize
-    ensures { result ≡ (box_of step).lane }
-{
-    match step.line {
-        Line::Of { caller, .. } => caller,
-        Line::Finish => 0,
-    }
-}
-
 /// Whether none of these lines is this caller's.
-fn is_over(lane: usize, rest: &[Step]) -> bool
+fn is_over(lane: usize, rest: &[Row]) -> bool
     ensures { result ≡ is_over lane (boxes_of rest.now) }
 {
     before(Sought::Any, lane, rest) == rest.len()
 }
 
 /// The lane of a caller, at its last line.
-fn lane_at(step: Step, rest: &[Step]) -> Option<Shape>
-    ensures { result ≡ lane_at (box_of step) (boxes_of rest.now) }
+fn lane_at(line: Row, rest: &[Row]) -> Option<Shape>
+    ensures { result ≡ lane_at (box_of line) (boxes_of rest.now) }
 {
-    let lane = lane(step);
-    if meets(Sought::Any, line_kind(step.line)) && is_over(lane, rest) {
+    let lane = line.lane();
+    if meets(Sought::Any, line.kind()) && is_over(lane, rest) {
         Some(Shape::Lane { lane })
     } else {
         None
@@ -245,14 +228,14 @@ fn lane_at(step: Step, rest: &[Step]) -> Option<Shape>
 }
 
 /// The shape of a layer at a line, where these lines follow.
-pub fn shape_at(layer: Layer, row: usize, step: Step, rest: &[Step]) -> Option<Shape>
+pub fn shape_at(layer: Layer, row: usize, line: Row, rest: &[Row]) -> Option<Shape>
     requires { row + length rest.now + 1 < 2 ^ 64 }
-    ensures { result ≡ shape_at layer row (box_of step) (boxes_of rest.now) }
+    ensures { result ≡ shape_at layer row (box_of line) (boxes_of rest.now) }
 {
-    let lane = lane(step);
-    let kind = line_kind(step.line);
+    let lane = line.lane();
+    let kind = line.kind();
     match layer {
-        Layer::Lanes => lane_at(step, rest),
+        Layer::Lanes => lane_at(line, rest),
         Layer::Closings => closing_at(row, lane, kind, rest),
         Layer::Promotions => promotion_at(row, lane, kind, rest),
         Layer::Installs => match kind {

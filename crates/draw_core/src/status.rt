@@ -4,9 +4,11 @@ ghost use Rattle.std.specs.Prelude.{◌≡◌};
 /// How a call of `draw` ended, and what it wrote by that.
 #[derive(Clone, Copy, Drop, Debug, PartialEq, Eq)]
 pub enum Status {
-    /// The picture.
+    /// The page of the picture.
     Ok,
-    /// The usage line: the program takes no words.
+    /// The help that the words ask for.
+    Help,
+    /// The usage line: the words ask for nothing.
     Usage,
     /// `refused L`: the text read isn't one that `step` writes, alone or after its workload; `line` is its first line at
     /// fault, counted from 1, or 0 for a text that is too long.
@@ -17,22 +19,25 @@ pub enum Status {
     WriteFault,
     /// Nothing: memory was refused.
     Memory,
+    /// `pages P`: the picture has fewer pages than the one that is asked for, and these are so many.
+    NoPage { pages: usize },
 }
 
 impl Status {
     ghost use Rattle.draw_core.specs.Outcomes.{exit_code_of};
 
-    /// The exit status of a program that ends so: 0 for `Ok`, then 1 to 5 in the order above.
+    /// The exit status of a program that ends so: 0 for `Ok` and `Help`, then 1 to 5 in the order above, and 7.
     pub fn exit_code(self) -> u8
         ensures { result ≡ exit_code_of self }
     {
         match self {
-            Status::Ok => 0,
+            Status::Ok | Status::Help => 0,
             Status::Usage => 1,
             Status::Refused { .. } => 2,
             Status::ReadFault => 3,
             Status::WriteFault => 4,
             Status::Memory => 5,
+            Status::NoPage { .. } => 7,
         }
     }
 }

@@ -1,8 +1,6 @@
 //! A line of a trace, with what its caller's script has there.
-ghost use Rattle.std.specs.Prelude.{◌≡◌, IfOk};
-ghost use Rattle.draw_core.specs.Steps.{bare_of};
+ghost use Rattle.std.specs.Prelude.{◌≡◌};
 
-use std::alloc::{AllocError, Global};
 use stm_script::op::Op;
 use stm_script::workload::Version;
 use stm_trace::line::Line;
@@ -30,15 +28,4 @@ impl Step {
     {
         Step { line, deed: None }
     }
-}
-
-/// The lines alone. Memory may be refused.
-pub fn bare_steps(alloc: Global, lines: &[Line]) -> Result<Vec<Step>, AllocError>
-    ensures { IfOk result (λ t. t.items ≡ bare_of lines.now) }
-{
-    let mut steps = Vec::new(alloc);
-    for line in lines {
-        steps.push(Step::bare(*line))?;
-    }
-    Ok(steps)
 }

@@ -1,7 +1,10 @@
-//! The style of a picture, its legend, and what stands between an operation and its reply.
+//! The style of a picture, its legend, what stands between an operation and its reply, and the help.
 
 /// Before a reply, and the space before that.
 pub const ARROW: &str = " →";
+
+/// The same without the space.
+pub const TIP: &str = "→";
 
 /// Colours for a light and for a dark page.
 pub const STYLE: &str = "<style>\n\
@@ -25,6 +28,7 @@ pub const STYLE: &str = "<style>\n\
      .attempt.conflict{fill:#fdebe9;stroke:#d6493b}\n\
      .attempt.full{fill:#fdf0dd;stroke:#cf7a17}\n\
      .sure{fill:#8250df}\n\
+     .turn{fill:#8a939c}\n\
      .box{fill:#ffffff;stroke:#d0d7de}\n\
      .box.wait{fill:#fff4cf;stroke:#e0b83c}\n\
      .box.commit{fill:#2da35b;stroke:#2da35b}\n\
@@ -71,3 +75,7 @@ pub const LEGEND: &str =
      <rect class='sure' x='260' y='24' width='6' height='14' rx='3'/><text class='note' x='290' y='35'>irrevocable</text>\n\
      <rect class='closed' x='390' y='24' width='22' height='14' rx='4'/><text class='note' x='420' y='35'>gate closed</text>\n\
      <rect class='installed' x='520' y='30' width='22' height='2'/><text class='note' x='550' y='35'>installed</text>\n";
+
+/// What the program says of itself.
+pub const HELP: &str =
+    "usage: stm_draw [--page P] [FILE [TRACE]]\n\n  --page P   draws page P of the picture, from 1 to 20000, else the first\n  --help     writes this\n  --version  writes the version\n\nDraws what `stm_bench step` writes, or a workload and then that, as an SVG: of FILE, or of FILE and then TRACE, or else\nof standard input. A page has 1000 rows. The exit status is 7 where the picture has fewer pages; docs/FORMATS.md has\nthe others, and says what a picture shows.\nAn example: stm_draw docs/pictures/conflict.stm conflict.trace > conflict.svg\n";

@@ -1,12 +1,15 @@
 //! What is told on standard error beside a status: no part of what `draw` writes.
+use crate::asking::Ask;
+use crate::page::MOST_PAGES;
 use crate::status::Status;
 use std::alloc::{AllocError, Global};
+use strsim::levenshtein;
 
-/// How the program is used.
-const USE: &str =
-    "it takes no words: it reads from standard input what `stm_bench step` writes, or a workload and then that, and writes its picture to standard output, as
-  bin/stm_bench step < docs/pictures/conflict.stm > conflict.trace
-  cat docs/pictures/conflict.stm conflict.trace | bin/stm_draw > conflict.svg";
+/// How many bytes of a word are shown.
+const MOST_SHOWN: usize = 24;
+
+/// The options that there are.
+const OPTIONS: [&str; 3] = ["--page", "--help", "--version"];
 
 /// What there is to tell of a status, where `why` is what is wrong with the text that was read.
 ///
@@ -15,15 +18,108 @@ const USE: &str =
 pub(crate) fn told(
     alloc: Global,
     status: Status,
+    words: &[&str],
     why: Option<String>,
 ) -> Result<Option<String>, AllocError> {
     let said = match status {
-        Status::Ok => return Ok(None),
+        Status::Ok | Status::Help => return Ok(None),
         Status::Refused { .. } => return Ok(why),
-        Status::Usage => USE.to_string(alloc)?,
-        Status::ReadFault => "standard input could not be read".to_string(alloc)?,
+        Status::Usage => wrong_word(alloc, words)?,
+        Status::ReadFault => "a file or standard input could not be read".to_string(alloc)?,
         Status::WriteFault => "standard output could not be written to the end".to_string(alloc)?,
         Status::Memory => "memory was refused, and nothing was written".to_string(alloc)?,
+        Status::NoPage { pages } => format!(in alloc;
+            "the picture has no such page; here stands `--page P`, P from 1 to {pages}"
+        )?,
     };
     Ok(Some(said))
+}
+
+/// What is wrong with words that ask for nothing, in a sentence: which of them, and what may stand there.
+pub fn wrong_word(alloc: Global, words: &[&str]) -> Result<String, AllocError> {
+    let mut said = String::new(alloc);
+    let mut ask = Ask {
+        page: None,
+        first: None,
+        second: None,
+        waits: false,
+    };
+    for word in words.iter().skip(1) {
+        match ask.take(word) {
+            Some(more) => ask = more,
+            None => {
+                put_wrong(alloc, &mut said, ask, word)?;
+                return Ok(said);
+            }
+        }
+    }
+    put_pages(&mut said, "no page follows `--page`")?;
+    Ok(said)
+}
+
+/// Appends why this word may not come.
+fn put_wrong(alloc: Global, said: &mut String, ask: Ask<'_>, word: &str) -> Result<(), AllocError> {
+    put_word(said, word)?;
+    if ask.waits {
+        return put_pages(said, " is no page");
+    }
+    if word == "--page" {
+        return said.push_str(" is a second page; here stands one at most");
+    }
+    if word == "--help" || word == "--version" {
+        return said.push_str(" isn't alone; here stands no other word beside it");
+    }
+    if word.starts_with("-") {
+        said.push_str(" is no option; here stands ")?;
+        return put_nearest(alloc, said, word);
+    }
+    said.push_str(" is a word too many; here stand two files' names at most")
+}
+
+/// Appends which pages there may be.
+fn put_pages(said: &mut String, why: &str) -> Result<(), AllocError> {
+    write!(
+        said,
+        "{why}; here stands `--page P`, P from 1 to {MOST_PAGES}"
+    )
+}
+
+/// Appends the options, those that are most like a word first.
+fn put_nearest(alloc: Global, said: &mut String, word: &str) -> Result<(), AllocError> {
+    let mut cut = String::new(alloc);
+    push_cut(&mut cut, word)?;
+    let mut is_first = true;
+    for wanted in 0..=MOST_SHOWN {
+        for option in OPTIONS {
+            if levenshtein(alloc, option, cut.as_str())?.min(MOST_SHOWN) != wanted {
+                continue;
+            }
+            if !is_first {
+                said.push_str(", ")?;
+            }
+            write!(said, "`{option}`")?;
+            is_first = false;
+        }
+    }
+    Ok(())
+}
+
+/// Appends a word, cut.
+fn put_word(said: &mut String, word: &str) -> Result<(), AllocError> {
+    said.push_str("`")?;
+    push_cut(said, word)?;
+    said.push_str("`")
+}
+
+/// Appends the first bytes of a word; what isn't shown in a line is a question mark.
+fn push_cut(said: &mut String, word: &str) -> Result<(), AllocError> {
+    let mut length = 0usize;
+    for c in word.chars() {
+        length = length.saturating_add(c.len_utf8());
+        if MOST_SHOWN < length {
+            return said.push_str(" ..");
+        }
+        said.push(if c.is_control() { '?' } else { c })?;
+    }
+    Ok(())
 }

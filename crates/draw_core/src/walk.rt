@@ -1,10 +1,10 @@
 //! The operations that the lines of a trace tell of, from the workload that it is of.
-ghost use Rattle.std.specs.Prelude.{◌≡◌, ◌<◌, ◌+◌, ◌^◌, [], Ok, Some, None, MatchOption, IfOk, IfErr, List, length};
+ghost use Rattle.std.specs.Prelude.{◌≡◌, Some, None, MatchOption, IfOk, List, option_map};
 ghost use Rattle.stm_script.specs.declared.workload.Item.{Item};
-ghost use Rattle.draw_core.specs.Walks.{deed_of, first_stands, goes, stands_of, walked, AreWithin};
-ghost use Rattle.draw_core.specs.Whole.{IsStepsFault};
+ghost use Rattle.draw_core.specs.Walks.{callers_in, deed_of, first_stands, goes, stands_of, AreWithin};
 
 use crate::cursor::{Cursor, after};
+use crate::page::Page;
 use crate::step::{Deed, Step};
 use crate::turn::turn_of;
 use std::alloc::{AllocError, AllocFailed, Global};
@@ -98,35 +98,119 @@ fn deed_of(version: Version, op: Option<Op>) -> Option<Deed>
     }
 }
 
-/// The steps of a trace of the workload; `above` lines stand above the first one.
-///
-/// # Errors
-/// `Unfit` with the first line that may not come where its caller stands, `Memory` where it is refused.
-pub fn steps(
-    alloc: Global,
-    workload: &Workload,
-    above: usize,
-    lines: &[Line],
-) -> Result<Vec<Step>, StepsError>
-    requires { above + length lines.now + 1 < 2 ^ 64 }
-    ensures told { IfOk result (λ t.
-        walked workload.now.header.version [] (above + 1)
-        (first_stands workload.now.items workload.now.header.callers) lines.now ≡ Ok t.items) }
-    ensures fault { IfErr result (λ e.
-        IsStepsFault e (walked workload.now.header.version [] (above + 1)
-        (first_stands workload.now.items workload.now.header.callers) lines.now)) }
+/// How many callers a workload has.
+fn callers_in(workload: Option<&Workload>) -> usize
+    ensures { result ≡ callers_in (option_map (λ w. w.now) workload.entry) }
 {
-    let items = workload.items.as_slice();
-    let version = workload.header.version;
-    let mut cursors = first_cursors(alloc, workload.header.callers)?;
-    let mut steps = Vec::new(alloc);
-    for (i, line) in lines.iter().enumerate() {
-        match step_of(version, items, cursors.as_mut_slice(), *line) {
-            None => return Err(StepsError::Unfit {
-                line: above + i + 1,
-            }),
-            Some(step) => steps.push(step)?,
+    match workload {
+        None => 0,
+        Some(workload) => workload.header.callers,
+    }
+}
+
+/// A trace, line by line along its workload where there is one: where the callers stand, and the page that is drawn.
+#[derive(Drop)]
+pub struct Walk<'a> {
+    workload: Option<&'a Workload>,
+    /// How many lines stand above the trace.
+    above: usize,
+    cursors: Vec<Cursor>,
+    page: Page,
+    /// The first line that may not come where its caller stands.
+    misfit: Option<usize>,
+}
+
+impl<'a> Walk<'a> {
+    ghost use Rattle.std.specs.Prelude.{◌≡◌, ◌<◌, ◌≤◌, ◌+◌, ◌^◌, [], ◌∷◌, ◌++◌, List, Some, None, MatchOption, IfOk, IfErr, OnOk};
+    ghost use Rattle.stm_trace.specs.declared.line.Line.{Line};
+    ghost use Rattle.draw_core.specs.Walks.{next_step, stands_in, told_steps, workload_in, AreWithinOf, IsWalk};
+    ghost use Rattle.draw_core.specs.Whole.{IsPageFor, IsStepsFault};
+
+    /// Before the first line: the page has so many rows before it.
+    pub fn new(
+        alloc: Global,
+        workload: Option<&'a Workload>,
+        above: usize,
+        from: usize,
+    ) -> Result<Self, AllocError>
+        ensures is { IfOk result (λ w. IsWalk w []) }
+        ensures workload { IfOk result (λ w. w.workload ≡ workload.entry) }
+        ensures above { IfOk result (λ w. w.above ≡ above) }
+        ensures lines { IfOk result (λ w. w.page.lines ≡ 0) }
+        ensures from { IfOk result (λ w. w.page.from ≡ from) }
+    {
+        Ok(Walk {
+            workload,
+            above,
+            cursors: first_cursors(alloc, callers_in(workload))?,
+            page: Page::new(alloc, from)?,
+            misfit: None,
+        })
+    }
+
+    /// The step of a line. None where the line may not come there.
+    fn next(&mut self, line: Line) -> Option<Step>
+        requires { AreWithinOf (workload_in self.old) self.old.cursors.items }
+        ensures is { MatchOption result (next_step (workload_in self.old) self.old.cursors.items line ≡ None)
+            (λ s. next_step (workload_in self.old) self.old.cursors.items line
+            ≡ Some (s, stands_in (workload_in self.old) self.new.cursors.items)) }
+        ensures within { AreWithinOf (workload_in self.old) self.new.cursors.items }
+        ensures same { self.new ≡ record self.old { cursors = self.new.cursors } }
+    {
+        match self.workload {
+            None => Some(Step::bare(line)),
+            Some(workload) => step_of(
+                workload.header.version,
+                workload.items.as_slice(),
+                self.cursors.as_mut_slice(),
+                line,
+            ),
         }
     }
-    Ok(steps)
+
+    /// One line more. Memory may be refused.
+    pub fn step(&mut self, line: Line) -> Result<(), AllocError>
+        requires is { (lines : List Line) × IsWalk self.old lines }
+        requires few { self.old.above + self.old.page.lines < 2 ^ 62 }
+        ensures is { OnOk result ((lines : List Line) → IsWalk self.old lines → IsWalk self.new (lines ++ line ∷ [])) }
+        ensures workload { self.new.workload ≡ self.old.workload }
+        ensures above { self.new.above ≡ self.old.above }
+        ensures lines { OnOk result (self.new.page.lines ≤ self.old.page.lines + 1) }
+        ensures from { self.new.page.from ≡ self.old.page.from }
+    {
+        if self.misfit.is_some() {
+            return Ok(());
+        }
+        let Some(step) = self.next(line) else {
+            self.misfit = Some(self.above + self.page.lines() + 1);
+            return Ok(());
+        };
+        self.page.add(step)
+    }
+
+    /// The page, once all lines were read.
+    ///
+    /// # Errors
+    /// `Unfit` with the first line that may not come where its caller stands, `Memory` where it is refused.
+    pub fn into_page(self) -> Result<Page, StepsError>
+        requires few { self.page.lines < 2 ^ 61 }
+        requires is { (lines : List Line) × IsWalk self lines }
+        ensures told { (lines : List Line) → IsWalk self.entry lines
+            → IfOk result (λ p. IsPageFor p (told_steps (workload_in self.entry) self.entry.above lines)) }
+        ensures fault { (lines : List Line) → IsWalk self.entry lines
+            → IfErr result (λ e. IsStepsFault e (told_steps (workload_in self.entry) self.entry.above lines)) }
+        ensures from { IfOk result (λ p. p.from ≡ self.entry.page.from) }
+        ensures few { IfOk result (λ p. p.count < 2 ^ 62) }
+    {
+        let Walk {
+            mut page,
+            misfit,
+            ..
+        } = self;
+        if let Some(line) = misfit {
+            return Err(StepsError::Unfit { line });
+        }
+        page.end()?;
+        Ok(page)
+    }
 }

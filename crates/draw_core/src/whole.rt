@@ -1,14 +1,14 @@
 //! A text that is drawn: a trace alone, or a workload and then its trace.
-ghost use Rattle.std.specs.Prelude.{◌≡◌, ◌<◌, ◌^◌, length, Ok, IfOk, IfErr};
+ghost use Rattle.std.specs.Prelude.{◌≡◌, ◌<◌, ◌^◌, length, IfOk, IfErr, option_map};
 ghost use Rattle.stm_text.specs.Grammar.{workload_of};
 ghost use Rattle.stm_text.specs.Lines.{lines_of};
 ghost use Rattle.stm_text.specs.declared.parse.Mode.TheVariants.{Step as Stepwise};
 ghost use Rattle.draw_core.specs.Grammar.{trace_of};
-ghost use Rattle.draw_core.specs.Whole.{below, both, has_workload, steps_of, trace_alone, IsStepsFault};
+ghost use Rattle.draw_core.specs.Whole.{both, follows, has_workload, steps_of, IsPageFor, IsStepsFault};
 
-use crate::reading::{MOST_DRAWN, ReadError, read_trace};
-use crate::step::{Step, bare_steps};
-use crate::walk::{StepsError, steps};
+use crate::page::Page;
+use crate::reading::{MOST_DRAWN, ReadError, walk_trace};
+use crate::walk::{StepsError, Walk};
 use std::alloc::Global;
 use stm_script::workload::Workload;
 use stm_text::parse::{Mode, ParseError, parse};
@@ -21,12 +21,15 @@ pub fn has_workload(text: &[u8]) -> bool
     text.starts_with(b"stm")
 }
 
-/// The lines of a text's trace, each with the operation that it tells of where a workload stands above the trace.
+/// A page of the trace of a text, whose lines tell of operations where a workload stands above the trace: the page that
+/// has so many rows before it.
 ///
 /// # Errors
 /// `Workload`, `Trace` or `Unfit` with the first line at fault, `Memory` where it is refused.
-pub fn read_steps(alloc: Global, text: &[u8]) -> Result<Vec<Step>, StepsError>
-    ensures told { IfOk result (λ t. steps_of text.now ≡ Ok t.items) }
+pub fn read_page(alloc: Global, text: &[u8], from: usize) -> Result<Page, StepsError>
+    ensures told { IfOk result (λ p. IsPageFor p (steps_of text.now)) }
+    ensures from { IfOk result (λ p. p.from ≡ from) }
+    ensures few { IfOk result (λ p. p.count < 2 ^ 62) }
     ensures fault { IfErr result (λ e. IsStepsFault e (steps_of text.now)) }
 {
     if MOST_DRAWN < text.len() {
@@ -34,53 +37,47 @@ pub fn read_steps(alloc: Global, text: &[u8]) -> Result<Vec<Step>, StepsError>
     }
     if has_workload(text) {
         let (head, behind) = part_at_done(text);
-        return read_both(alloc, head, behind);
+        return read_both(alloc, head, behind, from);
     }
-    read_alone(alloc, text)
-}
-
-/// The lines of a trace alone.
-fn read_alone(alloc: Global, text: &[u8]) -> Result<Vec<Step>, StepsError>
-    ensures told { IfOk result (λ t. trace_alone (trace_of text.now) ≡ Ok t.items) }
-    ensures fault { IfErr result (λ e. IsStepsFault e (trace_alone (trace_of text.now))) }
-{
-    match read_trace(alloc, text) {
-        Ok(lines) => Ok(bare_steps(alloc, lines.as_slice())?),
-        Err(ReadError::Refused { line }) => Err(StepsError::Trace { line }),
-        Err(ReadError::Memory) => Err(StepsError::Memory),
-    }
+    follow(alloc, None, 0, text, from)
 }
 
 /// A workload's text, and then that of its trace.
-fn read_both(alloc: Global, head: &[u8], behind: &[u8]) -> Result<Vec<Step>, StepsError>
-    ensures told { IfOk result (λ t.
-        both (workload_of Stepwise head.now) (length (lines_of head.now)) (trace_of behind.now)
-        ≡ Ok t.items) }
+fn read_both(alloc: Global, head: &[u8], behind: &[u8], from: usize) -> Result<Page, StepsError>
+    ensures told { IfOk result (λ p.
+        IsPageFor p (both (workload_of Stepwise head.now) (length (lines_of head.now)) (trace_of behind.now))) }
+    ensures from { IfOk result (λ p. p.from ≡ from) }
+    ensures few { IfOk result (λ p. p.count < 2 ^ 62) }
     ensures fault { IfErr result (λ e.
         IsStepsFault e
         (both (workload_of Stepwise head.now) (length (lines_of head.now)) (trace_of behind.now))) }
 {
     match parse(alloc, head, Mode::Step) {
-        Ok(workload) => read_below(alloc, &workload, count_lines(head), behind),
+        Ok(workload) => follow(alloc, Some(&workload), count_lines(head), behind, from),
         Err(ParseError::Fault { line, code }) => Err(StepsError::Workload { line, code }),
         Err(ParseError::Memory) => Err(StepsError::Memory),
     }
 }
 
-/// The trace of a workload, below so many lines.
-fn read_below(
+/// A page of a trace, along its workload where there is one, below so many lines.
+fn follow(
     alloc: Global,
-    workload: &Workload,
+    workload: Option<&Workload>,
     above: usize,
     text: &[u8],
-) -> Result<Vec<Step>, StepsError>
-    requires { above < 2 ^ 63 }
-    ensures told { IfOk result (λ t. below workload.now above (trace_of text.now) ≡ Ok t.items) }
+    from: usize,
+) -> Result<Page, StepsError>
+    requires { above < 2 ^ 61 }
+    ensures told { IfOk result (λ p.
+        IsPageFor p (follows (option_map (λ w. w.now) workload.entry) above (trace_of text.now))) }
+    ensures from { IfOk result (λ p. p.from ≡ from) }
+    ensures few { IfOk result (λ p. p.count < 2 ^ 62) }
     ensures fault { IfErr result (λ e.
-        IsStepsFault e (below workload.now above (trace_of text.now))) }
+        IsStepsFault e (follows (option_map (λ w. w.now) workload.entry) above (trace_of text.now))) }
 {
-    match read_trace(alloc, text) {
-        Ok(lines) => steps(alloc, workload, above, lines.as_slice()),
+    let mut walk = Walk::new(alloc, workload, above, from)?;
+    match walk_trace(alloc, text, &mut walk) {
+        Ok(()) => walk.into_page(),
         Err(ReadError::Refused { line }) => Err(StepsError::Trace {
             line: above.saturating_add(line),
         }),

@@ -1,14 +1,18 @@
-use draw_core::draw::draw;
+use draw_core::asking::{Ask, Topic, asked, help_of};
+use draw_core::draw::{draw, drawn};
 use draw_core::kind::Kind;
 use draw_core::label::label;
 use draw_core::laws::{step_is_drawn, trace_is_drawn};
-use draw_core::picture::picture;
-use draw_core::reading::{ReadError, read_trace};
+use draw_core::page::{Page, pages_of};
+use draw_core::picture::{Leaf, picture};
+use draw_core::row::Row;
 use draw_core::shape::{Layer, Shape, shape_at};
+use draw_core::shown::shown;
 use draw_core::status::Status;
-use draw_core::step::{Deed, Step, bare_steps};
+use draw_core::step::{Deed, Step};
+use draw_core::telling::wrong_word;
 use draw_core::walk::StepsError;
-use draw_core::whole::read_steps;
+use draw_core::whole::read_page;
 use std::test::Fail;
 use stm_io::memory::{MemSink, MemSource};
 use stm_model::alg::Alg;
@@ -29,19 +33,28 @@ const WORKLOAD: &str =
      end\nswitch 0 TML\ntx 0\nladd 1 7\nirrev\nemit 4\nmput 2 5 6\nend\ntx 0\ncancel\nadd 1 18446744073709551615\n\
      end\ndone\n";
 
-/// The fault of a workload and a trace of it, where it has one.
-fn unfit(read: Result<Vec<Step>, StepsError>) -> Option<usize> {
+/// The line of the trace that its workload forbids, where there is one.
+fn unfit(read: Result<Page, StepsError>) -> Option<usize> {
     match read {
         Err(StepsError::Unfit { line }) => Some(line),
         _ => None,
     }
 }
 
-/// The fault of a text, where it has one.
-fn fault(read: Result<usize, ReadError>) -> Option<usize> {
+/// The fault of a trace, where it has one.
+fn fault(read: Result<Page, StepsError>) -> Option<usize> {
     match read {
-        Err(ReadError::Refused { line }) => Some(line),
+        Err(StepsError::Trace { line }) => Some(line),
         _ => None,
+    }
+}
+
+/// A row of one line.
+fn row(number: usize, step: Step) -> Row {
+    Row {
+        number,
+        times: 1,
+        step,
     }
 }
 
@@ -69,7 +82,7 @@ fn refuses_by_line(rt: HostRuntime) -> Result<(), Fail> {
         ("clock full 5\n\n", Some(2)),
     ];
     for (text, line) in &table {
-        let read = read_trace(rt.alloc(), text.as_bytes()).map(|lines| lines.len());
+        let read = read_page(rt.alloc(), text.as_bytes(), 0);
         assert_eq!(rt; fault(read), *line, "{text}");
     }
     Ok(())
@@ -79,10 +92,13 @@ fn refuses_by_line(rt: HostRuntime) -> Result<(), Fail> {
 fn lines_have_their_shapes(rt: HostRuntime) -> Result<(), Fail> {
     let mut text = TRACE.to_string(rt.alloc())?;
     text.push_str("report 1\nend\n")?;
-    let lines = read_trace(rt.alloc(), text.as_bytes())?;
-    let again = trace_text(rt.alloc(), lines.as_slice())?;
+    let lines = read_page(rt.alloc(), text.as_bytes(), 0)?.rows(rt.alloc())?;
+    let mut told = Vec::new(rt.alloc());
+    for row in &lines {
+        told.push(row.step.line)?;
+    }
+    let again = trace_text(rt.alloc(), told.as_slice())?;
     assert_eq!(rt; again.as_slice(), TRACE.as_bytes());
-    let lines = bare_steps(rt.alloc(), lines.as_slice())?;
     let table = [
         (
             Layer::Attempts,
@@ -173,6 +189,22 @@ fn traces_follow_their_scripts(rt: HostRuntime) -> Result<(), Fail> {
         ("1 begin TML\n1 cancel cancelled 0\n", Some(33)),
         ("2 begin TML\n", Some(32)),
         ("0 irrev granted\n", Some(32)),
+        // a line comes at its stage: in an attempt, at its end, or between two
+        ("0 commit conflict clock 1 2\n", Some(32)),
+        ("1 begin TML\n1 commit conflict clock 1 2\n", Some(33)),
+        ("1 begin TML\n1 commit again 0 1 2\n", Some(33)),
+        ("1 begin TML\n1 idle\n", Some(33)),
+        ("1 begin TML\n1 begin closed 3\n", Some(33)),
+        ("1 begin TML\n1 reserve 4 4\n", Some(33)),
+        ("1 irrev busy 0 1\n", Some(32)),
+        ("1 irrev taken 3\n", Some(32)),
+        ("1 drop\n", Some(32)),
+        ("1 idle\n", Some(32)),
+        (
+            "1 begin TML\n1 read 9\n1 move 1\n1 total 0\n1 commit again 0 1 2\n1 commit conflict clock 1 2\n\
+             1 begin closed 3\n1 begin TML\n1 irrev busy 0 1\n1 irrev taken 3\n1 begin TML\n1 drop\n",
+            None,
+        ),
         (
             "1 begin TML\n1 read 9\n1 move 1\n1 total 0\n1 commit committed 1\n1 begin TML\n",
             Some(37),
@@ -183,7 +215,7 @@ fn traces_follow_their_scripts(rt: HostRuntime) -> Result<(), Fail> {
         text.push_str(trace)?;
         text.push_str("report 1\nend\n")?;
         assert_eq!(rt;
-            unfit(read_steps(rt.alloc(), text.as_bytes())),
+            unfit(read_page(rt.alloc(), text.as_bytes(), 0)),
             *line,
             "{trace}"
         );
@@ -199,7 +231,7 @@ fn labels_have_the_operation_and_the_reply(rt: HostRuntime) -> Result<(), Fail> 
          0 emit 8\n0 mput 0\n0 commit committed 2\n0 begin TML\n0 cancel irrevocable\n0 add full 3\nfinish\n\
          clock full 9\n",
     )?;
-    let steps = read_steps(rt.alloc(), text.as_bytes())?;
+    let rows = read_page(rt.alloc(), text.as_bytes(), 0)?.rows(rt.alloc())?;
     let told = [
         " begin TML",
         " read 3 → 9",
@@ -216,9 +248,9 @@ fn labels_have_the_operation_and_the_reply(rt: HostRuntime) -> Result<(), Fail> 
         " add 1 18446744073709551615 full 3",
         " finish",
     ];
-    assert_eq!(rt; steps.len(), told.len());
-    for (step, words) in steps.iter().zip(&told) {
-        let label = label(rt.alloc(), *step)?;
+    assert_eq!(rt; rows.len(), told.len());
+    for (row, words) in rows.iter().zip(&told) {
+        let label = label(rt.alloc(), *row)?;
         assert_eq!(rt; label.as_str(), *words);
     }
     // version 1 has no number of a region
@@ -234,7 +266,7 @@ fn labels_have_the_operation_and_the_reply(rt: HostRuntime) -> Result<(), Fail> 
         line,
         deed: Some(deed),
     };
-    let label = label(rt.alloc(), step)?;
+    let label = label(rt.alloc(), row(1, step))?;
     assert_eq!(rt; label.as_str(), " ladd 7 → 1");
     Ok(())
 }
@@ -246,13 +278,17 @@ fn draws_from_a_source_to_a_sink(rt: HostRuntime) -> Result<(), Fail> {
     let alloc = rt.alloc();
     let mut text = TRACE.to_string(alloc)?;
     text.push_str("report 1\nend\n")?;
-    let lines = read_trace(alloc, text.as_bytes())?;
-    let steps = bare_steps(alloc, lines.as_slice())?;
-    let expected = picture(alloc, steps.as_slice())?;
+    let rows = read_page(alloc, text.as_bytes(), 0)?.rows(alloc)?;
+    let leaf = Leaf {
+        page: 1,
+        pages: 1,
+        above: 0,
+    };
+    let expected = picture(alloc, leaf, rows.as_slice())?;
     let mut source = MemSource::new(text.into_bytes(), Vec::new(alloc));
     let mut sink = MemSink::new(alloc, 65536, Vec::new(alloc))?;
     assert_eq!(rt;
-        draw(alloc, 1, &mut source, &mut sink, &mut None),
+        draw(alloc, &["stm_draw"], &mut source, &mut sink, &mut None),
         Status::Ok
     );
     assert_eq!(rt; sink.held(), expected.as_slice());
@@ -262,10 +298,26 @@ fn draws_from_a_source_to_a_sink(rt: HostRuntime) -> Result<(), Fail> {
 #[test]
 fn each_end_has_its_status(rt: HostRuntime) -> Result<(), Fail> {
     let alloc = rt.alloc();
+    let alone: &[&str] = &["stm_draw"];
     let table = [
-        (2, "", false, false, Status::Usage, "usage: stm_draw\n"),
         (
-            1,
+            &["stm_draw", "--pag"] as &[&str],
+            "",
+            false,
+            false,
+            Status::Usage,
+            "usage: stm_draw [--page P] [FILE [TRACE]]\n",
+        ),
+        (
+            &["stm_draw", "--version"],
+            "",
+            false,
+            false,
+            Status::Help,
+            "stm_draw 1.0.0\n",
+        ),
+        (
+            alone,
             "0 idel\n",
             false,
             false,
@@ -273,16 +325,31 @@ fn each_end_has_its_status(rt: HostRuntime) -> Result<(), Fail> {
             "refused 1\n",
         ),
         (
-            1,
+            &["stm_draw", "--page", "2"],
+            "0 idle\nreport 1\nend\n",
+            false,
+            false,
+            Status::NoPage { pages: 1 },
+            "pages 1\n",
+        ),
+        (
+            alone,
             "report 1\nend\n",
             true,
             false,
             Status::ReadFault,
             "read fault\n",
         ),
-        (1, "report 1\nend\n", false, true, Status::WriteFault, ""),
         (
-            1,
+            alone,
+            "report 1\nend\n",
+            false,
+            true,
+            Status::WriteFault,
+            "",
+        ),
+        (
+            alone,
             "stm 3\n0 idle\n",
             false,
             false,
@@ -302,10 +369,163 @@ fn each_end_has_its_status(rt: HostRuntime) -> Result<(), Fail> {
         let mut source = MemSource::new(text.as_bytes().to_vec(alloc)?, reads);
         let mut sink = MemSink::new(alloc, 65536, writes)?;
         assert_eq!(rt;
-            draw(alloc, *words, &mut source, &mut sink, &mut None),
+            draw(alloc, words, &mut source, &mut sink, &mut None),
             *status
         );
         assert_eq!(rt; sink.held(), said.as_bytes(), "{said}");
+    }
+    Ok(())
+}
+
+/// Idle turns of one caller that follow each other are one row.
+#[test]
+fn idle_turns_are_one_row(rt: HostRuntime) -> Result<(), Fail> {
+    let text = "0 idle\n0 idle\n1 idle\n0 idle\n0 idle\n0 idle\nfinish\nreport 1\nend\n";
+    let rows = read_page(rt.alloc(), text.as_bytes(), 0)?.rows(rt.alloc())?;
+    let told = [
+        (1, " idle 2 times"),
+        (3, " idle"),
+        (4, " idle 3 times"),
+        (7, " finish"),
+    ];
+    assert_eq!(rt; rows.len(), told.len());
+    for (row, wanted) in rows.iter().zip(&told) {
+        let (number, words) = *wanted;
+        let label = label(rt.alloc(), *row)?;
+        assert_eq!(rt; (row.number, label.as_str()), (number, words));
+    }
+    Ok(())
+}
+
+/// A page has what still stands above it: of a caller the begin of its open attempt and where it asks to be alone, a gate
+/// that is closed, and the last commit of all.
+#[test]
+fn pages_begin_with_what_stands(rt: HostRuntime) -> Result<(), Fail> {
+    let text =
+        "0 begin TML\n0 read 1\n0 commit committed 1\n1 begin TML\n1 read 2\n0 begin TML\n0 irrev busy 1 1\n\
+                2 close closed\n0 irrev granted\n1 read conflict clock 1 2\n0 read 3\n2 look busy 0 1\nreport 1\n\
+                end\n";
+    let table = [
+        (0, "1 2 3 4 5 6 7 8 9 10 11 12 "),
+        (2, "1 3 4 5 6 7 8 9 10 11 12 "),
+        (5, "3 4 6 7 8 9 10 11 12 "),
+        (9, "3 6 9 4 8 10 11 12 "),
+        (11, "3 6 9 8 12 "),
+    ];
+    for (from, numbers) in table {
+        let rows = read_page(rt.alloc(), text.as_bytes(), from)?.rows(rt.alloc())?;
+        let mut told = String::new(rt.alloc());
+        for row in &rows {
+            let number = row.number;
+            write!(told, "{number} ")?;
+        }
+        assert_eq!(rt; told.as_str(), numbers, "{from}");
+    }
+    assert_eq!(rt; (pages_of(0), pages_of(1000), pages_of(1001)), (1, 1, 2));
+    Ok(())
+}
+
+/// What a box shows of its words.
+#[test]
+fn long_numbers_are_shortened(rt: HostRuntime) -> Result<(), Fail> {
+    let table = [
+        (" read 3 → 12345678", " read 3 → 12345678"),
+        (
+            " add 1 18446744073709551615 → 123456789",
+            " add 1 184..615 → 123..789",
+        ),
+        (
+            " move 1048575 1048575 18446744073709551615 → 1",
+            " move 1048575 1048575 184..615 → 1",
+        ),
+        (
+            " write 5 18446744073709551615 conflict record 4095 18446744073709551615 7",
+            " write 5 184..615 conflict record 40..",
+        ),
+    ];
+    for (words, wanted) in table {
+        let short = shown(rt.alloc(), words)?;
+        assert_eq!(rt; short.as_str(), wanted);
+    }
+    Ok(())
+}
+
+/// A page of a long trace has its number, its own rows, and those above it.
+#[test]
+fn long_traces_have_pages(rt: HostRuntime) -> Result<(), Fail> {
+    let alloc = rt.alloc();
+    let mut text = String::new(alloc);
+    text.push_str("0 begin TML\n")?;
+    for _ in 0..1500 {
+        text.push_str("0 read 18446744073709551615\n")?;
+    }
+    text.push_str("report 1\nend\n")?;
+    let first = drawn(alloc, text.as_bytes(), 1)?;
+    let second = drawn(alloc, text.as_bytes(), 2)?;
+    assert_eq!(rt; (first.status, second.status), (Status::Ok, Status::Ok));
+    let first = String::from_utf8(first.text)?;
+    let second = String::from_utf8(second.text)?;
+    assert_eq!(rt; first.matches("<rect class='box ").count(), 1001);
+    assert_eq!(rt; second.matches("<rect class='box ").count(), 503);
+    assert!(rt; first.contains("<title>Page 1 of 2 of a trace</title>"));
+    assert!(rt; second.contains("<title>Page 2 of 2 of a trace</title>"));
+    assert!(rt; !first.contains("class='turn "));
+    assert!(rt; second.contains("class='turn "));
+    assert!(rt; second.contains("<title> read 18446744073709551615</title> read 184..615</text>"));
+    assert!(rt; second.contains("> begin TML</text>"));
+    assert_eq!(rt; first.matches(">caller 0</text>").count(), 25);
+    let third = drawn(alloc, text.as_bytes(), 3)?;
+    assert_eq!(rt; third.status, Status::NoPage { pages: 2 });
+    Ok(())
+}
+
+#[test]
+fn words_ask_for_a_page_and_files(rt: HostRuntime) -> Result<(), Fail> {
+    let wanted = Ask {
+        page: Some(20_000),
+        first: Some("a.stm"),
+        second: Some("a.trace"),
+        waits: false,
+    };
+    assert_eq!(rt;
+        asked(&["stm_draw", "a.stm", "--page", "20000", "a.trace"]),
+        Some(wanted)
+    );
+    assert_eq!(rt; help_of(&["stm_draw", "-h"]), Some(Topic::All));
+    let table = [
+        (
+            &["stm_draw", "--page", "0"] as &[&str],
+            "`0` is no page; here stands `--page P`, P from 1 to 20000",
+        ),
+        (
+            &["stm_draw", "--page", "20001"],
+            "`20001` is no page; here stands `--page P`, P from 1 to 20000",
+        ),
+        (
+            &["stm_draw", "--page"],
+            "no page follows `--page`; here stands `--page P`, P from 1 to 20000",
+        ),
+        (
+            &["stm_draw", "--page", "1", "--page", "2"],
+            "`--page` is a second page; here stands one at most",
+        ),
+        (
+            &["stm_draw", "a", "--help"],
+            "`--help` isn't alone; here stands no other word beside it",
+        ),
+        (
+            &["stm_draw", "--versoin"],
+            "`--versoin` is no option; here stands `--version`, ",
+        ),
+        (
+            &["stm_draw", "a", "b", "c"],
+            "`c` is a word too many; here stand two files' names at most",
+        ),
+    ];
+    for (words, wanted) in &table {
+        assert_eq!(rt; asked(words), None);
+        let said = wrong_word(rt.alloc(), words)?;
+        assert!(rt; said.starts_with(wanted), "{said}");
     }
     Ok(())
 }

@@ -16,7 +16,7 @@ const AGAIN: Picture = Picture {
                structs off\ntx 0\nwrite 0 5\nend\ntx 1\nwrite 1 6\nend\nschedule\ngo 0 2\ngo 1 3\ngo 0 2\ndone\n",
     trace: "0 begin OrecLazy\n0 write 5\n1 begin OrecLazy\n1 write 6\n1 commit committed 1\n0 commit again 0 0 1\n\
             0 commit committed 2\nfinish\n",
-    sum: "b41de0c0755238e6293215e103a53862ed98bfa523827e879abde31c7aeada6e",
+    sum: "12438239639e7642707133895b2d5ad2ef2656d27b45fed954c676b42fe53955",
 };
 
 const CONFLICT: Picture = Picture {
@@ -26,7 +26,7 @@ const CONFLICT: Picture = Picture {
     trace: "0 begin OrecLazy\n0 read 0\n1 begin OrecLazy\n1 write 5\n1 write 6\n1 commit committed 1\n\
             0 read conflict record 0 2 0\n0 begin OrecLazy\n0 read 5\n0 read 6\n0 write 9\n0 commit committed 2\n\
             finish\n",
-    sum: "264a51da44f88f6abec249784aeb196ece3dc0bd3d4779f83f5cdcaa1ce00036",
+    sum: "f93bf95303315c442a672e3d26164de7389ca69876425994778b634f5a53ff2d",
 };
 
 const EXTENSION: Picture = Picture {
@@ -35,7 +35,7 @@ const EXTENSION: Picture = Picture {
                go 0 3\ndone\n",
     trace: "0 begin OrecLazy\n0 read 0\n1 begin OrecLazy\n1 write 6\n1 commit committed 1\n0 read 6\n0 write 9\n\
             0 commit committed 2\nfinish\n",
-    sum: "b0766c7c7e8a1da301962342ebebae8a13294f56c619bf47181c9532d191c253",
+    sum: "0a9860052863bcb81a2eb3df9e67ae6d7a39e66a1c1ad7f6fb073b76b74609de",
 };
 
 const PROMOTIONS: Picture = Picture {
@@ -45,7 +45,7 @@ const PROMOTIONS: Picture = Picture {
     trace: "0 begin OrecLazy\n0 read 0\n1 begin OrecLazy\n1 read 0\n0 irrev busy 1 1\n1 irrev taken 258\n\
             0 irrev granted\n0 write 5\n0 emit 5\n0 commit committed 1\n1 begin OrecLazy\n1 read 5\n\
             1 irrev granted\n1 write 3\n1 commit committed 2\nfinish\n",
-    sum: "c69e9ea31f12cbdc488d61ca594fbb02fc7e78f0c33501b7b562c8c2bd68a1dc",
+    sum: "9416da506681e64247ce209437e2dc6100bf0e2b243c18b4776c3d3ce65dcb46",
 };
 
 const SWITCH: Picture = Picture {
@@ -55,7 +55,7 @@ const SWITCH: Picture = Picture {
     trace: "0 begin OrecLazy\n0 read 0\n1 close closed\n1 look busy 0 1\n2 begin closed 514\n0 write 5\n\
             0 commit committed 1\n1 look quiet\n1 install TML\n2 begin TML\n2 read 5\n1 begin TML\n1 add 6\n\
             1 commit committed 4\n2 commit readonly 2\n2 idle\nfinish\n",
-    sum: "c0ef1c385e3d30c9fc84db10492d65d211487c3f8f1863031264f964be15f8f8",
+    sum: "1be113c32ebc326080180b02aaea68c213dd7f7ef3d7e3268fcd34516de9b6ff",
 };
 
 #[test]
@@ -65,7 +65,7 @@ fn stored_pictures_are_drawn(rt: HostRuntime) -> Result<(), Fail> {
         let mut text = picture.workload.to_string(alloc)?;
         text.push_str(picture.trace)?;
         text.push_str("report 1\nend\n")?;
-        let saying = drawn(alloc, text.as_bytes())?;
+        let saying = drawn(alloc, text.as_bytes(), 1)?;
         assert_eq!(rt; saying.status, Status::Ok);
         let sum = hex::encode(alloc, Sha256::digest(saying.text.as_slice()))?;
         assert_eq!(rt; sum.as_str(), picture.sum, "{}", picture.trace);

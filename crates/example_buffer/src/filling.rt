@@ -1,5 +1,6 @@
 //! The worker: it takes the buffer out of the transactions, fills it by direct writes, and gives it back.
 ghost use Rattle.std.specs.Prelude.{◌≡◌, ◌≤◌, ℕ, [], true, false};
+ghost use Rattle.nekchhaul.specs.Configs.{IsSmall};
 ghost use Rattle.nekchhaul.specs.Encodings.{fenced};
 ghost use Rattle.nekchhaul.specs.Handles.{IsOf, IsSameCaller};
 ghost use Rattle.nekchhaul.specs.Fences.{is_within};
@@ -22,6 +23,7 @@ pub fn refill<R: Wait>(rt: &R, desc: &mut Desc<Buffer>, stm: &Stm<Buffer>, x: u6
     requires without { (known desc.old).fenced.held ≡ false }
     requires fences { stm.now.config.fence ≡ true }
     requires words { stm.now.config.words ≡ 4 }
+    requires small { IsSmall stm.now.config }
     requires one { x ≤ 2 }
     ensures same { IsSameCaller desc.old desc.new }
     ensures idle { IsIdle (known desc.new) }
@@ -41,6 +43,7 @@ fn take<R: Wait>(rt: &R, desc: &mut Desc<Buffer>, stm: &Stm<Buffer>) -> bool
     requires without { (known desc.old).fenced.held ≡ false }
     requires fences { stm.now.config.fence ≡ true }
     requires words { stm.now.config.words ≡ 4 }
+    requires small { IsSmall stm.now.config }
     ensures same { IsSameCaller desc.old desc.new }
     ensures idle { IsIdle (known desc.new) }
     ensures held { (known desc.new).fenced.held ≡ result }

@@ -1,9 +1,10 @@
 //! What no clause says: that a note is learnt, and that an access over an attempt comes to something, on one thread. The
 //! other calls of an attempt, on marks and on ranges are among the scripts of caller_scripts.
 ghost use Rattle.std.specs.Prelude.{◌≡◌, ◌<◌, None, true, false};
-ghost use Rattle.stm_rule.specs.Callers.{IsOf, AllOpened};
+ghost use Rattle.stm_rule.specs.Callers.{IsOf, IsSameCaller, AllOpened};
+ghost use Rattle.tx_answers.specs.Answers.{Commits, KeepsRule};
 ghost use Rattle.tx_answers.specs.CallerState.{IsIdle};
-ghost use Rattle.stm_tx.specs.Descs.{known};
+ghost use Rattle.stm_tx.specs.Descs.{known, number};
 
 use std::alloc::Global;
 use std::test::Fail;
@@ -51,6 +52,20 @@ pub(crate) fn switch<K: MemRule>(stm: &Stm<K>, desc: &mut Desc<K>, alg: Alg) -> 
     true
 }
 
+/// What a commit answers.
+pub(crate) fn commit_for_answer<K: MemRule>(desc: &mut Desc<K>, stm: &Stm<K>) -> Commit
+    requires stm { IsOf desc.old stm.now }
+    requires running { (known desc.old).running ≡ true }
+    requires keeps { KeepsRule (K.good stm.now.rule) stm.now.config (number desc.old)
+        (known desc.old) }
+    ensures stm { IsOf desc.new stm.now }
+    ensures same { IsSameCaller desc.old desc.new }
+    ensures commits { Commits (K.good stm.now.rule) stm.now.config (number desc.old) result
+        (known desc.old) (known desc.new) }
+{
+    commit(desc, stm).answer
+}
+
 /// Under this algorithm caller 0 writes 5 to word 0, commits and tells; caller 1 learns of it and begins. Answers
 /// whether it starts not before that commit, and the word that it reads.
 fn tells_and_learns(
@@ -74,7 +89,7 @@ fn tells_and_learns(
     let Write::Done = write(first, stm, 0, 5) else {
         return None;
     };
-    let Commit::Committed { time } = commit(first, stm) else {
+    let Commit::Committed { time } = commit(first, stm).answer else {
         return None;
     };
     let note = first.tell(stm);

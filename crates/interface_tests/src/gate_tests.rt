@@ -68,7 +68,7 @@ fn closes_looks_installs<K: MemRule>(
     else {
         return None;
     };
-    let Commit::ReadOnly { time: 0 } = commit(first, stm) else {
+    let Commit::ReadOnly { time: 0 } = commit(first, stm).answer else {
         return None;
     };
     let Begin::Closed { gate: 512 } = try_begin(first, stm) else {
@@ -122,7 +122,7 @@ fn looks_on_and_gives_up<K: MemRule>(
     let Begin::Closed { gate: 256 } = try_begin(second, stm) else {
         return None;
     };
-    let Commit::ReadOnly { time: 0 } = commit(third, stm) else {
+    let Commit::ReadOnly { time: 0 } = commit(third, stm).answer else {
         return None;
     };
     let Look::Quiet = look(first, stm) else {

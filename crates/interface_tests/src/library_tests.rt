@@ -5,9 +5,10 @@ ghost use Rattle.stm_rule.specs.Callers.{IsOf, IsSameCaller};
 ghost use Rattle.tx_answers.specs.CallerState.{IsIdle, IsRunning, no_log};
 ghost use Rattle.stm_tx.specs.Descs.{known};
 
+use crate::calls_tests::commit_for_answer;
 use std::alloc::Global;
 use std::test::Fail;
-use stm_tx::calls::{cancel, commit, read, try_begin, try_irrevocable, write};
+use stm_tx::calls::{cancel, read, try_begin, try_irrevocable, write};
 use stm_tx::{Begin, Commit, Config, Desc, Irrev, MemRule, NewError, Read, Stm, Write, close};
 
 /// The rule that a transaction may rely on, and has to keep: the words 0 and 1 are two stocks, which together
@@ -84,7 +85,7 @@ fn try_put(
             return None;
         };
     }
-    match commit(desc, stm) {
+    match commit_for_answer(desc, stm) {
         Commit::Committed { .. } | Commit::ReadOnly { .. } => Some(has_room),
         Commit::Conflict(_) | Commit::ClockFull { .. } => None,
         Commit::Again { .. } => {

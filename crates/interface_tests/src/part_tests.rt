@@ -89,7 +89,7 @@ fn moves(desc: &mut Desc<AnyMem>, stm: &Stm<AnyMem>, alg: Alg, room: u64) -> Opt
     let Read::Value(right) = read(desc, stm, 2) else {
         return None;
     };
-    Some((stock, commit(desc, stm), [left, middle, right]))
+    Some((stock, commit(desc, stm).answer, [left, middle, right]))
 }
 
 /// The same by the first caller of a new memory.

@@ -5,7 +5,7 @@ ghost use Rattle.stm_rule.specs.Callers.{IsOf, IsSameCaller, AllOpened};
 ghost use Rattle.tx_answers.specs.CallerState.{IsIdle, IsRunning, is_irrevocable, wrote};
 ghost use Rattle.stm_tx.specs.Descs.{known};
 
-use crate::calls_tests::{PAIR, switch};
+use crate::calls_tests::{PAIR, commit_for_answer, switch};
 use alg_ring::ring::{finish, turn};
 use std::alloc::Global;
 use std::test::Fail;
@@ -14,7 +14,7 @@ use stm_model::rule::AnyMem;
 use stm_rule::desc::Desc;
 use stm_rule::refusal::NewError;
 use stm_rule::stm::Stm;
-use stm_tx::calls::{commit, try_begin, write};
+use stm_tx::calls::{try_begin, write};
 use tx_answers::answers::{Begin, Commit, Write};
 
 /// Begins an attempt of RingSW that writes `x` to word `a`. Answers whether it runs.
@@ -56,10 +56,10 @@ fn commits_in_turns(
     match turn(&mut first.seat, &mut first.local, stm, caller) {
         Some(_) => None,
         None => {
-            let waits = commit(second, stm);
+            let waits = commit_for_answer(second, stm);
             let ends = finish(&mut first.seat, &mut first.local, stm, caller);
             match waits {
-                Commit::Again { .. } => Some([waits, ends, commit(second, stm)]),
+                Commit::Again { .. } => Some([waits, ends, commit_for_answer(second, stm)]),
                 _ => None,
             }
         }

@@ -96,7 +96,7 @@ const REFUSED: &[(Config, NewError)] = &[
     ),
     (
         Config {
-            words: 1_048_577,
+            words: 4_294_967_297,
             ..SMALL
         },
         NewError::Words,
@@ -111,7 +111,7 @@ const REFUSED: &[(Config, NewError)] = &[
     ),
     (
         Config {
-            records: 4_097,
+            records: 16_777_217,
             ..SMALL
         },
         NewError::Records,
@@ -119,7 +119,7 @@ const REFUSED: &[(Config, NewError)] = &[
     (Config { ring: 1, ..SMALL }, NewError::Ring),
     (
         Config {
-            ring: 65,
+            ring: 4_097,
             callers: 0,
             ..SMALL
         },
@@ -135,7 +135,7 @@ const REFUSED: &[(Config, NewError)] = &[
     ),
     (
         Config {
-            callers: 33,
+            callers: 255,
             ..SMALL
         },
         NewError::Callers,
@@ -143,7 +143,7 @@ const REFUSED: &[(Config, NewError)] = &[
     (Config { reads: 0, ..SMALL }, NewError::Logs),
     (
         Config {
-            writes: 4_097,
+            writes: 1_048_577,
             clock: CLOCK_LIMIT + 1,
             ..SMALL
         },

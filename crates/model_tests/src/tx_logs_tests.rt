@@ -13,6 +13,7 @@ fn a_find_looks_at_the_addresses_in_its_way(rt: HostRuntime) -> Result<(), Fail>
     for a in 0..256 {
         log.push(a, 7);
     }
+    assert_eq!(rt; log.len(), 256);
     for (a, probes) in [(255, 1), (256, 1), (512, 257)] {
         assert_eq!(rt; log.probes(a), probes, "at {a}");
     }
@@ -26,6 +27,7 @@ fn a_log_finds_its_addresses_below_and_above_eight_items(rt: HostRuntime) -> Res
     for a in [3, 35, 67] {
         log.push(a, 7);
     }
+    assert_eq!(rt; log.len(), 16);
     for (a, probes) in [(3, 1), (35, 2), (67, 3), (99, 4), (4, 3), (6, 1)] {
         assert_eq!(rt; log.probes(a), probes, "at {a}");
     }

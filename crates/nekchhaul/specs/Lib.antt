@@ -1,3 +1,4 @@
+pub use Rattle.stm_model.specs.Configs
 pub use Rattle.stm_model.specs.Histories
 pub use Rattle.stm_model.specs.HistoryLaws
 pub use Rattle.stm_model.specs.Logs
@@ -32,6 +33,7 @@ pub use Rattle.tx_jobs.specs.Known
 pub use Rattle.tx_jobs.specs.Moments as JobMoments
 pub use Rattle.tx_jobs.specs.MomentLaws as JobMomentLaws
 pub use Rattle.tx_jobs.specs.Repeats
+pub use Rattle.tx_jobs.specs.Rounds
 pub use Rattle.tx_jobs.specs.Stories
 pub use Rattle.tx_jobs.specs.StoryLaws
 pub use Rattle.tx_jobs.specs.declared.closed.ClosedMemory
@@ -48,5 +50,7 @@ pub use Rattle.tx_queue.specs.declared.queue.Put
 pub use Rattle.tx_queue.specs.declared.queue.Queue
 pub use Rattle.tx_sums.specs.Sums
 pub use Rattle.tx_tree.specs.Trees
+pub use Rattle.tx_transaction.specs.RangeLaws
+pub use Rattle.tx_transaction.specs.Words
 pub use Rattle.tx_transaction.specs.WordLaws
 pub use Rattle.tx_start.specs.Pasts

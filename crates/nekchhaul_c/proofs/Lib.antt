@@ -1,5 +1,6 @@
 pub mod Dealing
 pub mod Handles
 pub mod InTurn
+pub mod Leaving
 pub mod Values
 pub mod WritesInTurn

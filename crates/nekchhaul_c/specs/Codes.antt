@@ -1,5 +1,5 @@
 -- The numbers of the answers.
-use Rattle.std.specs.Prelude.{ℕ, Bool, ◌+◌, ◌==◌, nat_le, if◌then◌else◌, Result, Ok, Err}
+use Rattle.std.specs.Prelude.{ℕ, Bool, true, false, ◌+◌, ◌==◌, nat_le, if◌then◌else◌, Result, Ok, Err}
 use Rattle.stm_model.specs.Algorithms.{alg_number}
 use Rattle.stm_model.specs.declared.memory.Memory.{Memory}
 use Rattle.stm_rule.specs.declared.refusal.NewError.{NewError}
@@ -55,7 +55,8 @@ refusal_code (refusals.GateClosed gate) = 2
 refusal_code (refusals.Held word) = 3
 refusal_code (refusals.Busy caller status) = 4
 refusal_code (refusals.Again word had now) = 5
-refusal_code (refusals.LogFull limit) = 6
+refusal_code (refusals.ReadsFull limit) = 6
+refusal_code (refusals.WritesFull limit) = 6
 refusal_code (refusals.ClockFull clock) = 7
 refusal_code refusals.Irrevocable = 8
 refusal_code (refusals.Deep limit) = 9
@@ -184,6 +185,7 @@ how_numbered n = if n == 0 then hows.Done else (if nat_le n 5 then hows.Refused 
 abbrev pub turn_code : ℕ → Result Turn Misuse → ℕ
 turn_code how (Ok turns.Run) = 51
 turn_code how (Ok (turns.Pause times)) = 52
+turn_code how (Ok turns.Sleep) = 52
 turn_code how (Ok turns.Done) = 0
 turn_code how (Ok turns.Over) = how
 turn_code how (Ok turns.Full) = 6
@@ -192,13 +194,8 @@ turn_code how (Ok turns.Memory) = 23
 turn_code how (Ok turns.Irrevocable) = 8
 turn_code how (Err e) = misuse_code e
 
-abbrev pub pause_value : Result Turn Misuse → ℕ → ℕ
-pause_value (Ok (turns.Pause times)) old = times
-pause_value (Ok turns.Run) old = old
-pause_value (Ok turns.Done) old = old
-pause_value (Ok turns.Over) old = old
-pause_value (Ok turns.Full) old = old
-pause_value (Ok turns.ClockFull) old = old
-pause_value (Ok turns.Memory) old = old
-pause_value (Ok turns.Irrevocable) old = old
-pause_value (Err e) old = old
+-- 0 where a wait is announced, and PAUSE where its user may sleep
+abbrev pub wait_code : Result Bool Misuse → ℕ
+wait_code (Ok false) = 0
+wait_code (Ok true) = 52
+wait_code (Err e) = misuse_code e

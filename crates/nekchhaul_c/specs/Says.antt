@@ -1,12 +1,18 @@
 -- What C is told.
-use Rattle.std.specs.Prelude.{ℕ, ◌≡◌, ◌==◌, if◌then◌else◌, List, length, Option, Some, None, Result, IfErr}
+use Rattle.std.specs.Prelude.{ℕ, ◌≡◌, ◌==◌, Bool, true, false, if◌then◌else◌, List, length, Option, Some, None, Result, Ok, Err, IfErr, IfOk}
 use Rattle.stm_model.specs.declared.alg.Alg.{Alg}
 use Rattle.stm_model.specs.declared.alg.Alg.TheVariants.{Cgl, Tml, OrecLazy, OrecEager, RingSw, Serial}
-use Rattle.nekchhaul_c.specs.Codes.{begin_code, begin_value, done_code, misuse_code, pause_value, taken_code, turn_code}
+use Rattle.nekchhaul_c.specs.Codes.{begin_code, begin_value, done_code, misuse_code, taken_code, turn_code, wait_code}
 use Rattle.tx_answers.specs.declared.answers.Begin.{Begin}
 use Rattle.tx_checked.specs.declared.errand.Errand.TheVariants.{Switch}
 use Rattle.tx_loops.specs.declared.looping_caller.LoopingCaller.{LoopingCaller}
+use Rattle.tx_loops.specs.declared.turn.How.{How}
 use Rattle.tx_loops.specs.declared.turn.Turn.{Turn}
+use Rattle.tx_loops.specs.declared.turn.Turn.TheVariants as turns
+use Rattle.tx_loops.specs.declared.watch.Watch.{Watch}
+use Rattle.tx_loops.specs.Loops.{EnterSays, LeaveSays}
+use Rattle.tx_loops.specs.Waits.{HasLooked, KeepsWatch, WaitSays}
+use Rattle.nekchhaul_c.specs.declared.pause.Pause.{Pause}
 use Rattle.tx_loops.specs.Accesses.{Passes, PassesFree, SameLoop, leaving}
 use Rattle.tx_checked.specs.declared.misuse.Misuse.{Misuse}
 use Rattle.tx_checked.specs.declared.refusal.Refusal.{Refusal}
@@ -31,9 +37,45 @@ Says {A = A} code Told k m n = (r : Result A Misuse) × (k ≡ code r) × Told m
 abbrev pub SaysWord : {A : Type 0} → (Result A Misuse → ℕ) → (Result A Misuse → ℕ → ℕ) → ℕ → ℕ → (LoopingCaller → LoopingCaller → Result A Misuse → Type 0) → ℕ → LoopingCaller → LoopingCaller → Type 0
 SaysWord {A = A} code word old new Told k m n = (r : Result A Misuse) × (k ≡ code r) × (new ≡ word r old) × Told m n r
 
--- of a call of a loop, with how often to pause; the body answered `how`
-abbrev pub TurnSays : ℕ → ℕ → ℕ → (LoopingCaller → LoopingCaller → Result Turn Misuse → Type 0) → ℕ → LoopingCaller → LoopingCaller → Type 0
-TurnSays how old new Told k m n = SaysWord (turn_code how) pause_value old new Told k m n
+-- how to pause, or by what to sleep; nothing else is put in that place
+abbrev pub PutsSleep : Option Watch → Pause → Type 0
+PutsSleep None pause = (pause.times ≡ 0) × (pause.seen ≡ 0)
+PutsSleep (Some w) pause = (pause.times ≡ 0) × (pause.seen ≡ w.seen)
+
+abbrev pub PutsPause : Result Turn Misuse → Option Watch → Pause → Pause → Type 0
+PutsPause (Ok (turns.Pause times)) watch old new = (new.times ≡ times) × (new.seen ≡ 0)
+PutsPause (Ok turns.Sleep) watch old new = PutsSleep watch new
+PutsPause (Ok turns.Run) watch old new = new ≡ old
+PutsPause (Ok turns.Done) watch old new = new ≡ old
+PutsPause (Ok turns.Over) watch old new = new ≡ old
+PutsPause (Ok turns.Full) watch old new = new ≡ old
+PutsPause (Ok turns.ClockFull) watch old new = new ≡ old
+PutsPause (Ok turns.Memory) watch old new = new ≡ old
+PutsPause (Ok turns.Irrevocable) watch old new = new ≡ old
+PutsPause (Err e) watch old new = new ≡ old
+
+abbrev pub PutsTurn : ℕ → Result Turn Misuse → LoopingCaller → Pause → Pause → ℕ → Type 0
+PutsTurn how r n old new k = (k ≡ turn_code how r) × PutsPause r n.plan.watch old new
+
+-- of a call of a loop, with the pause; the body answered `how`
+abbrev pub TurnSays : ℕ → Pause → Pause → (LoopingCaller → LoopingCaller → Result Turn Misuse → Type 0) → ℕ → LoopingCaller → LoopingCaller → Type 0
+TurnSays how old new Told k m n = (r : Result Turn Misuse) × PutsTurn how r n old new k × Told m n r
+
+-- what tx_loops tells of the two, and who sleeps has looked since it was announced
+abbrev pub EnterTells : LoopingCaller → LoopingCaller → Result Turn Misuse → Type 0
+EnterTells m n r = EnterSays m n r × KeepsWatch m n
+
+abbrev pub LeaveTells : How → LoopingCaller → LoopingCaller → Result Turn Misuse → Type 0
+LeaveTells how m n r = LeaveSays how m n r × IfOk r (HasLooked m n)
+
+-- and of a wait outside of loops
+abbrev pub PutsWait : Result Bool Misuse → Option Watch → Pause → Pause → Type 0
+PutsWait (Ok true) watch old new = PutsSleep watch new
+PutsWait (Ok false) watch old new = new ≡ old
+PutsWait (Err e) watch old new = new ≡ old
+
+abbrev pub WaitTells : Pause → Pause → ℕ → LoopingCaller → LoopingCaller → Type 0
+WaitTells old new k m n = (r : Result Bool Misuse) × (k ≡ wait_code r) × PutsWait r n.plan.watch old new × WaitSays m n r
 
 -- and of a begin with what the attempt runs under, a range beside it too
 abbrev pub BeginSays : ℕ → ℕ → ℕ → LoopingCaller → LoopingCaller → Type 0

@@ -110,7 +110,7 @@ fn algorithm_number(state: TxState) -> u32
 pub struct Why {
     /// The status that told of it, or 0 where nothing has.
     pub status: u32,
-    /// Of a conflict: 1 the clock moved, 2 a record, 3 a record moved, 4 the ring's filter, 5 the ring was overrun.
+    /// Of a full log: 1 that of the reads, 2 those of the writes. Of a conflict: 1 the clock moved, 2 a record, 3 a record moved, 4 the ring's filter, 5 the ring was overrun.
     pub kind: u32,
     /// What was found, in the order of the header's table.
     pub first: u64,
@@ -152,7 +152,8 @@ fn of_refusal(refusal: Refusal) -> Why
             status: word,
         } => told(status::BUSY, 0, (caller as u64, word, 0)),
         Refusal::Again { word, had, now } => told(status::AGAIN, 0, (word, had, now)),
-        Refusal::LogFull { limit } => told(status::LOG_FULL, 0, (limit as u64, 0, 0)),
+        Refusal::ReadsFull { limit } => told(status::LOG_FULL, 1, (limit as u64, 0, 0)),
+        Refusal::WritesFull { limit } => told(status::LOG_FULL, 2, (limit as u64, 0, 0)),
         Refusal::ClockFull { clock } => told(status::CLOCK_FULL, 0, (clock, 0, 0)),
         Refusal::Irrevocable => told(status::IRREVOCABLE, 0, (0, 0, 0)),
         Refusal::Deep { limit } => told(status::DEEP, 0, (limit as u64, 0, 0)),

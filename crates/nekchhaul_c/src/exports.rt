@@ -162,11 +162,12 @@ pub(crate) fn algorithm_by_number(number: u32) -> Option<Alg>
 pub extern "C" fn nekchhaul_release(alloc: Global, caller: &mut Handle) -> u32
     ensures { LetsGo result caller.old.inside caller.new.inside }
 {
-    let Some(looping_caller) = caller.take(alloc) else {
+    let Some(mut looping_caller) = caller.take(alloc) else {
         return status::NO_CALLER;
     };
     match looping_caller.may_leave() {
         Ok(()) => {
+            looping_caller.withdraw();
             drop(looping_caller);
             status::OK
         }

@@ -9,6 +9,7 @@ mod learning;
 mod loops;
 mod marks;
 mod opening;
+mod pause;
 mod ranges;
 mod raw_box;
 mod reading;

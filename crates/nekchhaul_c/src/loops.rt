@@ -1,38 +1,132 @@
 //! The loop of a transaction, for C.
 ghost use Rattle.std.specs.Prelude.{◌≡◌};
 ghost use Rattle.nekchhaul_c.specs.Codes.{how_numbered};
-ghost use Rattle.nekchhaul_c.specs.Says.{Holds, TurnSays};
-ghost use Rattle.tx_loops.specs.Loops.{EnterSays, LeaveSays};
+ghost use Rattle.nekchhaul_c.specs.Says.{Holds, EnterTells, LeaveTells, PutsTurn, TurnSays};
+ghost use Rattle.tx_checked.specs.CheckedCallers.{IsServed, known_to};
+ghost use Rattle.tx_loops.specs.declared.stage.Stage.TheVariants.{Free};
 
 use crate::handle::Handle;
+use crate::pause::Pause;
 use crate::status;
 use std::alloc::Global;
+use stm_tx::serving::{Calls, Under};
+use stm_tx::under;
+use tx_checked::misuse::Misuse;
+use tx_loops::looping_caller::LoopingCaller;
+use tx_loops::turn::Turn;
 
 /// Says whether a body may run. `pause` is written only where the answer is PAUSE.
 #[unsafe(no_mangle)]
-pub extern "C" fn nekchhaul_enter(alloc: Global, caller: &mut Handle, pause: &mut u32) -> u32
+pub extern "C" fn nekchhaul_enter(alloc: Global, caller: &mut Handle, pause: &mut Pause) -> u32
     ensures { Holds ((result ≡ 16) × (pause.new ≡ pause.old))
-        (TurnSays 0 pause.old pause.new EnterSays result) caller.old.inside caller.new.inside }
+        (TurnSays 0 pause.old pause.new EnterTells result) caller.old.inside caller.new.inside }
 {
     if !caller.is_held() {
         return status::NO_CALLER;
     }
-    let turn = caller.looping_caller().enter(alloc);
-    status::put_pause(turn, pause);
-    status::of_turn(turn, status::OK)
+    let looping_caller = caller.looping_caller();
+    if looping_caller.is_ready() {
+        return open(looping_caller, pause);
+    }
+    enter_apart(alloc, looping_caller, pause)
+}
+
+#[inline(always)]
+fn open(looping_caller: &mut LoopingCaller, pause: &mut Pause) -> u32
+    requires free { looping_caller.old.stage ≡ Free }
+    requires simple { looping_caller.old.plan.wanted ≡ 0 }
+    ensures { TurnSays 0 pause.old pause.new EnterTells result looping_caller.old
+        looping_caller.new }
+{
+    match looping_caller.open() {
+        Ok(Turn::Run) => status::RUN,
+        turn => told(turn, status::OK, looping_caller, pause),
+    }
+}
+
+#[cold]
+#[inline(never)]
+fn enter_apart(alloc: Global, looping_caller: &mut LoopingCaller, pause: &mut Pause) -> u32
+    ensures { TurnSays 0 pause.old pause.new EnterTells result looping_caller.old
+        looping_caller.new }
+{
+    let turn = looping_caller.enter(alloc);
+    told(turn, status::OK, looping_caller, pause)
 }
 
 /// Ends the attempt of a body that answered `how`. `pause` is written only where the answer is PAUSE.
 #[unsafe(no_mangle)]
-pub extern "C" fn nekchhaul_leave(caller: &mut Handle, how: u32, pause: &mut u32) -> u32
+pub extern "C" fn nekchhaul_leave(caller: &mut Handle, how: u32, pause: &mut Pause) -> u32
     ensures { Holds ((result ≡ 16) × (pause.new ≡ pause.old))
-        (TurnSays how pause.old pause.new (LeaveSays (how_numbered how)) result) caller.old.inside
+        (TurnSays how pause.old pause.new (LeaveTells (how_numbered how)) result) caller.old.inside
         caller.new.inside }
 {
     if !caller.is_held() {
         return status::NO_CALLER;
     }
-    let turn = caller.looping_caller().leave(status::how_of(how));
-    status::put_pause(turn, pause);
+    let looping_caller = caller.looping_caller();
+    if how != status::OK {
+        return leave_undone(looping_caller, how, pause);
+    }
+    leave_with_all(looping_caller, how, pause)
+}
+
+#[inline(always)]
+#[tactic(auto, using(crate::proofs::Leaving::done_tells))]
+fn leave_with_all(looping_caller: &mut LoopingCaller, how: u32, pause: &mut Pause) -> u32
+    requires done { how ≡ 0 }
+    ensures { TurnSays how pause.old pause.new (LeaveTells (how_numbered how)) result
+        looping_caller.old looping_caller.new }
+{
+    let _ = how;
+    under!(
+        looping_caller.algorithm(),
+        leave_done(Under::<A>::new(), looping_caller, pause)
+    )
+}
+
+#[cold]
+#[inline(never)]
+fn leave_undone(looping_caller: &mut LoopingCaller, how: u32, pause: &mut Pause) -> u32
+    ensures { TurnSays how pause.old pause.new (LeaveTells (how_numbered how)) result
+        looping_caller.old looping_caller.new }
+{
+    let turn = looping_caller.leave(status::how_of(how));
+    told(turn, how, looping_caller, pause)
+}
+
+/// Apart, so that each saves the registers that it needs.
+#[inline(never)]
+fn leave_done<C: Calls + Drop>(
+    calls: C,
+    looping_caller: &mut LoopingCaller,
+    pause: &mut Pause,
+) -> u32
+    requires served { IsServed C.acts_as (known_to looping_caller.old.caller) }
+    ensures { TurnSays 0 pause.old pause.new (LeaveTells (how_numbered 0)) result
+        looping_caller.old looping_caller.new }
+{
+    match looping_caller.leave_done(&calls) {
+        Ok(Turn::Done) => status::OK,
+        turn => told(turn, status::OK, looping_caller, pause),
+    }
+}
+
+/// What is to be done next, where that is neither the body nor nothing. Apart, for the sake of those.
+#[cold]
+#[inline(never)]
+fn told(
+    turn: Result<Turn, Misuse>,
+    how: u32,
+    looping_caller: &LoopingCaller,
+    pause: &mut Pause,
+) -> u32
+    ensures { PutsTurn how turn looping_caller.now pause.old pause.new result }
+{
+    match turn {
+        Ok(Turn::Pause { times }) => *pause = Pause::of(times),
+        Ok(Turn::Sleep) => *pause = Pause::by_watch(looping_caller),
+        _ => {}
+    }
     status::of_turn(turn, how)
 }

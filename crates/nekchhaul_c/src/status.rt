@@ -1,7 +1,7 @@
 //! The numbers by which C learns what a call came to. They are never given another meaning: `capi/include/nekchhaul.h`
 //! has them too.
 ghost use Rattle.std.specs.Prelude.{◌≡◌};
-ghost use Rattle.nekchhaul_c.specs.Codes.{misuse_code, refusal_code, begin_code, begin_value, read_code, read_value, write_code, commit_code, cancel_code, grant_code, mark_code, mark_value, roll_code, done_code, word_code, word_value, taken_code, given_code, reserved_code, open_code, turn_code, pause_value, how_numbered};
+ghost use Rattle.nekchhaul_c.specs.Codes.{misuse_code, refusal_code, begin_code, begin_value, read_code, read_value, write_code, commit_code, cancel_code, grant_code, mark_code, mark_value, roll_code, done_code, word_code, word_value, taken_code, given_code, reserved_code, open_code, turn_code, how_numbered};
 
 use stm_model::memory::Memory;
 use stm_rule::refusal::NewError;
@@ -109,6 +109,7 @@ pub(crate) fn of_turn(answer: Result<Turn, Misuse>, how: u32) -> u32
     match answer {
         Ok(Turn::Run) => RUN,
         Ok(Turn::Pause { .. }) => PAUSE,
+        Ok(Turn::Sleep) => PAUSE,
         Ok(Turn::Done) => OK,
         Ok(Turn::Over) => how,
         Ok(Turn::Full) => LOG_FULL,
@@ -116,15 +117,6 @@ pub(crate) fn of_turn(answer: Result<Turn, Misuse>, how: u32) -> u32
         Ok(Turn::Memory) => MEMORY,
         Ok(Turn::Irrevocable) => IRREVOCABLE,
         Err(misuse) => of_misuse(misuse),
-    }
-}
-
-/// Puts how often to pause.
-pub(crate) fn put_pause(answer: Result<Turn, Misuse>, pause: &mut u32)
-    ensures { pause.new ≡ pause_value answer pause.old }
-{
-    if let Ok(Turn::Pause { times }) = answer {
-        *pause = times;
     }
 }
 
@@ -158,7 +150,7 @@ pub(crate) fn of_refusal(refusal: Refusal) -> u32
         Refusal::Held { .. } => HELD,
         Refusal::Busy { .. } => BUSY,
         Refusal::Again { .. } => AGAIN,
-        Refusal::LogFull { .. } => LOG_FULL,
+        Refusal::ReadsFull { .. } | Refusal::WritesFull { .. } => LOG_FULL,
         Refusal::ClockFull { .. } => CLOCK_FULL,
         Refusal::Irrevocable => IRREVOCABLE,
         Refusal::Deep { .. } => DEEP,

@@ -5,12 +5,14 @@ ghost use Rattle.nekchhaul_c.specs.Codes.{read_code, read_value, write_code};
 ghost use Rattle.nekchhaul_c.specs.Says.{Holds, Says, SaysWord};
 ghost use Rattle.tx_checked.specs.CheckedCallers.{IsServed, known_to};
 ghost use Rattle.tx_loops.specs.Accesses.{ReadSays, WriteSays};
+ghost use Rattle.tx_loops.specs.declared.stage.Stage.TheVariants.{Buffered};
 
 use crate::handle::Handle;
 use crate::status;
 use stm_model::alg::Alg;
 use stm_tx::serving::{Calls, Under};
 use stm_tx::{Cgl, OrecEager, OrecLazy, RingSw, Serial, Tml};
+use tx_answers::answers::Read;
 use tx_loops::looping_caller::LoopingCaller;
 
 /// Reads a word. `value` is written only where the answer is 0.
@@ -24,7 +26,13 @@ pub extern "C" fn nekchhaul_read(caller: &mut Handle, address: usize, value: &mu
     }
     let looping_caller = caller.looping_caller();
     match looping_caller.algorithm() {
-        Alg::Cgl => read(Under::<Cgl>::new(), looping_caller, address, value),
+        Alg::Cgl => {
+            if looping_caller.is_straight() {
+                read(Under::<Cgl>::new(), looping_caller, address, value)
+            } else {
+                read_apart(Under::<Cgl>::new(), looping_caller, address, value)
+            }
+        }
         Alg::Tml => read_apart(Under::<Tml>::new(), looping_caller, address, value),
         Alg::OrecLazy => read_apart(Under::<OrecLazy>::new(), looping_caller, address, value),
         Alg::OrecEager => read_apart(Under::<OrecEager>::new(), looping_caller, address, value),
@@ -43,9 +51,13 @@ fn read<C: Calls + Drop>(
     requires served { IsServed C.acts_as (known_to looping_caller.old.caller) }
     ensures { SaysWord read_code read_value value.old value.new (ReadSays address) result looping_caller.old looping_caller.new }
 {
-    let word = looping_caller.read_by(&calls, address);
-    status::put_value(word, value);
-    status::of_read(word)
+    match looping_caller.read_by(&calls, address) {
+        Ok(Read::Value(word)) => {
+            *value = word;
+            status::OK
+        }
+        refused => status::of_read(refused),
+    }
 }
 
 #[inline(never)]
@@ -72,6 +84,9 @@ pub extern "C" fn nekchhaul_write(caller: &mut Handle, address: usize, value: u6
         return status::NO_CALLER;
     }
     let looping_caller = caller.looping_caller();
+    if looping_caller.is_buffered() {
+        return write_into(looping_caller, address, value);
+    }
     match looping_caller.algorithm() {
         Alg::Cgl => write(looping_caller, address, value),
         _ => write_apart(looping_caller, address, value),
@@ -84,6 +99,15 @@ fn write(looping_caller: &mut LoopingCaller, address: usize, value: u64) -> u32
         looping_caller.old looping_caller.new }
 {
     status::of_write(looping_caller.write(address, value))
+}
+
+#[inline(never)]
+fn write_into(looping_caller: &mut LoopingCaller, address: usize, value: u64) -> u32
+    requires buffered { looping_caller.old.stage ≡ Buffered }
+    ensures { Says write_code (WriteSays address value) result
+        looping_caller.old looping_caller.new }
+{
+    status::of_write(looping_caller.write_into(address, value))
 }
 
 #[inline(never)]

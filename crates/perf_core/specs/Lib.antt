@@ -1,3 +1,5 @@
 pub mod Jobs
 pub mod WorkRegions
 pub mod Callers
+pub mod Endings
+pub mod Helping

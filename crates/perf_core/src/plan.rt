@@ -32,6 +32,15 @@ pub enum Workload {
     Sum,
 }
 
+/// All of them, as the command line names them.
+pub const WORKLOADS: [Workload; 5] = [
+    Workload::Bank,
+    Workload::Hash,
+    Workload::List,
+    Workload::Count,
+    Workload::Sum,
+];
+
 impl Workload {
     /// The word of the command line.
     pub fn name(self) -> &'static str {
@@ -64,14 +73,12 @@ pub struct Plan {
 }
 
 fn workload_of(word: &str) -> Option<Workload> {
-    match word {
-        "bank" => Some(Workload::Bank),
-        "hash" => Some(Workload::Hash),
-        "list" => Some(Workload::List),
-        "count" => Some(Workload::Count),
-        "sum" => Some(Workload::Sum),
-        _ => None,
+    for workload in WORKLOADS {
+        if workload.name() == word {
+            return Some(workload);
+        }
     }
+    None
 }
 
 fn algorithm_of(word: &str) -> Option<Alg> {

@@ -10,7 +10,7 @@ use Rattle.queue_jobs.specs.declared.plan.Plan.{Plan}
 -- a memory can be opened for it, and each job has a number below 2^32
 pub record IsPlan (plan : Plan) : Type 0 where
   pub room : (0 < plan.room) × (plan.room + 2 ≤ 1048576)
-  pub callers : (0 < plan.workers) × (plan.producers + plan.workers ≤ 32)
+  pub callers : (0 < plan.workers) × (plan.producers + plan.workers ≤ 254)
   pub jobs : plan.producers * plan.each + 1 < 2 ^ 32
 
 -- the queue is the whole memory

@@ -8,7 +8,7 @@ use Rattle.rule_base.specs.declared.entries.Entry.{Entry}
 use Rattle.rule_base.specs.declared.views.FenceView.{FenceView}
 use Rattle.rule_base.specs.declared.views.Phase.TheVariants.{In}
 use Rattle.rule_base.specs.declared.views.View.{View}
-use Rattle.rule_base.specs.Encodings.{fence_of, fence_owner, fence_number, fenced}
+use Rattle.rule_base.specs.Encodings.{fence_of, fence_owner, fence_number, fenced, IsNamed}
 use Rattle.rule_base.specs.Lemmas.EncodingLemmas.{fence_owner-number, fenced-inside, fenced-none}
 use Rattle.rule_base.specs.Fence.{heap_without_fence, owes, FenceProjection, fence_projection, KnowsPast, FenceHolder, FenceRule}
 use Rattle.rule_base.specs.FenceSteps.{no_fence}
@@ -228,11 +228,11 @@ module _ (c : Config) where
   -- A FENCE COMES, where there was none, nobody is in an attempt, and the memory lies in the heap
   pub fence-comes : (w x : World) (n from count : ℕ) (v : View) → x.views ≡ put w.views n v → x.clock ≡ w.clock → x.heap ≡ w.heap
       → x.history ≡ w.history → c.fence ≡ true → n < c.callers → fence_of w.gate ≡ 0 → fence_of x.gate ≡ fence_number n from count
-      → from < 1048576 → count < 2097152 → from + count ≤ c.words → Below w.history (w.clock + 1)
+      → IsNamed n from count → from + count ≤ c.words → Below w.history (w.clock + 1)
       → v.fence ≡ record { holds = true; number = fence_number n from count; past = record { seen = w.history; front = w.clock }; reads = []; stores = [] }
       → ((a : ℕ) → w.heap a ≡ word_now w.history a) → ((m : ℕ) → (put (fence_projection w).phases n v.gate.phase m) ≡ In → ⊥)
       → FenceRule c (fence_projection w) → FenceRule c (fence_projection x)
-  fence-comes w x n from count v is clock heap history on caller was fence low few inside below own lies out r = subst (FenceRule c) (sym (fence_projection-put w x n v is)) (record {
+  fence-comes w x n from count v is clock heap history on caller was fence named inside below own lies out r = subst (FenceRule c) (sym (fence_projection-put w x n v is)) (record {
     mine = put-all (fence_projection w).views n v.fence (λ m u. u.holds ≡ true → (fence_owner (fence_of x.gate) ≡ 1 + m) × (fence_of x.gate ≡ u.number))
         (λ t. (owner_now, fence ∙ ap (λ (u : FenceView). u.number) (sym own)))
         (λ m d t. absurd (nobody m t));
@@ -242,7 +242,7 @@ module _ (c : Config) where
     none = λ e. absurd (let k = owner_now in omega arith);
     off = λ e. absurd (let f : true ≡ false = sym on ∙ e in cc);
     few = put-all (fence_projection w).views n v.fence (λ m u. u.holds ≡ true → m < c.callers) (λ t. caller) (λ m d t. absurd (nobody m t));
-    inside = λ a e. fenced-inside n from count c.words a low few inside (ap (λ k. fenced k a) (sym fence) ∙ e);
+    inside = λ a e. fenced-inside n from count c.words a named inside (ap (λ k. fenced k a) (sym fence) ∙ e);
     holder = put-all (fence_projection w).views n v.fence (λ m u. u.holds ≡ true → FenceHolder after u)
         (λ t. subst (FenceHolder after) (sym own) (record {
           stored = λ a e. ap (λ (f : ℕ → ℕ). f a) heap ∙ (lies a ∙ ap (λ (h : List Entry). word_now h a) (sym history));
@@ -275,7 +275,7 @@ module _ (c : Config) where
           }
 
       owner_now : fence_owner (fence_of x.gate) ≡ 1 + n
-      owner_now = ap fence_owner fence ∙ fence_owner-number n from count low few
+      owner_now = ap fence_owner fence ∙ fence_owner-number n from count named
 
       nobody : (m : ℕ) → (w.views m).fence.holds ≡ true → ⊥
       nobody m t = let k : fence_owner (fence_of w.gate) ≡ 1 + m = (r.mine m t).0 in let z : fence_owner (fence_of w.gate) ≡ fence_owner 0 = ap fence_owner was in let y : fence_owner 0 ≡ 0 = refl in omega arith

@@ -9,7 +9,7 @@ use Rattle.stm_model.specs.declared.config.TheConstants.{CLOCK_LIMIT}
 use Rattle.rule_base.specs.declared.views.FenceView.{FenceView}
 use Rattle.rule_base.specs.declared.views.Phase.TheVariants.{Closing}
 use Rattle.rule_base.specs.declared.views.View.{View}
-use Rattle.rule_base.specs.Encodings.{gate_word, fenced}
+use Rattle.rule_base.specs.Encodings.{gate_word, fenced, IsNamed}
 use Rattle.rule_base.specs.History.{over, touches, word_now, upto, AreWords, Below, Legal}
 use Rattle.rule_base.specs.InstallSteps.{HasChecked}
 use Rattle.rule_base.specs.StepKinds.{StepKind, same_history}
@@ -31,7 +31,7 @@ fence n number alg = record {
   grown = same_history;
 }
 
--- the memory takes fences; the range lies in it, and its addresses fit
+-- the memory takes fences; the range lies in it, and has a number
 pub record CanFence (c : Config) (n from count : ℕ) (alg : Alg) (v : View) : Type 0 where
   pub on : c.fence ≡ true
   pub phase : v.gate.phase ≡ Closing
@@ -41,7 +41,7 @@ pub record CanFence (c : Config) (n from count : ℕ) (alg : Alg) (v : View) : T
   pub ungiven : v.gate.giving ≡ false
   pub some : 0 < count
   pub inside : from + count ≤ c.words
-  pub fits : c.words ≤ 1048576
+  pub fits : IsNamed n from count
 
 -- load a word of the range
 abbrev pub fence_load : ℕ → StepKind

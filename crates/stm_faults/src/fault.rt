@@ -1,114 +1,101 @@
-//! A fault: where it is, what stands there, why that is wrong, and what may stand there.
-ghost use Rattle.std.specs.Prelude.{◌≤◌, IfOk, string_len};
+//! The faults of texts, by name.
+ghost use Rattle.std.specs.Prelude.{◌≡◌, true, codes};
+ghost use Rattle.stm_faults.specs.Faults.{is_code, number_of, name_of};
 
-use crate::cause::Cause;
-use crate::offer::{Offer, begins};
-use crate::sentence::{MOST_SAID, Parts, told};
-use crate::words::{start_of, words_of};
-use std::alloc::{AllocError, Global};
+use stm_text::code;
 
-/// A fault of a line.
-#[derive(Drop)]
-pub struct Fault<'a> {
-    /// Where the line stands, in words.
-    pub(crate) place: String,
-    /// The line, where there is one.
-    pub(crate) bytes: Option<&'a [u8]>,
-    /// Which of its words is at fault, from 0.
-    pub(crate) word: usize,
-    pub(crate) cause: Cause<'a>,
-    /// What may stand there.
-    pub offers: Vec<Offer>,
-    /// What stands there where nothing may.
-    pub(crate) nothing: &'static str,
+/// What is wrong with a text, of a workload or of a report. Where a line has several, the first of these counts.
+#[derive(Clone, Copy, Drop, Debug, PartialEq, Eq)]
+pub enum Fault {
+    /// The text is too long to be a workload.
+    Long,
+    /// A byte that no line may have.
+    Bytes,
+    /// A line without its LF, or the end of the text above its last line.
+    Unended,
+    /// A word that isn't allowed, or too many or too few.
+    Word,
+    /// A number that isn't of the form.
+    Number,
+    /// A number out of its range.
+    Range,
+    /// No such algorithm.
+    Alg,
+    /// A structure that isn't there, or has no room, or an address in one.
+    Region,
+    /// An `emit` without an earlier `irrev` in its transaction.
+    Order,
+    /// An item, an operation or a turn too many.
+    Many,
+    /// A byte after the line `done`.
+    Extra,
+    /// A line that isn't in the form of a report.
+    Report,
+    /// The text is too long to be a report.
+    LongReport,
 }
 
-impl Fault<'_> {
-    /// The fault in a sentence.
-    ///
-    /// # Errors
-    /// Memory, where it is refused.
-    pub fn sentence(&self, alloc: Global) -> Result<String, AllocError>
-        ensures { IfOk result (λ s. string_len s ≤ 200) }
+impl Fault {
+    /// The fault that has this number.
+    pub fn of(code: u32) -> Fault
+        ensures { is_code code ≡ true → number_of result ≡ code }
     {
-        let mut why = String::new(alloc);
-        self.cause.put(&mut why)?;
-        let words = words_of(alloc, self.bytes.unwrap_or(&[]))?;
-        let fixed = self
-            .place
-            .len()
-            .saturating_add(why.len())
-            .saturating_add(48);
-        let mut may = String::new(alloc);
-        self.put_may(
-            alloc,
-            &mut may,
-            words.as_slice(),
-            MOST_SAID.saturating_sub(fixed),
-        )?;
-        let parts = Parts {
-            place: self.place.clone()?,
-            why,
-            may,
-        };
-        let focus = match self.cause {
-            Cause::WrongByte { at, .. } => at,
-            _ => start_of(words.as_slice(), self.word),
-        };
-        told(alloc, &parts, self.bytes, focus)
+        match code {
+            code::LONG => Fault::Long,
+            code::BYTES => Fault::Bytes,
+            code::UNENDED => Fault::Unended,
+            code::WORD => Fault::Word,
+            code::NUMBER => Fault::Number,
+            code::RANGE => Fault::Range,
+            code::ALG => Fault::Alg,
+            code::REGION => Fault::Region,
+            code::ORDER => Fault::Order,
+            code::MANY => Fault::Many,
+            code::EXTRA => Fault::Extra,
+            code::REPORT => Fault::Report,
+            _ => Fault::LongReport,
+        }
     }
 
-    /// Appends what may stand there, in so many bytes: the form that begins as the line does, where there is one, and else
-    /// the names of all.
-    fn put_may(
-        &self,
-        alloc: Global,
-        may: &mut String,
-        words: &[&[u8]],
-        room: usize,
-    ) -> Result<(), AllocError> {
-        match self.offers.as_slice() {
-            [] => return may.push_str(self.nothing),
-            [one] => return may.push_str(one.form.as_str()),
-            _ => {}
-        }
-        let mut alike = Vec::new(alloc);
-        for offer in &self.offers {
-            if begins(alloc, offer, words, 1)? {
-                alike.push(offer)?;
-            }
-        }
-        let mut closer = Vec::new(alloc);
-        for offer in &alike {
-            if begins(alloc, offer, words, 2)? {
-                closer.push(*offer)?;
-            }
-        }
-        match (alike.as_slice(), closer.as_slice()) {
-            ([one], _) => may.push_str(one.form.as_str()),
-            (_, [one]) => may.push_str(one.form.as_str()),
-            ([], _) => {
-                let mut all = Vec::new(alloc);
-                for offer in &self.offers {
-                    all.push(offer)?;
-                }
-                put_names(may, all.as_slice(), room)
-            }
-            (some, _) => put_names(may, some, room),
+    /// Its number, which is told.
+    pub fn number(self) -> u32
+        ensures { result ≡ number_of self }
+    {
+        match self {
+            Fault::Long => code::LONG,
+            Fault::Bytes => code::BYTES,
+            Fault::Unended => code::UNENDED,
+            Fault::Word => code::WORD,
+            Fault::Number => code::NUMBER,
+            Fault::Range => code::RANGE,
+            Fault::Alg => code::ALG,
+            Fault::Region => code::REGION,
+            Fault::Order => code::ORDER,
+            Fault::Many => code::MANY,
+            Fault::Extra => code::EXTRA,
+            Fault::Report => code::REPORT,
+            Fault::LongReport => code::LONG_REPORT,
         }
     }
-}
 
-/// Appends the names of some forms, as many as there is room for.
-fn put_names(may: &mut String, offers: &[&Offer], room: usize) -> Result<(), AllocError> {
-    for offer in offers {
-        if room < may.len().saturating_add(offer.name.len()).saturating_add(7) {
-            return may.push_str(" ..");
+    /// Its name, which is told after the number.
+    pub fn name(self) -> &'static str
+        ensures { result.now ≡ name_of self }
+    {
+        match self {
+            Fault::Long => "long",
+            Fault::Bytes => "bytes",
+            Fault::Unended => "unended",
+            Fault::Word => "word",
+            Fault::Number => "number",
+            Fault::Range => "range",
+            Fault::Alg => "alg",
+            Fault::Region => "region",
+            Fault::Order => "order",
+            Fault::Many => "many",
+            Fault::Extra => "extra",
+            Fault::Report => "report",
+            Fault::LongReport => "longrep",
         }
-        if !may.is_empty() {
-            may.push_str(", ")?;
-        }
-        write!(may, "`{}`", offer.name)?;
     }
-    Ok(())
 }

@@ -1,6 +1,6 @@
 //! What the header above a line has: the regions, and the addresses that are in none.
 use crate::shown::{first_line, from_line};
-use crate::spot::{LineKind, Spot, next_word, second_word};
+use crate::spot::{LineKind, Spot, next_word};
 use std::alloc::{AllocError, Global};
 use stm_check::words::first_word;
 use stm_script::workload::{MAX_CELLS, MAX_STRIPES, STRUCTS_BEGIN, STRUCTS_END, Version};
@@ -9,11 +9,53 @@ use stm_text::lines;
 /// Numbers from the first one to the second.
 pub(crate) type Range = (u64, u64);
 
+/// The first and the last of some ranges.
+#[derive(Clone, Copy, Drop)]
+pub(crate) struct Span {
+    pub(crate) first: Range,
+    pub(crate) last: Range,
+}
+
+impl Span {
+    /// One range, where it has a number.
+    pub(crate) fn within(low: u64, high: u64) -> Option<Span> {
+        if low <= high {
+            Some(Span {
+                first: (low, high),
+                last: (low, high),
+            })
+        } else {
+            None
+        }
+    }
+
+    /// The same with one range more behind it, where that has a number.
+    fn extended(span: Option<Span>, low: u64, high: u64) -> Option<Span> {
+        match (span, Span::within(low, high)) {
+            (Some(span), Some(more)) => Some(Span {
+                first: span.first,
+                last: more.last,
+            }),
+            (None, more) => more,
+            (span, None) => span,
+        }
+    }
+
+    /// The same with the numbers from one on below another.
+    pub(crate) fn with(span: Option<Span>, from: u64, end: u64) -> Option<Span> {
+        if from < end {
+            Span::extended(span, from, end - 1)
+        } else {
+            span
+        }
+    }
+}
+
 /// The line on which the first region stands.
 const FIRST_REGION: usize = 11;
 
 /// A structure, as a line of a region has it, and how many words one of a size has.
-#[derive(Clone, Copy, Drop, Debug, PartialEq, Eq)]
+#[derive(Clone, Copy, Drop)]
 pub(crate) struct Kind {
     pub(crate) name: &'static str,
     /// Words besides those of the stripes or cells.
@@ -22,6 +64,14 @@ pub(crate) struct Kind {
     pub(crate) each: u64,
     /// The greatest size.
     pub(crate) most: u64,
+}
+
+impl Kind {
+    /// The word after the last of one of this size.
+    fn end(&self, first: u64, size: u64) -> Option<u64> {
+        let cells = size.checked_mul(self.each)?;
+        first.checked_add(cells)?.checked_add(self.fixed)
+    }
 }
 
 const fn structure(name: &'static str, fixed: u64, each: u64, most: u64) -> Kind {
@@ -45,9 +95,10 @@ pub(crate) fn kinds() -> [Kind; 6] {
 }
 
 /// A region of the header.
-#[derive(Clone, Copy, Drop, Debug, PartialEq, Eq)]
+#[derive(Clone, Copy, Drop)]
 pub(crate) struct Extent {
-    pub(crate) kind: Kind,
+    /// The structure's word.
+    pub(crate) kind: &'static str,
     pub(crate) first: u64,
     pub(crate) size: u64,
     /// The word after its last.
@@ -62,13 +113,13 @@ pub(crate) struct Known {
     pub(crate) spot: Spot,
     pub(crate) regions: Vec<Extent>,
     /// Addresses that are no structure's.
-    pub(crate) plain: Vec<Range>,
+    pub(crate) plain: Option<Span>,
 }
 
 impl Known {
     pub(crate) fn of(alloc: Global, text: &[u8], spot: Spot) -> Result<Known, AllocError> {
         let regions = regions_above(alloc, text, &spot)?;
-        let plain = plain_of(alloc, &spot, regions.as_slice())?;
+        let plain = plain_of(&spot, regions.as_slice());
         Ok(Known {
             spot,
             regions,
@@ -112,21 +163,27 @@ fn regions_above(alloc: Global, text: &[u8], spot: &Spot) -> Result<Vec<Extent>,
 /// The region of a line.
 pub(crate) fn extent_of(bytes: &[u8], line: usize) -> Option<Extent> {
     let (_, rest) = first_word(bytes);
-    let name = second_word(rest);
-    let (_, rest) = next_word(rest)?;
-    let (at, rest) = next_word(rest)?;
-    let (size, _) = next_word(rest)?;
-    let first = lines::number(at)?;
-    let size = lines::number(size)?;
+    let (name, rest) = next_word(rest)?;
+    let (first, size) = two_numbers(rest)?;
     let kind = kind_of(name)?;
-    let words = size.checked_mul(kind.each)?.checked_add(kind.fixed)?;
+    let end = kind.end(first, size)?;
     Some(Extent {
-        kind,
+        kind: kind.name,
         first,
         size,
-        end: first.checked_add(words)?,
+        end,
         line,
     })
+}
+
+/// The two numbers that follow.
+fn two_numbers(rest: &[u8]) -> Option<(u64, u64)> {
+    let (first, rest) = next_word(rest)?;
+    let (second, _) = next_word(rest)?;
+    match (lines::number(first), lines::number(second)) {
+        (Some(first), Some(second)) => Some((first, second)),
+        _ => None,
+    }
 }
 
 pub(crate) fn kind_of(name: &[u8]) -> Option<Kind> {
@@ -139,25 +196,18 @@ pub(crate) fn kind_of(name: &[u8]) -> Option<Kind> {
 }
 
 /// The addresses that are no structure's.
-fn plain_of(alloc: Global, spot: &Spot, regions: &[Extent]) -> Result<Vec<Range>, AllocError> {
-    let mut plain = Vec::new(alloc);
-    let mut from = 0u64;
-    if spot.version == Version::One && spot.structures {
-        push_range(&mut plain, 0, STRUCTS_BEGIN as u64)?;
-        from = STRUCTS_END as u64;
-    }
+fn plain_of(spot: &Spot, regions: &[Extent]) -> Option<Span> {
+    let (mut plain, mut from) = if spot.version == Version::One && spot.structures {
+        (
+            Span::with(None, 0, STRUCTS_BEGIN as u64),
+            STRUCTS_END as u64,
+        )
+    } else {
+        (None, 0)
+    };
     for region in regions {
-        push_range(&mut plain, from, region.first)?;
+        plain = Span::with(plain, from, region.first);
         from = region.end;
     }
-    push_range(&mut plain, from, spot.words)?;
-    Ok(plain)
-}
-
-/// Appends the numbers from one on below another, where there are some.
-fn push_range(ranges: &mut Vec<Range>, from: u64, end: u64) -> Result<(), AllocError> {
-    if from < end {
-        ranges.push((from, end - 1))?;
-    }
-    Ok(())
+    Span::with(plain, from, spot.words)
 }

@@ -1,11 +1,12 @@
 //! A place in a text, and which lines may stand there: those that the text's own grammar takes.
+use crate::fault::Fault;
 use std::alloc::Global;
 use stm_check::reading::read_report;
 use stm_model::memory::Memory;
 use stm_text::parse::{Mode, ParseError, parse};
 
 /// What a text is read as.
-#[derive(Clone, Copy, Drop, Debug, PartialEq, Eq)]
+#[derive(Clone, Copy, Drop)]
 pub enum Reader {
     /// A workload, for `run` or for `step`.
     Workload(Mode),
@@ -22,12 +23,12 @@ pub struct Place<'a> {
 }
 
 /// What a text comes to whose last line is one that is tried.
-#[derive(Clone, Copy, Drop, Debug, PartialEq, Eq)]
+#[derive(Clone, Copy, Drop)]
 pub enum Tried {
     /// The line has no fault.
     Taken,
-    /// It has one of this code.
-    Refused(u32),
+    /// It has this one.
+    Refused(Fault),
 }
 
 impl Place<'_> {
@@ -57,7 +58,7 @@ impl Place<'_> {
                 if self.line < line {
                     Ok(Tried::Taken)
                 } else {
-                    Ok(Tried::Refused(code))
+                    Ok(Tried::Refused(Fault::of(code)))
                 }
             }
         }

@@ -3,25 +3,28 @@ ghost use Rattle.std.specs.Prelude.{◌≤◌, ℕ, All, IfOk, take, string_len}
 ghost use Rattle.stm_faults.specs.Standing.{IsOffered};
 ghost use Rattle.stm_faults.specs.declared.place.Reader.TheVariants.{Report as OfReport};
 
-use crate::cause::{Cause, wrong_byte};
+use crate::at::At;
+use crate::cause::{Cause, LineFault, WordFault, wrong_byte, wrong_count};
 use crate::fault::Fault;
+use crate::line::FaultyLine;
 use crate::offer::{Offer, likest};
 use crate::place::{Place, Reader};
-use crate::sentence::bounded;
+use crate::sentence::too_long;
 use crate::shown::{first_line, is_ended};
 use crate::words::{is_spaced, words_of};
-use crate::workload::workload_fault;
+use crate::workload::workload_fault_for;
 use std::alloc::{AllocError, Global};
 use stm_check::apart::report_in;
 use stm_check::checking::Part;
 use stm_check::reading::MAX_REPORT;
 use stm_check::words::first_word;
 use stm_model::memory::Memory;
+use stm_text::lines;
+use stm_text::parse::Mode;
 use stm_text::parting::{count_lines, part_at_done};
-use stm_text::{code, lines};
 
 /// What may stand on a line of a report.
-#[derive(Clone, Copy, Drop, Debug, PartialEq, Eq)]
+#[derive(Clone, Copy, Drop)]
 enum ReportLine {
     Title,
     /// A row, a word of the memory or `end`.
@@ -32,7 +35,7 @@ enum ReportLine {
     After,
 }
 
-/// What is wrong with a text that `check` refuses with this line and this code, of a workload and then a report: the line,
+/// What is wrong with a text that `check` refuses with this line and this fault, of a workload and then a report: the line,
 /// what stands on it, why that is wrong, and what may stand there.
 ///
 /// # Errors
@@ -42,14 +45,14 @@ pub fn checked_fault(
     text: &[u8],
     part: Part,
     line: usize,
-    code: u32,
+    fault: Fault,
 ) -> Result<String, Memory>
     ensures { IfOk result (λ s. string_len s ≤ 200) }
 {
     let (head, behind) = part_at_done(text);
     match part {
-        Part::Workload => workload_fault(alloc, head, line, code),
-        Part::Report => told_below(alloc, behind, count_lines(head), line, code),
+        Part::Workload => workload_fault_for(alloc, Mode::Step, head, line, fault),
+        Part::Report => told_below(alloc, behind, count_lines(head), line, fault),
     }
 }
 
@@ -57,11 +60,11 @@ pub fn checked_fault(
 ///
 /// # Errors
 /// Memory, where it is refused.
-pub fn told_fault(alloc: Global, told: &[u8], line: usize, code: u32) -> Result<String, Memory>
+pub fn told_fault(alloc: Global, told: &[u8], line: usize, fault: Fault) -> Result<String, Memory>
     ensures { IfOk result (λ s. string_len s ≤ 200) }
 {
     let (above, report) = report_in(told);
-    told_below(alloc, report, above, line, code)
+    told_below(alloc, report, above, line, fault)
 }
 
 /// The same of a report that has so many lines above it, which are counted with its own.
@@ -70,27 +73,19 @@ fn told_below(
     report: &[u8],
     above: usize,
     line: usize,
-    code: u32,
+    fault: Fault,
 ) -> Result<String, Memory>
     ensures { IfOk result (λ s. string_len s ≤ 200) }
 {
-    if code == code::LONG_REPORT {
-        let said = format!(in alloc;
-            "the report has more than {MAX_REPORT} bytes; here stands one of at most so many"
-        )?;
-        return Ok(bounded(alloc, said)?);
+    if let Fault::LongReport = fault {
+        return Ok(too_long(alloc, "report", MAX_REPORT, "one")?);
     }
     Ok(report_fault(alloc, report, above, line.saturating_sub(above))?.sentence(alloc)?)
 }
 
 /// Where a line of a report stands that has so many lines above it.
-pub(crate) fn line_name(alloc: Global, above: usize, number: usize) -> Result<String, AllocError> {
-    let line = above.saturating_add(number);
-    if above == 0 {
-        format!(in alloc; "line {line}")
-    } else {
-        format!(in alloc; "line {line} ({number} of the report)")
-    }
+pub(crate) fn line_at(above: usize, number: usize) -> At {
+    At::below(above, number, "report")
 }
 
 /// The fault of a report's line of this number, from 1, where the lines above have none; so many lines stand above the
@@ -103,13 +98,12 @@ pub fn report_fault<'a>(
     report: &'a [u8],
     above: usize,
     number: usize,
-) -> Result<Fault<'a>, Memory>
+) -> Result<FaultyLine<'a>, Memory>
     ensures { IfOk result (λ f.
         (n : ℕ) × All (IsOffered OfReport (take n report.now) number) f.offers.items) }
 {
     let (next, rest) = place_of(report, number);
     let bytes = first_line(rest);
-    let words = words_of(alloc, bytes)?;
     let start = report.len().saturating_sub(rest.len());
     let place = Place {
         alloc,
@@ -117,10 +111,11 @@ pub fn report_fault<'a>(
         above: &report[..start],
         line: number,
     };
+    let words = words_of(alloc, bytes)?;
     let offers = likest(&place, candidates(alloc, next)?, words.as_slice())?;
     let (cause, word) = cause_of(next, rest, bytes, words.as_slice());
-    Ok(Fault {
-        place: line_name(alloc, above, number)?,
+    Ok(FaultyLine {
+        at: line_at(above, number),
         bytes: if rest.is_empty() { None } else { Some(bytes) },
         word,
         cause,
@@ -168,46 +163,61 @@ fn after(place: ReportLine, bytes: &[u8]) -> ReportLine {
 /// The forms of a report's line.
 fn candidates(alloc: Global, next: ReportLine) -> Result<Vec<Offer>, AllocError> {
     let mut offers = Vec::new(alloc);
+    put_candidates(&mut offers, next)?;
+    Ok(offers)
+}
+
+fn put_candidates(offers: &mut Vec<Offer>, next: ReportLine) -> Result<(), AllocError> {
     match next {
-        ReportLine::Title => offers.push(Offer::line(alloc, "report 1")?)?,
+        ReportLine::Title => put(offers, "report 1"),
         ReportLine::Rows => {
-            for kind in ["W", "R", "C"] {
-                offers.push(row(alloc, kind)?)?;
-            }
-            offers.push(word(alloc, 0)?)?;
-            offers.push(Offer::line(alloc, "end")?)?;
+            put_rows(offers)?;
+            put_word(offers, 0)?;
+            put(offers, "end")
         }
         ReportLine::Words { last } => {
-            if let Some(least) = last.checked_add(1) {
-                offers.push(word(alloc, least)?)?;
+            if last < u64::MAX {
+                put_word(offers, last + 1)?;
             }
-            offers.push(Offer::line(alloc, "end")?)?;
+            put(offers, "end")
         }
-        ReportLine::After => {}
+        ReportLine::After => Ok(()),
     }
-    Ok(offers)
+}
+
+/// Appends a line without a number.
+fn put(offers: &mut Vec<Offer>, line: &'static str) -> Result<(), AllocError> {
+    offers.push(Offer::line(*offers.allocator(), line)?)?;
+    Ok(())
+}
+
+fn put_rows(offers: &mut Vec<Offer>) -> Result<(), AllocError> {
+    for kind in ["W", "R", "C"] {
+        offers.push(row(*offers.allocator(), kind)?)?;
+    }
+    Ok(())
 }
 
 fn row(alloc: Global, kind: &str) -> Result<Offer, AllocError> {
     let most = u64::MAX;
-    Ok(Offer {
-        name: format!(in alloc; "{kind} 0 0 0 :")?,
-        form: format!(in alloc; "`{kind} PLACE CALLER SEQ : REPLIES`, with emits ` ! EMITS` too")?,
-        low: format!(in alloc; "{kind} 0 0 0 :")?,
-        high: format!(in alloc; "{kind} {most} {most} {most} : {most} ! {most}")?,
-        apart: 0,
-    })
+    let form = format!(in alloc; "`{kind} PLACE CALLER SEQ : REPLIES`, with emits ` ! EMITS` too")?;
+    let low = format!(in alloc; "{kind} 0 0 0 :")?;
+    let high = format!(in alloc; "{kind} {most} {most} {most} : {most} ! {most}")?;
+    Ok(Offer::unnamed(form, low, high))
+}
+
+/// Appends a word of the memory at an address from this one on.
+fn put_word(offers: &mut Vec<Offer>, least: u64) -> Result<(), AllocError> {
+    offers.push(word(*offers.allocator(), least)?)?;
+    Ok(())
 }
 
 fn word(alloc: Global, least: u64) -> Result<Offer, AllocError> {
     let most = u64::MAX;
-    Ok(Offer {
-        name: format!(in alloc; "mem {least} 1")?,
-        form: format!(in alloc; "`mem A V`, A from {least} on, V from 1 on, both below 2^64")?,
-        low: format!(in alloc; "mem {least} 1")?,
-        high: format!(in alloc; "mem {most} {most}")?,
-        apart: 0,
-    })
+    let form = format!(in alloc; "`mem A V`, A from {least} on, V from 1 on, both below 2^64")?;
+    let low = format!(in alloc; "mem {least} 1")?;
+    let high = format!(in alloc; "mem {most} {most}")?;
+    Ok(Offer::unnamed(form, low, high))
 }
 
 /// Why a report's line is at fault, and which of its words is.
@@ -217,59 +227,92 @@ fn cause_of<'a>(
     bytes: &'a [u8],
     words: &[&'a [u8]],
 ) -> (Cause<'a>, usize) {
-    if rest.is_empty() {
-        return (Cause::Ends { last: "end" }, 0);
-    }
-    if !is_ended(rest) {
-        return (Cause::NoLf, 0);
-    }
-    if let Some((at, byte)) = wrong_byte(bytes) {
-        return (Cause::WrongByte { at, byte }, 0);
-    }
-    if next == ReportLine::After {
-        return (Cause::After { last: "end" }, 0);
-    }
-    let (Some(first), false) = (words.first(), bytes.is_empty()) else {
-        return (Cause::Empty, 0);
-    };
-    if !is_spaced(words) {
-        return (Cause::Spaces, 0);
-    }
-    match (next, *first) {
-        (ReportLine::Title, b"report") => sized(words, 2),
-        (ReportLine::Title, _) => (Cause::NoForm { word: *first }, 0),
-        (_, b"report") => (Cause::NotFirst, 0),
-        (_, b"end") => sized(words, 1),
-        (ReportLine::Words { last }, b"mem") => memory_cause(words, Some(last)),
-        (_, b"mem") => memory_cause(words, None),
-        (ReportLine::Words { .. }, b"W" | b"R" | b"C") => (Cause::RowBelow, 0),
-        (_, b"W" | b"R" | b"C") => row_cause(words),
-        _ => (Cause::NoForm { word: *first }, 0),
+    match whole_line(next, rest, bytes, words) {
+        Some(cause) => (cause, 0),
+        None => by_words(next, words),
     }
 }
 
-/// Why a line of so many words is at fault, of which the last one is the only one that can be.
-fn sized<'a>(words: &[&'a [u8]], count: usize) -> (Cause<'a>, usize) {
-    if words.len() < count {
-        return (Cause::TooFew, 0);
+/// Why a line is at fault as a whole.
+fn whole_line<'a>(
+    next: ReportLine,
+    rest: &[u8],
+    bytes: &[u8],
+    words: &[&[u8]],
+) -> Option<Cause<'a>> {
+    if rest.is_empty() {
+        return Some(Cause::Line(LineFault::NoEnd));
     }
-    match (words.get(count), words.last()) {
-        (Some(word), _) => (Cause::TooMany { word: *word }, count),
-        (None, Some(word)) => (Cause::NotAllowed { word: *word }, count.saturating_sub(1)),
-        (None, None) => (Cause::Empty, 0),
+    if !is_ended(rest) {
+        return Some(Cause::Line(LineFault::NoLf));
+    }
+    if let Some((at, byte)) = wrong_byte(bytes) {
+        return Some(Cause::WrongByte { at, byte });
+    }
+    if let ReportLine::After = next {
+        return Some(Cause::Line(LineFault::AfterEnd));
+    }
+    if bytes.is_empty() {
+        return Some(Cause::Line(LineFault::Empty));
+    }
+    if is_spaced(words) {
+        None
+    } else {
+        Some(Cause::Line(LineFault::Spaces))
+    }
+}
+
+/// What a line's first word says that it is.
+#[derive(Clone, Copy, Drop)]
+enum Naming {
+    Title,
+    Row,
+    Word,
+    End,
+    Other,
+}
+
+fn named(word: &[u8]) -> Naming {
+    if lines::is(word, b"report") {
+        Naming::Title
+    } else if lines::is(word, b"mem") {
+        Naming::Word
+    } else if lines::is(word, b"end") {
+        Naming::End
+    } else if lines::is(word, b"W") || lines::is(word, b"R") || lines::is(word, b"C") {
+        Naming::Row
+    } else {
+        Naming::Other
+    }
+}
+
+/// Why a line of words is at fault, and which of them is.
+fn by_words<'a>(next: ReportLine, words: &[&'a [u8]]) -> (Cause<'a>, usize) {
+    let Some(first) = words.first() else {
+        return (Cause::Line(LineFault::Empty), 0);
+    };
+    match (next, named(first)) {
+        (ReportLine::Title, Naming::Title) => wrong_count(words, 2),
+        (ReportLine::Title, _) | (_, Naming::Other) => (Cause::word(first, WordFault::NoForm), 0),
+        (_, Naming::Title) => (Cause::Line(LineFault::NotFirst), 0),
+        (_, Naming::End) => wrong_count(words, 1),
+        (ReportLine::Words { last }, Naming::Word) => memory_cause(words, Some(last)),
+        (_, Naming::Word) => memory_cause(words, None),
+        (ReportLine::Words { .. }, Naming::Row) => (Cause::Line(LineFault::RowBelow), 0),
+        (_, Naming::Row) => row_cause(words),
     }
 }
 
 /// The same of a word of the memory, where this is the last address above.
 fn memory_cause<'a>(words: &[&'a [u8]], last: Option<u64>) -> (Cause<'a>, usize) {
     let [_, address, value] = words else {
-        return sized(words, 3);
+        return wrong_count(words, 3);
     };
     let Some(a) = lines::number(address) else {
-        return (Cause::NoNumber { word: *address }, 1);
+        return (Cause::word(address, WordFault::NoNumber), 1);
     };
     if lines::number(value).is_none() {
-        return (Cause::NoNumber { word: *value }, 2);
+        return (Cause::word(value, WordFault::NoNumber), 2);
     }
     match last {
         Some(last) if a <= last => (
@@ -279,26 +322,41 @@ fn memory_cause<'a>(words: &[&'a [u8]], last: Option<u64>) -> (Cause<'a>, usize)
             },
             1,
         ),
-        _ => (Cause::Zero, 2),
+        _ => (Cause::Line(LineFault::Zero), 2),
     }
 }
 
 /// The same of a row.
 fn row_cause<'a>(words: &[&'a [u8]]) -> (Cause<'a>, usize) {
     if words.len() < 5 {
-        return (Cause::TooFew, 0);
+        return (Cause::Line(LineFault::TooFew), 0);
     }
     let mut is_behind = false;
     for (i, word) in words.iter().enumerate().skip(1) {
-        if i == 4 {
-            if !lines::is(word, b":") {
-                return (Cause::NotAllowed { word: *word }, i);
-            }
-        } else if 4 < i && !is_behind && lines::is(word, b"!") {
-            is_behind = true;
-        } else if lines::number(word).is_none() {
-            return (Cause::NoNumber { word: *word }, i);
+        if let Some(fault) = row_word(i, word, is_behind) {
+            return (Cause::word(word, fault), i);
         }
+        is_behind = is_behind || (4 < i && lines::is(word, b"!"));
     }
-    (Cause::NoEmit, words.len().saturating_sub(1))
+    (
+        Cause::Line(LineFault::NoEmit),
+        words.len().saturating_sub(1),
+    )
+}
+
+/// What is wrong with the word of this number in a row, where a `!` stands before it or not.
+fn row_word(number: usize, word: &[u8], is_behind: bool) -> Option<WordFault> {
+    if number == 4 {
+        if lines::is(word, b":") {
+            None
+        } else {
+            Some(WordFault::NotAllowed)
+        }
+    } else if 4 < number && !is_behind && lines::is(word, b"!") {
+        None
+    } else if lines::number(word).is_none() {
+        Some(WordFault::NoNumber)
+    } else {
+        None
+    }
 }

@@ -1,6 +1,7 @@
 //! A sentence of at most so many bytes.
 ghost use Rattle.std.specs.Prelude.{◌≤◌, IfOk, string_len};
 
+use crate::at::At;
 use std::alloc::{AllocError, Global};
 
 /// The greatest number of bytes of a sentence.
@@ -13,7 +14,7 @@ const LEAST_SHOWN: usize = 16;
 const MOST_SHOWN: usize = 60;
 
 /// The first bytes of a text that is too long.
-pub(crate) fn bounded(alloc: Global, said: String) -> Result<String, AllocError>
+fn bounded(alloc: Global, said: String) -> Result<String, AllocError>
     ensures { IfOk result (λ s. string_len s ≤ 200) }
 {
     if said.len() <= MOST_SAID {
@@ -29,7 +30,22 @@ pub(crate) fn bounded(alloc: Global, said: String) -> Result<String, AllocError>
     Ok(cut)
 }
 
-/// What a sentence says, but for the bytes of the line.
+/// What is said of a text that is too long.
+pub(crate) fn too_long(
+    alloc: Global,
+    what: &str,
+    most: usize,
+    stands: &str,
+) -> Result<String, AllocError>
+    ensures { IfOk result (λ s. string_len s ≤ 200) }
+{
+    let said = format!(in alloc;
+        "the {what} has more than {most} bytes; here stands {stands} of at most so many"
+    )?;
+    bounded(alloc, said)
+}
+
+/// What a sentence says of a line, but for its bytes.
 #[derive(Drop)]
 pub(crate) struct Parts {
     /// Where the line stands.
@@ -37,6 +53,31 @@ pub(crate) struct Parts {
     pub(crate) why: String,
     /// What may stand there.
     pub(crate) may: String,
+}
+
+impl Parts {
+    /// Where the line stands alone.
+    pub(crate) fn of(alloc: Global, at: At) -> Result<Parts, AllocError> {
+        let mut place = String::new(alloc);
+        at.put(&mut place)?;
+        Ok(Parts {
+            place,
+            why: String::new(alloc),
+            may: String::new(alloc),
+        })
+    }
+
+    /// Appends to both others.
+    pub(crate) fn put(&mut self, why: &str, may: &str) -> Result<(), AllocError> {
+        self.why.push_str(why)?;
+        self.may.push_str(may)
+    }
+
+    /// How many bytes are left for what may stand there, and for what stands around all parts.
+    pub(crate) fn room(&self, around: usize) -> usize {
+        let fixed = self.place.len().saturating_add(self.why.len());
+        MOST_SAID.saturating_sub(fixed).saturating_sub(around)
+    }
 }
 
 /// The sentence of these parts, and of the line's bytes, of which those from `focus` on are shown first.
@@ -48,24 +89,21 @@ pub(crate) fn told(
 ) -> Result<String, AllocError>
     ensures { IfOk result (λ s. string_len s ≤ 200) }
 {
-    let fixed = parts
-        .place
-        .len()
-        .saturating_add(parts.why.len())
-        .saturating_add(parts.may.len());
-    let room = MOST_SAID
-        .saturating_sub(fixed)
-        .saturating_sub(24)
-        .clamp(LEAST_SHOWN, MOST_SHOWN);
     let mut said = String::new(alloc);
     said.push_str(parts.place.as_str())?;
     if let Some(bytes) = bytes {
-        said.push_str(", `")?;
-        put_cut(&mut said, bytes, focus, room)?;
-        said.push_str("`")?;
+        let room = parts.room(24).saturating_sub(parts.may.len());
+        put_line(&mut said, bytes, focus, room.clamp(LEAST_SHOWN, MOST_SHOWN))?;
     }
     write!(said, ": {}; here stands {}", parts.why, parts.may)?;
     bounded(alloc, said)
+}
+
+/// Appends a line's bytes, as many as there is room for.
+fn put_line(said: &mut String, bytes: &[u8], focus: usize, room: usize) -> Result<(), AllocError> {
+    said.push_str(", `")?;
+    put_cut(said, bytes, focus, room)?;
+    said.push_str("`")
 }
 
 /// How many bytes a byte takes where it is shown.

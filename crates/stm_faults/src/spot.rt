@@ -5,7 +5,7 @@ use stm_script::workload::Version;
 use stm_text::lines;
 
 /// What stands on a line.
-#[derive(Clone, Copy, Drop, Debug, PartialEq, Eq)]
+#[derive(Clone, Copy, Drop)]
 pub(crate) enum LineKind {
     /// The line of this number of the header, from 1 to 10.
     Head(usize),
@@ -21,7 +21,7 @@ pub(crate) enum LineKind {
 }
 
 /// Where a line stands, and what the header above it has, as far as the ranges of numbers go.
-#[derive(Clone, Copy, Drop, Debug, PartialEq, Eq)]
+#[derive(Clone, Copy, Drop)]
 pub(crate) struct Spot {
     pub(crate) place: LineKind,
     pub(crate) version: Version,

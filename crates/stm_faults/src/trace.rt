@@ -1,8 +1,9 @@
 //! The fault of a text that isn't one that `step` writes.
 ghost use Rattle.std.specs.Prelude.{◌≤◌, IfOk, string_len};
 
+use crate::at::At;
 use crate::report::report_fault;
-use crate::sentence::{Parts, bounded, told};
+use crate::sentence::{Parts, told, too_long};
 use crate::shown::{first_line, from_line, is_ended};
 use std::alloc::{AllocError, Global};
 use stm_check::words::first_word;
@@ -15,7 +16,7 @@ const TURNS: &str =
     "a turn, as `0 begin CGL` or `1 read 5`, or `finish`, or then `report 1` or `clock full C`";
 
 /// What stands above a line.
-#[derive(Clone, Copy, Drop, Debug, PartialEq, Eq)]
+#[derive(Clone, Copy, Drop)]
 enum Part {
     /// Lines of a trace alone.
     Trace,
@@ -59,20 +60,20 @@ pub fn unfit_line(alloc: Global, text: &[u8], line: usize) -> Result<String, Mem
     ensures { IfOk result (λ s. string_len s ≤ 200) }
 {
     let (head, behind) = part_at_done(text);
-    let number = line.saturating_sub(count_lines(head));
-    let parts = Parts {
-        place: format!(in alloc; "line {line} ({number} of the trace)")?,
-        why: "this isn't next in the workload".to_string(alloc)?,
-        may: "a begin where none is open and a transaction is left, the script's next operation, or after the last a commit".to_string(
-            alloc,
-        )?,
-    };
-    Ok(told(
-        alloc,
-        &parts,
-        Some(first_line(from_line(behind, number))),
-        0,
-    )?)
+    let above = count_lines(head);
+    let number = line.saturating_sub(above);
+    let mut parts = Parts::of(alloc, line_at(above, number))?;
+    parts.put(
+        "this isn't next in the workload",
+        "a begin where none is open and a transaction is left, the script's next operation, or after the last a commit",
+    )?;
+    let bytes = first_line(from_line(behind, number));
+    Ok(told(alloc, &parts, Some(bytes), 0)?)
+}
+
+/// Where a line of a trace stands that has so many lines above it.
+fn line_at(above: usize, number: usize) -> At {
+    At::below(above, number, "trace")
 }
 
 /// What is wrong with a line of a trace that has so many lines above it.
@@ -86,10 +87,7 @@ fn fault_below(
     ensures { IfOk result (λ s. string_len s ≤ 200) }
 {
     if line == 0 {
-        let said = format!(in alloc;
-            "the text has more than {most} bytes; here stands one of at most so many"
-        )?;
-        return Ok(bounded(alloc, said)?);
+        return Ok(too_long(alloc, "text", most, "one")?);
     }
     let (part, rest) = part_of(text, line);
     match part {
@@ -112,37 +110,33 @@ fn told_trace(
 ) -> Result<String, AllocError>
     ensures { IfOk result (λ s. string_len s ≤ 200) }
 {
-    let whole = above.saturating_add(line);
-    let (why, may) = match part {
-        Part::Closed => (
-            "nothing follows the line `clock full C`",
-            "the end of the text",
-        ),
-        _ => {
-            if rest.is_empty() {
-                ("the trace ends", TURNS)
-            } else if is_ended(rest) {
-                ("`step` writes no such line", TURNS)
-            } else {
-                ("the line has no LF at its end", TURNS)
-            }
-        }
-    };
-    let parts = Parts {
-        place: if above == 0 {
-            format!(in alloc; "line {whole}")?
-        } else {
-            format!(in alloc; "line {whole} ({line} of the trace)")?
-        },
-        why: why.to_string(alloc)?,
-        may: may.to_string(alloc)?,
-    };
+    let (why, may) = faults_of(part, rest);
+    let mut parts = Parts::of(alloc, line_at(above, line))?;
+    parts.put(why, may)?;
     let bytes = if rest.is_empty() {
         None
     } else {
         Some(first_line(rest))
     };
     told(alloc, &parts, bytes, 0)
+}
+
+/// Why a line of a trace is wrong, and what may stand there.
+fn faults_of(part: Part, rest: &[u8]) -> (&'static str, &'static str) {
+    if let Part::Closed = part {
+        return (
+            "nothing follows the line `clock full C`",
+            "the end of the text",
+        );
+    }
+    let why = if rest.is_empty() {
+        "the trace ends"
+    } else if is_ended(rest) {
+        "`step` writes no such line"
+    } else {
+        "the line has no LF at its end"
+    };
+    (why, TURNS)
 }
 
 /// What stands above a line, and what stands from that report's first line on, or from the line itself.

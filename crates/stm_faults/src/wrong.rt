@@ -1,8 +1,8 @@
 //! A line of a report that doesn't replay its workload, beside what is wanted there.
 ghost use Rattle.std.specs.Prelude.{◌≤◌, IfOk, string_len};
 
-use crate::report::line_name;
-use crate::sentence::{MOST_SAID, Parts, put_cut, put_word, told};
+use crate::report::line_at;
+use crate::sentence::{Parts, put_cut, put_word, told};
 use crate::shown::{first_line, from_line};
 use crate::words::{start_of, words_of};
 use std::alloc::{AllocError, Global};
@@ -58,19 +58,25 @@ fn wrong_below(
     let number = line.saturating_sub(above);
     let bytes = first_line(from_line(report, number));
     let words = words_of(alloc, bytes)?;
-    let mut parts = Parts {
-        place: line_name(alloc, above, number)?,
-        why: String::new(alloc),
-        may: String::new(alloc),
-    };
-    let at = match wanted {
-        Wanted::Row(row) => put_row(alloc, &mut parts, text, words.as_slice(), row)?,
-        wanted => {
-            put_wanted(&mut parts, text, words.as_slice(), wanted)?;
-            0
-        }
-    };
-    Ok(told(alloc, &parts, Some(bytes), start_of(words.as_slice(), at))?)
+    let mut parts = Parts::of(alloc, line_at(above, number))?;
+    let at = put(alloc, &mut parts, text, words.as_slice(), wanted)?;
+    let focus = start_of(words.as_slice(), at);
+    Ok(told(alloc, &parts, Some(bytes), focus)?)
+}
+
+/// Appends what the replay wants; and returns the number of the word that differs.
+fn put(
+    alloc: Global,
+    parts: &mut Parts,
+    text: &[u8],
+    words: &[&[u8]],
+    wanted: Wanted,
+) -> Result<usize, Memory> {
+    if let Wanted::Row(row) = wanted {
+        return put_row(alloc, parts, text, words, row);
+    }
+    put_wanted(parts, text, words, &wanted)?;
+    Ok(0)
 }
 
 /// The number that a word of a line is.
@@ -86,65 +92,86 @@ fn put_wanted(
     parts: &mut Parts,
     text: &[u8],
     words: &[&[u8]],
-    wanted: Wanted,
+    wanted: &Wanted,
 ) -> Result<(), AllocError> {
-    let place = number_at(words, 1);
-    let caller = number_at(words, 2);
     match wanted {
-        Wanted::Later => {
-            parts
-                .why
-                .push_str("it doesn't come after the row above it")?;
-            parts.may.push_str(
-                "a row that does: by place, then W before R and C, then by caller, then by number",
-            )
-        }
-        Wanted::Apart => {
-            write!(parts.why, "the W row above it has the place {place} too")?;
-            write!(parts.may, "a place above {place}")
-        }
-        Wanted::Next { seq } => {
-            let own = number_at(words, 3);
-            write!(
-                parts.why,
-                "transaction {seq} of caller {caller} is next, and this is {own}"
-            )?;
-            write!(parts.may, "the number {seq}")
-        }
-        Wanted::Over { count } => {
-            write!(
-                parts.why,
-                "caller {caller} has {count} transactions, and each has its row above"
-            )?;
-            write!(parts.may, "no row of caller {caller}")
-        }
-        Wanted::Missing { caller, seq } => {
-            write!(parts.why, "transaction {seq} of caller {caller}")?;
-            if let Some(line) = transaction_line(text, caller as u64, seq as u64) {
-                write!(parts.why, " (line {line} of the workload)")?;
-            }
-            parts.why.push_str(" has no row")?;
-            write!(
-                parts.may,
-                "`K PLACE {caller} {seq} : REPLIES`, K one of W, R, C"
-            )
-        }
-        Wanted::Word { address, value } => {
-            write!(
-                parts.why,
-                "the rows leave {value} in the word {address}, which is next"
-            )?;
-            write!(parts.may, "`mem {address} {value}`")
-        }
-        Wanted::End | Wanted::Row(_) => {
-            parts.why.push_str("no further word isn't 0")?;
-            parts.may.push_str("`end`")
-        }
+        Wanted::Later => parts.put(
+            "it doesn't come after the row above it",
+            "a row that does: by place, then W before R and C, then by caller, then by number",
+        ),
+        Wanted::Apart => put_place(parts, number_at(words, 1)),
+        Wanted::Next { seq } => put_next(parts, words, *seq),
+        Wanted::Over { count } => put_over(parts, number_at(words, 2), *count),
+        Wanted::Missing { caller, seq } => put_missing(parts, text, *caller, *seq),
+        Wanted::Word { address, value } => put_memory(parts, *address, *value),
+        Wanted::End | Wanted::Row(_) => parts.put("no further word isn't 0", "`end`"),
     }
 }
 
+/// Appends that a W row stands at this place already.
+fn put_place(parts: &mut Parts, place: u64) -> Result<(), AllocError> {
+    write!(parts.why, "the W row above it has the place {place} too")?;
+    write!(parts.may, "a place above {place}")
+}
+
+/// Appends which transaction of a row's caller is next.
+fn put_next(parts: &mut Parts, words: &[&[u8]], seq: usize) -> Result<(), AllocError> {
+    let caller = number_at(words, 2);
+    let own = number_at(words, 3);
+    write!(
+        parts.why,
+        "transaction {seq} of caller {caller} is next, and this is {own}"
+    )?;
+    write!(parts.may, "the number {seq}")
+}
+
+/// Appends that a caller has no more than so many transactions.
+fn put_over(parts: &mut Parts, caller: u64, count: usize) -> Result<(), AllocError> {
+    write!(
+        parts.why,
+        "caller {caller} has {count} transactions, and each has its row above"
+    )?;
+    write!(parts.may, "no row of caller {caller}")
+}
+
+/// Appends that this transaction has no row.
+fn put_missing(
+    parts: &mut Parts,
+    text: &[u8],
+    caller: usize,
+    seq: usize,
+) -> Result<(), AllocError> {
+    write!(parts.why, "transaction {seq} of caller {caller}")?;
+    put_begin(
+        &mut parts.why,
+        transaction_line(text, caller as u64, seq as u64),
+    )?;
+    parts.why.push_str(" has no row")?;
+    write!(
+        parts.may,
+        "`K PLACE {caller} {seq} : REPLIES`, K one of W, R, C"
+    )
+}
+
+/// Appends the line on which a transaction begins.
+fn put_begin(said: &mut String, line: Option<usize>) -> Result<(), AllocError> {
+    match line {
+        Some(line) => write!(said, " (line {line} of the workload)"),
+        None => Ok(()),
+    }
+}
+
+/// Appends that this word of the memory is next.
+fn put_memory(parts: &mut Parts, address: usize, value: u64) -> Result<(), AllocError> {
+    write!(
+        parts.why,
+        "the rows leave {value} in the word {address}, which is next"
+    )?;
+    write!(parts.may, "`mem {address} {value}`")
+}
+
 /// Where two rows differ first.
-#[derive(Clone, Copy, Drop, Debug, PartialEq, Eq)]
+#[derive(Clone, Copy, Drop)]
 enum Differing {
     Kind,
     /// The reply of this number, from 1.
@@ -163,38 +190,63 @@ fn put_row(
 ) -> Result<usize, Memory> {
     let caller = row.caller as u64;
     let seq = row.seq as u64;
-    let row = row_text(alloc, row)?;
-    let line = first_line(from_line(row.as_slice(), 2));
+    let report = row_text(alloc, row)?;
+    let line = first_line(from_line(report.as_slice(), 2));
+    let transaction = transaction_line(text, caller, seq);
+    Ok(put_rows(alloc, parts, text, transaction, words, line)?)
+}
+
+/// The same of a row's words, and of the line that is wanted, where its transaction begins on this line of the text.
+fn put_rows(
+    alloc: Global,
+    parts: &mut Parts,
+    text: &[u8],
+    transaction: Option<usize>,
+    words: &[&[u8]],
+    line: &[u8],
+) -> Result<usize, AllocError> {
     let wants = words_of(alloc, line)?;
-    let at = first_apart(words, wants.as_slice());
-    let (what, at) = difference(words, wants.as_slice(), at);
-    match what {
-        Differing::Kind => parts.why.push_str("its kind")?,
-        Differing::Reply(number) => {
-            write!(parts.why, "reply {number}")?;
-            put_operation(&mut parts.why, text, caller, seq, number, false)?;
-        }
-        Differing::Emit(number) => {
-            write!(parts.why, "emit {number}")?;
-            put_operation(&mut parts.why, text, caller, seq, number, true)?;
-        }
-    }
-    parts.why.push_str(": stands ")?;
-    put_or_none(&mut parts.why, words.get(at))?;
-    parts.why.push_str(", wanted ")?;
-    put_or_none(&mut parts.why, wants.get(at))?;
+    let (what, at) = difference(words, wants.as_slice());
+    put_difference(&mut parts.why, text, transaction, what)?;
+    put_both(&mut parts.why, words.get(at), wants.get(at))?;
     put_whole(parts, line)?;
     Ok(at)
 }
 
+/// Appends what differs, and the operation that gave it.
+fn put_difference(
+    why: &mut String,
+    text: &[u8],
+    transaction: Option<usize>,
+    what: Differing,
+) -> Result<(), AllocError> {
+    let (number, is_emit) = match what {
+        Differing::Kind => return why.push_str("its kind"),
+        Differing::Reply(number) => (number, false),
+        Differing::Emit(number) => (number, true),
+    };
+    write!(why, "{} {number}", if is_emit { "emit" } else { "reply" })?;
+    match transaction {
+        Some(line) => put_operation(why, text, line, number, is_emit),
+        None => Ok(()),
+    }
+}
+
+/// Appends both words.
+fn put_both(
+    why: &mut String,
+    stands: Option<&&[u8]>,
+    wanted: Option<&&[u8]>,
+) -> Result<(), AllocError> {
+    why.push_str(": stands ")?;
+    put_or_none(why, stands)?;
+    why.push_str(", wanted ")?;
+    put_or_none(why, wanted)
+}
+
 /// Appends the row wanted, where there is room for it.
 fn put_whole(parts: &mut Parts, line: &[u8]) -> Result<(), AllocError> {
-    let fixed = parts
-        .place
-        .len()
-        .saturating_add(parts.why.len())
-        .saturating_add(56);
-    if MOST_SAID.saturating_sub(fixed) < line.len() {
+    if parts.room(56) < line.len() {
         return parts.may.push_str("the row with what is wanted");
     }
     parts.may.push_str("`")?;
@@ -238,7 +290,8 @@ fn first_apart(words: &[&[u8]], wants: &[&[u8]]) -> usize {
 }
 
 /// What the first word apart is, and the number of the word to be shown.
-fn difference(words: &[&[u8]], wants: &[&[u8]], at: usize) -> (Differing, usize) {
+fn difference(words: &[&[u8]], wants: &[&[u8]]) -> (Differing, usize) {
+    let at = first_apart(words, wants);
     if at < 5 {
         return (Differing::Kind, 0);
     }
@@ -263,39 +316,45 @@ fn replies_end(words: &[&[u8]]) -> usize {
     words.len()
 }
 
-/// Appends the operation of a transaction that gave this reply or emit, and its line.
+/// Appends the operation that gave this reply or emit of the transaction that begins on a line, and its line.
 fn put_operation(
     said: &mut String,
     text: &[u8],
-    caller: u64,
-    seq: u64,
+    line: usize,
     number: usize,
     is_emit: bool,
 ) -> Result<(), AllocError> {
-    let Some(line) = transaction_line(text, caller, seq) else {
-        return Ok(());
-    };
-    let mut rest = from_line(text, line.saturating_add(1));
+    match operation(text, line, number, is_emit) {
+        Some((at, bytes)) => {
+            said.push_str(" (")?;
+            put_word(said, bytes)?;
+            write!(said, ", line {at} of the workload)")
+        }
+        None => Ok(()),
+    }
+}
+
+/// That operation and its line.
+fn operation(text: &[u8], line: usize, number: usize, is_emit: bool) -> Option<(usize, &[u8])> {
     let mut at = line.saturating_add(1);
+    let mut rest = from_line(text, at);
     let mut left = number;
     for _ in 0..text.len() {
         let bytes = first_line(rest);
         let (word, _) = first_word(bytes);
         if rest.is_empty() || lines::is(word, b"end") {
-            break;
+            return None;
         }
         if !is_emit || lines::is(word, b"emit") {
             left = left.saturating_sub(1);
         }
         if left == 0 {
-            said.push_str(" (")?;
-            put_word(said, bytes)?;
-            return write!(said, ", line {at} of the workload)");
+            return Some((at, bytes));
         }
         rest = from_line(rest, 2);
         at = at.saturating_add(1);
     }
-    Ok(())
+    None
 }
 
 /// The line on which a transaction of a caller begins, by its number from 0.

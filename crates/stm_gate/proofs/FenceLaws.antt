@@ -19,7 +19,7 @@ use Rattle.rule_base.specs.declared.views.View.{View}
 use Rattle.rule_base.specs.Bridge.{words_of, items, of_words, public_entry, public_history}
 use Rattle.rule_base.specs.Lemmas.BridgeLemmas.{length-words_of, words_of-at, words_of-words, words_of-zeros, words_of-over, item-none, legal-public, length-public_history}
 use Rattle.rule_base.specs.Lemmas.EncodingLemmas.{fence_from-number, fence_count-number}
-use Rattle.rule_base.specs.Encodings.{gate_word, fence_number, fenced}
+use Rattle.rule_base.specs.Encodings.{gate_word, fence_number, fenced, IsNamed}
 use Rattle.rule_base.specs.FenceSteps.{fence, fence_load, FenceLoads, fence_store, fence_entry, fence_commit, FenceCommits, CanFenceCommit, KeepsFenced, unfence, CanUnfence}
 use Rattle.rule_base.specs.History.{over, touches, word_now, upto, Below}
 use Rattle.rule_base.specs.Lemmas.HistoryLemmas.{over-miss, over-hit}
@@ -102,9 +102,9 @@ module _ (good : List ℕ → Type 0) (c : Config) (n : ℕ) where
   abbrev rule : (ℕ → ℕ) → Type 0
   rule = of_words good c.words
 
-  pub tells-fenced : (from count : ℕ) (alg : Alg) (v w : View) (o : Own) → from < 1048576 → count < 2097152 → HoldsClosed (known_of v o) → v.gate.fence ≡ 0
+  pub tells-fenced : (from count : ℕ) (alg : Alg) (v w : View) (o : Own) → IsNamed n from count → HoldsClosed (known_of v o) → v.gate.fence ≡ 0
       → Tells (fence n (fence_number n from count) alg) (FindsPast rule c) v (gate_word (fence_number n from count) (1 + n) alg) w → TakesRange good c n from count (known_of v o) (known_of w o)
-  tells-fenced from count alg v w o low few h free t = let more = later-seen t.0.history v.history.front t.0.clock t.1.below t.1.front in subst (λ (y : View). TakesRange good c n from count (known_of v o) (known_of y o)) (sym t.2) (record {
+  tells-fenced from count alg v w o named h free t = let more = later-seen t.0.history v.history.front t.0.clock t.1.below t.1.front in subst (λ (y : View). TakesRange good c n from count (known_of v o) (known_of y o)) (sym t.2) (record {
     closed = record {
       holds = record { phase = h.phase; running = h.running; closing = h.closing; holds = h.holds; ungranted = granted-same v.gate.algorithm last.gate v.gate v.lock refl ∙ h.ungranted; unlocked = h.unlocked };
       grows =
@@ -120,7 +120,7 @@ module _ (good : List ℕ → Type 0) (c : Config) (n : ℕ) where
     settled = refl;
     fence = refl;
     range = refl;
-    words = λ a. (λ i. if nat_le (fence_from-number n from count low few i) a then ltb a (fence_from-number n from count low few i + fence_count-number n from count low few i) else false);
+    words = λ a. (λ i. if nat_le (fence_from-number n from count named i) a then ltb a (fence_from-number n from count named i + fence_count-number n from count named i) else false);
     legal = legal-public good c t.0.history (t.0.clock + 1) t.1.below t.1.legal;
     later = more.0;
     seen = more.1 ∙ ap (λ s. s ++ more.0) (sym (ap public_history t.1.seen));

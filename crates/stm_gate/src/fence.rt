@@ -8,6 +8,7 @@
 //! attempt of another caller is late.
 ghost use Rattle.tx_answers.specs.Counting.{AddsAtMost};
 ghost use Rattle.std.specs.Prelude.{◌≡◌, ℕ, ◌<◌, ◌≤◌, ◌+◌, true};
+ghost use Rattle.stm_model.specs.Configs.{IsSmall, AreBlocks};
 ghost use Rattle.rule_base.specs.Encodings.{fenced};
 ghost use Rattle.stm_rule.specs.Callers.{IsOf, IsSameCaller};
 ghost use Rattle.tx_answers.specs.Answers.{HoldsClosed, SeesQuiet};
@@ -23,7 +24,8 @@ use stm_rule::stm::Stm;
 use tx_answers::answers::{Fence, Give};
 
 /// Takes `count` words from `from` out of the transactions. It asks for a memory that takes fences and a closing
-/// descriptor whose last look was quiet, leaves it closing, and takes one step.
+/// descriptor whose last look was quiet, leaves it closing, and takes one step. In a memory that isn't small the range is a
+/// number of blocks.
 ///
 /// `Taken` comes exactly where a range is out already, and takes no step.
 pub fn fence<K: MemRule>(desc: &mut Desc<K>, stm: &Stm<K>, from: usize, count: usize) -> Fence
@@ -34,6 +36,7 @@ pub fn fence<K: MemRule>(desc: &mut Desc<K>, stm: &Stm<K>, from: usize, count: u
         (known desc.old) }
     requires some { 1 ≤ count }
     requires inside { from + count ≤ stm.now.config.words }
+    requires blocks { (IsSmall stm.now.config → ⊥) → AreBlocks from × AreBlocks count }
     ensures same { IsSameCaller desc.old desc.new }
     ensures fences { Fences (K.good stm.now.rule) stm.now.config (number desc.old) from count result
         (known desc.old) (known desc.new) }

@@ -4,6 +4,7 @@
 //! A caller stores 1 in its status before it loads the gate. So whoever closes the gate and then finds a
 //! status 0 knows that this caller, should it announce later, will load a closed gate and withdraw
 //! (Spear, "Lightweight, Robust Adaptivity for Software Transactional Memory", SPAA 2010).
+ghost use Rattle.tx_bell.specs.Stripes.{Has};
 ghost use Rattle.stm_rule.specs.Counting.{TakesAtMost};
 ghost use Rattle.tx_answers.specs.Counting.{AddsAtMost};
 ghost use Rattle.std.specs.Prelude.{◌≡◌, ℕ, ◌<◌, true, false};
@@ -21,6 +22,7 @@ use rule_base::words::{alg_of, fence_of, holder_of};
 use stm_model::alg::Alg;
 use stm_model::rule::MemRule;
 use stm_rule::desc::Desc;
+use stm_rule::rung::Rung;
 use stm_rule::stm::{Stm, Token};
 use tx_answers::answers::{CloseGate, Look};
 
@@ -113,18 +115,22 @@ fn settle_for<K: MemRule>(seat: &mut Token<K>, stm: &Stm<K>, caller: usize, alg:
 }
 
 /// Reopens the gate, under the algorithm that it names. It asks for a closing descriptor, leaves it idle,
-/// is always done, and takes one step.
-pub fn reopen<K: MemRule>(desc: &mut Desc<K>, stm: &Stm<K>)
+/// is always done, and takes one step. It rings the memory's bell, since a range that was written directly may be back: one load
+/// while nobody waits, beside the table.
+pub fn reopen<K: MemRule>(desc: &mut Desc<K>, stm: &Stm<K>) -> Rung<K>
     requires stm { IsOf desc.old stm.now }
     requires closing { HoldsClosed (known desc.old) }
     ensures same { IsSameCaller desc.old desc.new }
     ensures reopens { Reopens (K.good stm.now.rule) stm.now.config (number desc.old)
         (known desc.old) (known desc.new) }
     ensures steps { AddsAtMost 1 (known desc.old) (known desc.new) }
+    ensures rung { result.at.value ≡ desc.new }
+    ensures all { (a : ℕ) → Has a result.stripes.value }
 {
     let caller = desc.number;
     let fence = desc.local.fence;
     let algorithm = desc.local.algorithm;
     stm.reopen(&mut desc.seat, caller, fence, algorithm);
     desc.local.holds = false;
+    Rung::ring_all(desc, stm)
 }

@@ -74,7 +74,7 @@ fn has_room_to_read(stm: &Stm<AnyMem>, desc: &mut Desc<AnyMem>) -> Option<bool>
         Read::Full { .. } => return Some(false),
         Read::Conflict(_) => return None,
     }
-    match commit(desc, stm) {
+    match commit(desc, stm).answer {
         Commit::ReadOnly { .. } => Some(true),
         _ => None,
     }
@@ -104,7 +104,7 @@ fn has_room_to_write(stm: &Stm<AnyMem>, desc: &mut Desc<AnyMem>) -> Option<bool>
         Write::Full { .. } => return Some(false),
         Write::Conflict(_) | Write::ClockFull { .. } => return None,
     }
-    match commit(desc, stm) {
+    match commit(desc, stm).answer {
         Commit::Committed { .. } => Some(true),
         _ => None,
     }

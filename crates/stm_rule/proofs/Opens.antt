@@ -2,14 +2,14 @@
 use Rattle.std.proofs.Common.{◌≡◌, ℕ, zero, suc, ◌≤◌, List, [], ◌∷◌, Bool, true, false, replicate, get_or, set, refl, sym, ap, ◌∙◌, subst, arith, le_refl, inl, inr}
 use Rattle.std.proofs.lemmas.List.{length-replicate}
 use Rattle.std.proofs.lemmas.Bool.Decides.{nat_tests}
-use Rattle.std.specs.Prelude.{nat_le, ◌&&◌, if◌then◌else◌, Some, None}
+use Rattle.std.specs.Prelude.{nat_le, ◌&&◌, ◌||◌, ◌%◌, ◌==◌, if◌then◌else◌, Some, None}
 use mathlib.Core.Option.{some, some-injective, some-ne-none}
 use lib.ListN.{get_elem?}
 use Rattle.atomic_table.specs.Table.{opening}
 use Rattle.rule_base.specs.declared.layout.At.{At}
 use Rattle.rule_base.specs.declared.layout.At.TheVariants.{Clock, Lock, Gate, Base, Done, Status, Record, Slot, Heap}
 use Rattle.stm_model.specs.declared.config.Config.{Config}
-use Rattle.stm_model.specs.declared.config.TheConstants.{MAX_WORDS, MAX_RECORDS, MIN_RING, MAX_RING, MAX_CALLERS, MAX_LOG, CLOCK_LIMIT}
+use Rattle.stm_model.specs.declared.config.TheConstants.{MOST_WORDS, MOST_RECORDS, MIN_RING, MOST_RING, MOST_CALLERS, SMALL_WORDS, SMALL_CALLERS, BLOCK, MOST_LOG, CLOCK_LIMIT}
 use Rattle.rule_base.specs.declared.seats.Role.TheVariants.{Dealer, Note}
 use Rattle.rule_base.specs.declared.seats.SeatView.{SeatView}
 use Rattle.rule_base.specs.Lemmas.EncodingLemmas.{fenced-none}
@@ -22,7 +22,7 @@ use Rattle.rule_base.specs.RecordRule.{record_projection, RecordRule}
 use Rattle.rule_base.specs.Lemmas.ListLemmas.{contains-none}
 use Rattle.rule_base.specs.Opening.{first_view, opening_world}
 use Rattle.rule_base.specs.Places.{offset, size, InRange}
-use Rattle.stm_model.specs.Configs.{IsConfig}
+use Rattle.stm_model.specs.Configs.{IsConfig, IsSmall, AreBlocks}
 use Rattle.rule_base.specs.Seating.{Claims, Seats}
 use Rattle.rule_base.specs.Lemmas.WordLemmas.{lies-write}
 use Rattle.rule_base.specs.World.{World, Lies, fetch}
@@ -33,7 +33,7 @@ use Rattle.stm_rule.specs.declared.stm.Key.{Key}
 use Rattle.stm_rule.specs.Kept.{good_of, Kept, newcomer}
 use Rattle.stm_rule.specs.Openings.{opening_words}
 use Rattle.stm_rule.specs.Product.{Core, Invariant}
-use Rattle.stm_rule.specs.Refusals.{in_range, first_fault}
+use Rattle.stm_rule.specs.Refusals.{in_range, are_fenced_in, first_fault}
 
 zeros_at : (n k : ℕ) → get_or {A = ℕ} (replicate n 0) k 0 ≡ 0
 zeros_at zero k = refl
@@ -184,27 +184,41 @@ module _ {K : Type 0} (good : K → List ℕ → Type 0) (c : Config) (rule : K)
 within : (low n high : ℕ) → in_range low n high ≡ true → (low ≤ n) × (n ≤ high)
 within low n high e = (grind (arith, nat_tests, e), grind (arith, nat_tests, e))
 
-pub no_fault : (c : Config) → first_fault c ≡ None → IsConfig c
-no_fault c e = go (in_range 1 c.words MAX_WORDS) (in_range 1 c.records MAX_RECORDS) (in_range MIN_RING c.ring MAX_RING) (in_range 1 c.callers MAX_CALLERS) (in_range 1 c.reads MAX_LOG) (in_range 1 c.writes MAX_LOG) (nat_le c.clock CLOCK_LIMIT)
-    refl refl refl refl refl refl refl e
+-- a memory that takes ranges out is small, or is a number of blocks
+fenced_in : (c : Config) → are_fenced_in c ≡ true → c.fence ≡ true → (IsSmall c → ⊥) → AreBlocks c.words
+fenced_in c e on large = by (nat_le c.words SMALL_WORDS) (nat_le c.callers SMALL_CALLERS) (c.words % BLOCK == 0) refl refl refl
+    (sym (ap (λ (t : Bool). if t then ((nat_le c.words SMALL_WORDS && nat_le c.callers SMALL_CALLERS) || c.words % BLOCK == 0) else true) on) ∙ e)
   where
-    go : (w r s k l m t : Bool) → in_range 1 c.words MAX_WORDS ≡ w → in_range 1 c.records MAX_RECORDS ≡ r
-        → in_range MIN_RING c.ring MAX_RING ≡ s → in_range 1 c.callers MAX_CALLERS ≡ k → in_range 1 c.reads MAX_LOG ≡ l
-        → in_range 1 c.writes MAX_LOG ≡ m → nat_le c.clock CLOCK_LIMIT ≡ t
-        → (if w then (if r then (if s then (if k then (if l && m then (if t then None else Some faults.Clock) else Some Logs) else Some Callers) else Some Ring) else Some Records) else Some Words) ≡ None → IsConfig c
-    go true true true true true true true a b d f g h i e = record {
-      words = within 1 c.words MAX_WORDS a;
-      records = within 1 c.records MAX_RECORDS b;
-      ring = within MIN_RING c.ring MAX_RING d;
-      callers = within 1 c.callers MAX_CALLERS f;
-      reads = within 1 c.reads MAX_LOG g;
-      writes = within 1 c.writes MAX_LOG h;
+    by : (x y z : Bool) → nat_le c.words SMALL_WORDS ≡ x → nat_le c.callers SMALL_CALLERS ≡ y → (c.words % BLOCK == 0) ≡ z → ((x && y) || z) ≡ true → AreBlocks c.words
+    by true true z a b d e = absurd (large (grind (arith, nat_tests, a), grind (arith, nat_tests, b)))
+    by true false true a b d e = grind (arith, nat_tests, d)
+    by false y true a b d e = grind (arith, nat_tests, d)
+    by true false false a b d e = absurd cc
+    by false y false a b d e = absurd cc
+
+pub no_fault : (c : Config) → first_fault c ≡ None → IsConfig c
+no_fault c e = go (in_range 1 c.words MOST_WORDS) (are_fenced_in c) (in_range 1 c.records MOST_RECORDS) (in_range MIN_RING c.ring MOST_RING) (in_range 1 c.callers MOST_CALLERS) (in_range 1 c.reads MOST_LOG) (in_range 1 c.writes MOST_LOG) (nat_le c.clock CLOCK_LIMIT)
+    refl refl refl refl refl refl refl refl e
+  where
+    go : (w q r s k l m t : Bool) → in_range 1 c.words MOST_WORDS ≡ w → are_fenced_in c ≡ q → in_range 1 c.records MOST_RECORDS ≡ r
+        → in_range MIN_RING c.ring MOST_RING ≡ s → in_range 1 c.callers MOST_CALLERS ≡ k → in_range 1 c.reads MOST_LOG ≡ l
+        → in_range 1 c.writes MOST_LOG ≡ m → nat_le c.clock CLOCK_LIMIT ≡ t
+        → (if w && q then (if r then (if s then (if k then (if l && m then (if t then None else Some faults.Clock) else Some Logs) else Some Callers) else Some Ring) else Some Records) else Some Words) ≡ None → IsConfig c
+    go true true true true true true true true a p b d f g h i e = record {
+      words = within 1 c.words MOST_WORDS a;
+      records = within 1 c.records MOST_RECORDS b;
+      ring = within MIN_RING c.ring MOST_RING d;
+      callers = within 1 c.callers MOST_CALLERS f;
+      reads = within 1 c.reads MOST_LOG g;
+      writes = within 1 c.writes MOST_LOG h;
       clock = grind (arith, nat_tests, i);
+      fenced = fenced_in c p;
     }
-    go false r s k l m t a b d f g h i e = absurd cc
-    go true false s k l m t a b d f g h i e = absurd cc
-    go true true false k l m t a b d f g h i e = absurd cc
-    go true true true false l m t a b d f g h i e = absurd cc
-    go true true true true false m t a b d f g h i e = absurd cc
-    go true true true true true false t a b d f g h i e = absurd cc
-    go true true true true true true false a b d f g h i e = absurd cc
+    go false q r s k l m t a p b d f g h i e = absurd cc
+    go true false r s k l m t a p b d f g h i e = absurd cc
+    go true true false s k l m t a p b d f g h i e = absurd cc
+    go true true true false k l m t a p b d f g h i e = absurd cc
+    go true true true true false l m t a p b d f g h i e = absurd cc
+    go true true true true true false m t a p b d f g h i e = absurd cc
+    go true true true true true true false t a p b d f g h i e = absurd cc
+    go true true true true true true true false a p b d f g h i e = absurd cc

@@ -17,6 +17,7 @@ mod note_kinds;
 pub mod opening;
 mod promotion_kinds;
 pub mod refusal;
+pub mod rung;
 mod splits;
 pub mod stm;
 mod tml_kinds;

@@ -47,10 +47,10 @@ pub struct Local {
 
 impl Local {
     /// No attempt runs, and the gate isn't closed. It takes the room of a read log, and of the logs of writes and of
-    /// records held, which are as long as each other, each 1 to 4,096.
+    /// records held, which are as long as each other, each 1 to 1,048,576.
     pub fn idle(alloc: Global, reads: usize, writes: usize) -> Result<Local, Memory>
         requires low { (1 ≤ reads) × (1 ≤ writes) }
-        requires high { (reads ≤ 4096) × (writes ≤ 4096) }
+        requires high { (reads ≤ 1048576) × (writes ≤ 1048576) }
         ensures { IfOk result (λ l. l ≡ idle_local reads writes) }
     {
         Ok(Local {

@@ -1,5 +1,6 @@
 //! The calls of the gate, on a range and on notes, and those of marks, each brought to its most steps.
 ghost use Rattle.std.specs.Prelude.{◌≡◌, ℕ, ◌≤◌, true};
+ghost use Rattle.stm_model.specs.Configs.{IsSmall};
 ghost use Rattle.rule_base.specs.Encodings.{fenced};
 ghost use Rattle.stm_rule.specs.Callers.{IsOf, IsSameCaller};
 ghost use Rattle.tx_answers.specs.Fences.{is_within};
@@ -70,6 +71,7 @@ fn count_fence(stm: &Stm<AnyMem>, desc: &mut Desc<AnyMem>) -> bool
     requires idle { IsIdle (known desc.old) }
     requires fences { stm.now.config.fence ≡ true }
     requires words { 8 ≤ stm.now.config.words }
+    requires small { IsSmall stm.now.config }
     ensures same { IsSameCaller desc.old desc.new }
     ensures idle { IsIdle (known desc.new) }
     ensures held { result ≡ true → (known desc.new).fenced.held ≡ true }
@@ -199,6 +201,7 @@ pub fn run(alloc: Global) -> bool {
 fn count_on_gate(mut odd: Opened) -> bool
     requires fences { odd.stm.config.fence ≡ true }
     requires words { 8 ≤ odd.stm.config.words }
+    requires small { IsSmall odd.stm.config }
     requires first { IsFresh odd.stm odd.first }
     requires second { IsFresh odd.stm odd.second }
 {
@@ -215,6 +218,7 @@ fn count_range(stm: &Stm<AnyMem>, desc: &mut Desc<AnyMem>) -> bool
     requires idle { IsIdle (known desc.old) }
     requires fences { stm.now.config.fence ≡ true }
     requires words { 8 ≤ stm.now.config.words }
+    requires small { IsSmall stm.now.config }
 {
     if !count_fence(stm, desc) {
         return false;

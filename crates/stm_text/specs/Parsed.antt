@@ -1,6 +1,6 @@
 -- What a workload of the grammar fits.
 use Rattle.std.specs.Prelude.{ℕ, ◌≡◌, ◌≤◌, ◌<◌, ◌+◌, ◌^◌, ◌⊎◌, Bool, true, false, ◌||◌, List, [], ◌∷◌, length, All}
-use Rattle.stm_model.specs.Configs.{IsConfig}
+use Rattle.stm_model.specs.declared.config.Config.{Config}
 use Rattle.stm_script.specs.Operations.{is_irrev}
 use Rattle.stm_script.specs.Reports.{regions_of}
 use Rattle.stm_script.specs.Workloads.{config_of, ItemsFit}
@@ -60,9 +60,19 @@ abbrev pub LayoutFits : Version → Header → Type 0
 LayoutFits One h = RegionsOne h × (h.policy ≡ Fixed)
 LayoutFits Two h = RegionsTwo h × HasWord h.policy
 
--- the sizes are those of a configuration and of the version
+-- the ranges of a header's sizes, as numerals; they are narrower than those of a memory
+pub record IsHeaderConfig (c : Config) : Type 0 where
+  pub words : (1 ≤ c.words) × (c.words ≤ 1048576)
+  pub records : (1 ≤ c.records) × (c.records ≤ 4096)
+  pub ring : (2 ≤ c.ring) × (c.ring ≤ 64)
+  pub callers : (1 ≤ c.callers) × (c.callers ≤ 32)
+  pub reads : (1 ≤ c.reads) × (c.reads ≤ 4096)
+  pub writes : (1 ≤ c.writes) × (c.writes ≤ 4096)
+  pub clock : c.clock ≤ 2 ^ 62
+
+-- the sizes are those of a header and of the version
 pub record HeaderFits (h : Header) : Type 0 where
-  pub config : IsConfig (config_of h)
+  pub config : IsHeaderConfig (config_of h)
   pub words : h.words ≤ most_words h.version
   pub layout : LayoutFits h.version h
 

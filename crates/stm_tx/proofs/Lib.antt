@@ -3,3 +3,4 @@ pub mod Stopping
 pub mod CostLaws
 pub mod MarkLaws
 pub mod FixedLaws
+pub mod StripeLaws

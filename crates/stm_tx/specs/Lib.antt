@@ -3,3 +3,4 @@ pub mod Fencing
 pub mod Nesting
 pub mod Costs
 pub mod Resting
+pub mod Rings

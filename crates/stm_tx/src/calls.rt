@@ -13,7 +13,9 @@ ghost use Rattle.stm_gate.specs.Starts.{CanBegin, Starts};
 ghost use Rattle.stm_model.specs.Algorithms.{closes_gate};
 ghost use Rattle.rule_base.specs.Encodings.{fenced};
 ghost use Rattle.stm_tx.specs.Descs.{Reserves, known, number};
+ghost use Rattle.stm_tx.specs.Rings.{HasRung};
 
+use crate::finish::{Finish, finish_with};
 use crate::under;
 use alg_calls::algorithm::Algorithm;
 use rule_base::words::{alg_of, fence_of, holder_of};
@@ -25,7 +27,7 @@ use stm_model::rule::MemRule;
 use stm_rule::desc::Desc;
 use stm_rule::local::Local;
 use stm_rule::stm::{Stm, Token};
-use tx_answers::answers::{Begin, Cancel, Commit, Irrev, Read, TxState, Write};
+use tx_answers::answers::{Begin, Cancel, Irrev, Read, TxState, Write};
 
 /// Tries to begin an attempt under the algorithm that the gate names. It asks for an idle descriptor.
 ///
@@ -133,7 +135,8 @@ pub fn write<K: MemRule>(desc: &mut Desc<K>, stm: &Stm<K>, a: usize, x: u64) -> 
     under!(desc.local.algorithm, A::write(desc, stm, a, x))
 }
 
-/// Commits the attempt. An attempt that wrote asks that it keeps the memory rule.
+/// Commits the attempt. An attempt that wrote asks that it keeps the memory rule. Where it has written it rings the memory's
+/// bell at last: one load while nobody waits, beside the steps. Where that was `heard`, who has a handle is to wake (`Bell::wake`).
 ///
 /// `Committed` comes only where the attempt wrote, `ReadOnly` only where it did not. All answers but `Again` leave
 /// the descriptor idle; after `Again` the attempt is to be committed again or cancelled. Under OrecLazy and OrecEager the
@@ -145,18 +148,20 @@ pub fn write<K: MemRule>(desc: &mut Desc<K>, stm: &Stm<K>, a: usize, x: u64) -> 
 /// such a record was newer than the start and after `Again`; under OrecEager one for each record, and two. Under
 /// RingSW 22, one for each word that it wrote, and the check of a read.
 #[inline(always)]
-pub fn commit<K: MemRule>(desc: &mut Desc<K>, stm: &Stm<K>) -> Commit
+pub fn commit<K: MemRule>(desc: &mut Desc<K>, stm: &Stm<K>) -> Finish<K>
     requires stm { IsOf desc.old stm.now }
     requires running { (known desc.old).running ≡ true }
     requires keeps { KeepsRule (K.good stm.now.rule) stm.now.config (number desc.old)
         (known desc.old) }
     ensures same { IsSameCaller desc.old desc.new }
-    ensures commits { Commits (K.good stm.now.rule) stm.now.config (number desc.old) result
+    ensures commits { Commits (K.good stm.now.rule) stm.now.config (number desc.old) result.answer
         (known desc.old) (known desc.new) }
+    ensures rung { HasRung result.answer result.rung desc.new }
     ensures steps { AddsAtMost (costs stm.now.config (known desc.old)).commit (known desc.old)
         (known desc.new) }
 {
-    under!(desc.local.algorithm, A::commit(desc, stm))
+    let answer = under!(desc.local.algorithm, A::commit(desc, stm));
+    finish_with(desc, stm, answer)
 }
 
 /// Ends the attempt without a trace, or answers `Irrevocable` and changes nothing: exactly where `is_irrevocable`.
@@ -191,7 +196,7 @@ pub fn try_irrevocable<K: MemRule>(desc: &mut Desc<K>, stm: &Stm<K>) -> Irrev
     under!(desc.local.algorithm, A::try_irrevocable(desc, stm))
 }
 
-/// Makes the read log `reads` items long and the logs of what is written `writes`, each 1 to 4,096, where they are
+/// Makes the read log `reads` items long and the logs of what is written `writes`, each 1 to 1,048,576, where they are
 /// shorter. It asks for an idle descriptor. It takes the room of longer logs beside that of the old ones; where
 /// memory is refused all is as before. No step.
 pub fn reserve<K: MemRule>(
@@ -201,7 +206,7 @@ pub fn reserve<K: MemRule>(
     writes: usize,
 ) -> Result<(), Memory>
     requires low { (1 ≤ reads) × (1 ≤ writes) }
-    requires high { (reads ≤ 4096) × (writes ≤ 4096) }
+    requires high { (reads ≤ 1048576) × (writes ≤ 1048576) }
     requires idle { IsIdle (known desc.old) }
     ensures same { IsSameCaller desc.old desc.new }
     ensures view { desc.new.view ≡ desc.old.view }

@@ -5,10 +5,12 @@
 
 pub mod calls;
 pub mod fencing;
+pub mod finish;
 pub mod laws;
 pub mod live;
 pub mod nesting;
 pub mod serving;
+pub mod stripes;
 mod under;
 
 pub use alg_orec::orec_eager::OrecEager;

@@ -8,8 +8,10 @@ ghost use Rattle.tx_answers.specs.Counting.{AddsAtMost};
 ghost use Rattle.tx_answers.specs.CallerState.{IsRunning};
 ghost use Rattle.stm_tx.specs.Costs.{costs};
 ghost use Rattle.stm_tx.specs.Descs.{known, number, Serves};
+ghost use Rattle.stm_tx.specs.Rings.{HasRung};
 
 use crate::calls;
+use crate::finish::{Finish, finish_with};
 use alg_calls::algorithm::Algorithm;
 use alg_seq::cgl::Cgl;
 use std::marker::PhantomData;
@@ -17,7 +19,7 @@ use stm_model::alg::Alg;
 use stm_model::rule::MemRule;
 use stm_rule::desc::Desc;
 use stm_rule::stm::Stm;
-use tx_answers::answers::{Commit, Read, Write};
+use tx_answers::answers::{Read, Write};
 
 /// Reads, writes and commits of the attempts that it serves. What they do, and what they cost, is said at
 /// `calls::read`, `calls::write` and `calls::commit`.
@@ -52,15 +54,16 @@ pub trait Calls {
         ensures steps { AddsAtMost (costs stm.now.config (known desc.old)).write (known desc.old)
             (known desc.new) };
 
-    fn commit<K: MemRule>(&self, desc: &mut Desc<K>, stm: &Stm<K>) -> Commit
+    fn commit<K: MemRule>(&self, desc: &mut Desc<K>, stm: &Stm<K>) -> Finish<K>
         requires stm { IsOf desc.old stm.now }
         requires running { (known desc.old).running ≡ true }
         requires served { Serves acts_as (known desc.old) }
         requires keeps { KeepsRule (K.good stm.now.rule) stm.now.config (number desc.old)
             (known desc.old) }
         ensures same { IsSameCaller desc.old desc.new }
-        ensures commits { Commits (K.good stm.now.rule) stm.now.config (number desc.old) result
+        ensures commits { Commits (K.good stm.now.rule) stm.now.config (number desc.old) result.answer
             (known desc.old) (known desc.new) }
+        ensures rung { HasRung result.answer result.rung desc.new }
         ensures steps { AddsAtMost (costs stm.now.config (known desc.old)).commit (known desc.old)
             (known desc.new) };
 
@@ -97,7 +100,7 @@ impl Calls for AnyAlgorithm {
     }
 
     #[inline(always)]
-    fn commit<K: MemRule>(&self, desc: &mut Desc<K>, stm: &Stm<K>) -> Commit {
+    fn commit<K: MemRule>(&self, desc: &mut Desc<K>, stm: &Stm<K>) -> Finish<K> {
         calls::commit(desc, stm)
     }
 }
@@ -135,8 +138,9 @@ impl<A: Algorithm> Calls for Under<A> {
     }
 
     #[inline(always)]
-    fn commit<K: MemRule>(&self, desc: &mut Desc<K>, stm: &Stm<K>) -> Commit {
-        A::commit(desc, stm)
+    fn commit<K: MemRule>(&self, desc: &mut Desc<K>, stm: &Stm<K>) -> Finish<K> {
+        let answer = A::commit(desc, stm);
+        finish_with(desc, stm, answer)
     }
 }
 
@@ -167,7 +171,8 @@ impl<A: Algorithm> Calls for Only<A> {
     }
 
     #[inline(always)]
-    fn commit<K: MemRule>(&self, desc: &mut Desc<K>, stm: &Stm<K>) -> Commit {
-        A::commit(desc, stm)
+    fn commit<K: MemRule>(&self, desc: &mut Desc<K>, stm: &Stm<K>) -> Finish<K> {
+        let answer = A::commit(desc, stm);
+        finish_with(desc, stm, answer)
     }
 }

@@ -3,11 +3,11 @@ use Rattle.std.specs.Prelude.{◌≡◌, Bool, true, false, List, [], ◌∷◌,
 use Rattle.stm_model.specs.declared.alg.Alg.{Alg}
 use Rattle.stm_script.specs.declared.report.Row.{Row}
 use Rattle.stm_script.specs.declared.workload.Header.{Header}
-use Rattle.tx_answers.specs.declared.answers.Begin.TheVariants.{Begun, Closed, Held, ClockFull}
+use Rattle.tx_answers.specs.declared.answers.Begin.TheVariants.{Begun}
 use Rattle.stm_trace.specs.Adapting.{no_profile}
 use Rattle.stm_trace.specs.declared.said.Phase.TheVariants.{Between}
 use Rattle.stm_trace.specs.declared.said.Said.{Said}
-use Rattle.stm_trace.specs.declared.said.Said.TheVariants.{TryBegin, Reply, Stopped, TryCancel, TryIrrevocable, TryCommit, TryClose, Looked, Installed, Reserved, Idle, Dropped, Reopened}
+use Rattle.stm_trace.specs.declared.said.Said.TheVariants.{TryBegin, Installed, Dropped, Reopened}
 use Rattle.stm_trace.specs.Places.{CallerProgress, after}
 use Rattle.stm_trace.specs.Turns.{MaySay, MayWind, IsFair, IsOver}
 use Rattle.stm_worker.specs.Installs.{InstallsBy, last_of}

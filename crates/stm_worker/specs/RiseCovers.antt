@@ -8,7 +8,7 @@ use Rattle.tx_answers.specs.CallerState.{CallerState, owed}
 use Rattle.stm_tx.specs.Descs.{known}
 use Rattle.stm_trace.specs.declared.said.Phase.TheVariants.{Inside}
 use Rattle.stm_trace.specs.declared.said.Said.{Said}
-use Rattle.stm_trace.specs.declared.said.Said.TheVariants.{TryBegin, Reply, Stopped, TryCancel, TryIrrevocable, TryCommit, TryClose, Looked, Installed, Reserved, Idle, Dropped, Reopened}
+use Rattle.stm_trace.specs.declared.said.Said.TheVariants.{TryBegin, Stopped, TryIrrevocable, TryCommit, Dropped}
 use Rattle.stm_trace.specs.Places.{CallerProgress, clock_of}
 use Rattle.stm_trace.specs.Turns.{MaySay, MayWind, MayFinish}
 use Rattle.stm_rule.specs.declared.stm.Stm.{Stm}

@@ -51,8 +51,12 @@ pub fn make_idle<K: MemRule>(stm: &Stm<K>, w: &mut Worker<K>)
     match w.phase {
         Phase::Between => {}
         Phase::Inside => end_attempt(stm, &mut w.desc),
-        Phase::Closing => reopen(&mut w.desc, stm),
-        Phase::Quiet => reopen(&mut w.desc, stm),
+        Phase::Closing => {
+            reopen(&mut w.desc, stm);
+        }
+        Phase::Quiet => {
+            reopen(&mut w.desc, stm);
+        }
     }
 }
 

@@ -567,7 +567,8 @@ impl<'a, K: MemRule> Worker<'a, K> {
     {
         self.pass(turnstile);
         self.passed = true;
-        match commit(&mut self.desc, stm) {
+        let answer = commit(&mut self.desc, stm).answer;
+        match answer {
             Commit::Committed { time } => {
                 self.end(Kind::W, time);
                 Commit::Committed { time }

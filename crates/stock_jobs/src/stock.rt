@@ -3,7 +3,7 @@ ghost use Rattle.std.specs.Prelude.{◌≡◌, ◌≤◌, length};
 ghost use Rattle.stock_jobs.specs.Stocks.{IsStocked, filled};
 
 use tx_transaction::transaction::Transaction;
-use tx_transaction::words::{read_three, read_two, write_three, write_two};
+use tx_transaction::words::{read_words, write_words};
 use tx_transaction::{Access, MemRule, Stop};
 
 /// Sixteen items. Word `n` of their memory has how many of item `n` were supplied, word `16 + n` how many are in stock,
@@ -38,13 +38,15 @@ impl Transaction<Inventory> for Supply {
     ghost postcondition = { λ it inventory words amount log. DoesOver IsStocked words (supplied_in it) nothing amount log };
 
     fn run<A: Access>(&self, _: &Inventory, memory: &mut A) -> Result<u64, Stop> {
-        let (supplied, stock) = read_two(memory, self.item, 16 + self.item)?;
+        let [supplied, stock] = read_words(memory, [self.item, 16 + self.item])?;
         let amount = self.amount.min(u64::MAX - supplied);
         // this can't wrap: what is in stock is a part of what was supplied
-        write_two(
+        write_words(
             memory,
-            (self.item, supplied + amount),
-            (16 + self.item, stock + amount),
+            [
+                (self.item, supplied + amount),
+                (16 + self.item, stock + amount),
+            ],
         )?;
         Ok(amount)
     }
@@ -100,14 +102,16 @@ impl Transaction<Inventory> for Fill {
 
     fn run<A: Access>(&self, _: &Inventory, memory: &mut A) -> Result<(u64, u64), Stop> {
         let item = self.item;
-        let (supplied, stock, reserved) = read_three(memory, item, 16 + item, 32 + item)?;
+        let [supplied, stock, reserved] = read_words(memory, [item, 16 + item, 32 + item])?;
         let left = self.filled(stock, reserved);
         // what was supplied and isn't in stock was sold
-        write_three(
+        write_words(
             memory,
-            (16 + item, left.0),
-            (32 + item, left.1),
-            (48 + item, supplied - left.0),
+            [
+                (16 + item, left.0),
+                (32 + item, left.1),
+                (48 + item, supplied - left.0),
+            ],
         )?;
         Ok(left)
     }

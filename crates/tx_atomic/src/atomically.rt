@@ -61,7 +61,7 @@ pub fn atomically<R: Wait, K: MemRule, T: Transaction<K>, O: Observer>(
         match pace.last {
             Ended::ClockFull => return None,
             ended => {
-                pace.wait(ended);
+                pace.wait(rt, stm, desc.number, ended);
                 failed = failed_next(failed, ended);
             }
         }

@@ -13,12 +13,14 @@ use crate::noting::Noting;
 use crate::observer::Observer;
 use crate::pace::{Pacing, Refused};
 use crate::tally::Ended;
+use crate::waking::wake_for;
 use std::sync::Wait;
 use stm_model::rule::MemRule;
 use stm_rule::desc::Desc;
 use stm_rule::stm::Stm;
 use stm_tx::calls::{algorithm, cancel, commit, try_begin, try_irrevocable};
 use stm_tx::fencing::fence_seen;
+use stm_tx::finish::Finish;
 use stm_tx::live::Live;
 use stm_tx::serving::{AnyAlgorithm, Calls, Only};
 use stm_tx::under;
@@ -193,7 +195,7 @@ fn promote<R: Wait, K: MemRule, O: Observer>(
             }
             Irrev::Busy { .. } => {
                 pace.tell(Ended::Busy, None);
-                pace.wait(Ended::Busy);
+                pace.wait(rt, stm, desc.number, Ended::Busy);
             }
             Irrev::Taken { .. } => {
                 // its holder waits for this very attempt to end
@@ -396,7 +398,9 @@ fn end<R: Wait, K: MemRule, C: Calls, O: Observer>(
     ensures unrefused { OnErr result (is_irrevocable (known desc.old) ≡ false) }
 {
     for _ in rt.forever() {
-        match calls.commit(desc, stm) {
+        let Finish { answer, rung } = calls.commit(desc, stm);
+        wake_for(stm, rung);
+        match answer {
             Commit::Committed { .. } | Commit::ReadOnly { .. } => return Ok(()),
             Commit::Again { word, .. } => {
                 pace.tell(Ended::Again, None);

@@ -5,8 +5,9 @@ use std::cell::Cell;
 use stm_model::rule::MemRule;
 use stm_rule::desc::Desc;
 use stm_rule::stm::Stm;
+use stm_tx::finish::Finish;
 use stm_tx::serving::Calls;
-use tx_answers::answers::{Commit, Read, Write};
+use tx_answers::answers::{Read, Write};
 
 /// The calls of others, and the address of the read or write that was refused last.
 #[derive(Drop)]
@@ -41,7 +42,7 @@ impl<C: Calls> Calls for Noting<C> {
     }
 
     #[inline(always)]
-    fn commit<K: MemRule>(&self, desc: &mut Desc<K>, stm: &Stm<K>) -> Commit {
+    fn commit<K: MemRule>(&self, desc: &mut Desc<K>, stm: &Stm<K>) -> Finish<K> {
         self.calls.commit(desc, stm)
     }
 

@@ -1,9 +1,13 @@
 //! What a caller waits by, what it counts, and who is told.
 ghost use Rattle.std.specs.Prelude.{◌≡◌};
 
+use crate::napping::nap;
 use crate::observer::Observer;
 use crate::tally::{Ended, Tally};
-use tx_backoff::Backoff;
+use std::sync::Wait;
+use stm_model::rule::MemRule;
+use stm_rule::stm::Stm;
+use tx_backoff::{Backoff, Patience};
 
 /// The next pause of a caller, what came of its attempts, and who is told of each that was refused.
 #[derive(Clone, Copy, Drop, Debug, PartialEq, Eq)]
@@ -13,6 +17,8 @@ pub struct Pacing<O> {
     pub observer: O,
     /// What an attempt was last refused by.
     pub last: Ended,
+    /// How long it spins before it sleeps, where it waits for what it needs.
+    pub patience: Patience,
 }
 
 /// An attempt was refused: `last` of its pacing says what by. It stands there and not here, so that an attempt that commits
@@ -46,6 +52,7 @@ impl<O> Pacing<O> {
             tally: Tally::new(),
             observer,
             last: Ended::Closed,
+            patience: Patience::new(),
         }
     }
 }
@@ -72,14 +79,16 @@ impl<O: Observer> Pacing<O> {
         Refused
     }
 
-    /// Counts what an attempt or a call of it came to, and pauses: longer where a lock was held.
-    pub fn wait(&mut self, ended: Ended)
+    /// Counts what an attempt or a call of it came to, and pauses: longer where a lock was held. Where another has closed the
+    /// gate, or a range is out, that may last: the caller sleeps after a while, until the gate is reopened.
+    pub fn wait<R: Wait, K: MemRule>(&mut self, rt: &R, stm: &Stm<K>, caller: usize, ended: Ended)
         ensures noted { self.new.tally ≡ noted ended self.old.tally }
         ensures commits { CommitsStay self.old.tally self.new.tally }
     {
         self.tally.note(ended);
         match ended {
             Ended::Held => self.backoff.wait_for_lock(),
+            Ended::Closed | Ended::Fenced | Ended::Taken => nap(rt, stm, caller, &mut self.backoff),
             _ => self.backoff.wait(),
         }
     }

@@ -8,6 +8,8 @@ ghost use Rattle.stm_tx.specs.Descs.{known, number};
 ghost use Rattle.tx_atomic.specs.Callers.{IsReady, IsThrough};
 ghost use Rattle.tx_atomic.specs.Switches.{IsHindered};
 
+use crate::napping::nap;
+use crate::waking::wake_for;
 use std::sync::Wait;
 use stm_model::alg::Alg;
 use stm_model::rule::MemRule;
@@ -44,7 +46,7 @@ pub fn close_alone<R: Wait, K: MemRule>(rt: &R, desc: &mut Desc<K>, stm: &Stm<K>
     for _ in rt.forever() {
         match close_gate(desc, stm) {
             CloseGate::Closed => return see_others_leave(rt, desc, stm),
-            CloseGate::Taken { .. } => backoff.wait(),
+            CloseGate::Taken { .. } => nap(rt, stm, desc.number, &mut backoff),
         }
     }
     unreachable!()
@@ -69,7 +71,7 @@ fn see_others_leave<R: Wait, K: MemRule>(rt: &R, desc: &mut Desc<K>, stm: &Stm<K
         looks = looks.saturating_add(1);
         match look(desc, stm) {
             Look::Quiet => return looks,
-            Look::Busy { .. } => backoff.wait(),
+            Look::Busy { .. } => nap(rt, stm, desc.number, &mut backoff),
         }
     }
     unreachable!()
@@ -88,7 +90,8 @@ pub fn switch_to<R: Wait, K: MemRule>(rt: &R, desc: &mut Desc<K>, stm: &Stm<K>, 
 {
     let looks = close_alone(rt, desc, stm);
     install(desc, stm, alg);
-    reopen(desc, stm);
+    let rung = reopen(desc, stm);
+    wake_for(stm, Some(rung));
     looks
 }
 

@@ -4,6 +4,10 @@
 //! Where what it read tells it that it can't go on, it answers None, having written nothing. That attempt commits as one
 //! that only read, and after a pause the next one begins. So it is the same under every algorithm, and for an
 //! irrevocable attempt too, which couldn't be taken back.
+//!
+//! Who has paused for a while sleeps, until another caller has committed a write. No wake-up is lost, since the wait is
+//! announced before the attempt on whose answer the caller sleeps, and rung for after the commit: a commit whose ring
+//! finds no announcement stands before that attempt reads. Of this the logic can say the waiter's half (`sleep`).
 ghost use Rattle.std.specs.Prelude.{◌≡◌, ℕ, [], IfSome, IfNone, Some, None};
 ghost use Rattle.stm_model.specs.Logs.{Log};
 ghost use Rattle.tx_answers.specs.Causes.{FindsFull};
@@ -16,16 +20,20 @@ ghost use Rattle.tx_atomic.specs.Tries.{RanAgain};
 use crate::atomically::atomically;
 use crate::observer::Observer;
 use crate::pace::Pacing;
+use std::snapshot::Snapshot;
 use std::sync::Wait;
 use stm_model::rule::MemRule;
 use stm_rule::desc::Desc;
 use stm_rule::stm::Stm;
-use tx_backoff::Backoff;
+use stm_tx::stripes;
+use tx_backoff::{Backoff, Patience};
+use tx_bell::bell::Announced;
+use tx_bell::stripes::Stripes;
 use tx_transaction::transaction::Transaction;
 
 /// Runs a transaction until it commits with an answer, and answers that. It took effect once, as in [`atomically`]; the
-/// attempts that answered None before left no entry. The pauses between these grow. The pace counts each of them as a
-/// commit.
+/// attempts that answered None before left no entry. The pauses between these grow, and then the caller sleeps until
+/// another has committed a write. The pace counts each of them as a commit.
 ///
 /// None where the clock was found at its limit, 2^62, and then nothing took effect.
 pub fn until_some<R: Wait, K: MemRule, V: Drop, T: Transaction<K, Output = Option<V>>, O: Observer>(
@@ -54,12 +62,122 @@ pub fn until_some<R: Wait, K: MemRule, V: Drop, T: Transaction<K, Output = Optio
         (Some ClockFull) (known desc.old) (known desc.new) pace.old.tally pace.new.tally) }
 {
     let mut backoff = Backoff::new();
+    let mut stripes = Stripes::none();
     for _ in rt.forever() {
+        // before the attempt: what is committed after that has read ends the sleep
+        let waiting = announce_late(desc, stm, stripes, &backoff);
         match atomically(rt, desc, stm, pace, transaction) {
-            None => return None,
-            Some(Some(answer)) => return Some(answer),
-            Some(None) => backoff.wait(),
+            None => {
+                withdraw(stm, waiting);
+                return None;
+            }
+            Some(Some(answer)) => {
+                withdraw(stm, waiting);
+                pace.patience.learn(&backoff);
+                return Some(answer);
+            }
+            Some(None) => {
+                let read = stripes::read(desc);
+                let announced = stripes.covers(read);
+                rest(
+                    rt,
+                    desc,
+                    stm,
+                    transaction,
+                    &mut backoff,
+                    &pace.patience,
+                    waiting,
+                    announced,
+                );
+                stripes = stripes.with(read);
+            }
         }
     }
     unreachable!()
+}
+
+/// A wait that a caller has announced.
+#[derive(Drop)]
+pub struct Waiting<K: MemRule> {
+    announced: Announced,
+    /// The caller as it announced it, for proofs alone.
+    pub since: Snapshot<Desc<K>>,
+}
+
+/// Announces that the caller will wait for words of these stripes, before it looks whether it has to.
+pub fn announce<K: MemRule>(desc: &Desc<K>, stm: &Stm<K>, stripes: Stripes) -> Waiting<K>
+    ensures { result.since.value ≡ desc.now }
+{
+    Waiting {
+        announced: stm.bell.announce(desc.number, stripes),
+        since: Snapshot::of(desc),
+    }
+}
+
+/// Sleeps until another caller has committed a write to a word of the stripes, or reopened the gate, since the wait was
+/// announced; it may also end for no reason, and ends after some milliseconds, for commits of who can't wake. Only who has
+/// looked since then may sleep: by a transaction that began after the announcement, and answered None as the last thing
+/// that the caller did.
+pub fn sleep<R: Wait, K: MemRule, V: Drop, T: Transaction<K, Output = Option<V>>>(
+    rt: &R,
+    desc: &Desc<K>,
+    stm: &Stm<K>,
+    transaction: &T,
+    waiting: Waiting<K>,
+)
+    requires looked { Took K.good (T.postcondition transaction.now) stm.now waiting.since.value None
+        desc.now }
+{
+    let _ = desc;
+    let _ = transaction;
+    stm.bell.sleep(rt, &waiting.announced);
+    stm.bell.withdraw(waiting.announced);
+}
+
+/// Announces a wait, where the caller has paused for so long that it is to sleep.
+fn announce_late<K: MemRule>(
+    desc: &Desc<K>,
+    stm: &Stm<K>,
+    stripes: Stripes,
+    backoff: &Backoff,
+) -> Option<Waiting<K>>
+    ensures { IfSome result (λ w. w.since.value ≡ desc.now) }
+{
+    if backoff.is_to_sleep() {
+        return Some(announce(desc, stm, stripes));
+    }
+    None
+}
+
+/// Ends a wait that came to no sleep.
+fn withdraw<K: MemRule>(stm: &Stm<K>, waiting: Option<Waiting<K>>) {
+    if let Some(waiting) = waiting {
+        stm.bell.withdraw(waiting.announced);
+    }
+}
+
+/// Sleeps, where a wait was announced before the transaction answered None, and for all that it read; else pauses.
+fn rest<R: Wait, K: MemRule, V: Drop, T: Transaction<K, Output = Option<V>>>(
+    rt: &R,
+    desc: &Desc<K>,
+    stm: &Stm<K>,
+    transaction: &T,
+    backoff: &mut Backoff,
+    patience: &Patience,
+    waiting: Option<Waiting<K>>,
+    announced: bool,
+)
+    requires looked { IfSome waiting (λ w.
+        Took K.good (T.postcondition transaction.now) stm.now w.since.value None desc.now) }
+{
+    match waiting {
+        Some(waiting) => {
+            if announced {
+                sleep(rt, desc, stm, transaction, waiting);
+            } else {
+                stm.bell.withdraw(waiting.announced);
+            }
+        }
+        None => backoff.wait_to_sleep(patience),
+    }
 }

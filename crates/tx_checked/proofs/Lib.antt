@@ -1,5 +1,6 @@
 pub mod Beside
 pub mod Ending
+pub mod GateLooks
 pub mod Giving
 pub mod Held
 pub mod NoteExchanges

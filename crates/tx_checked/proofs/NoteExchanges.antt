@@ -1,7 +1,7 @@
 -- The steps on a note exchange keep its rule.
-use Rattle.std.proofs.Common.{◌≡◌, ◌≢◌, ◌<◌, ◌⊎◌, ⊎_elim, ℕ, zero, suc, List, [], ◌∷◌, map, length, get_or, refl, sym, ap, ◌∙◌, subst, arith, eqb, inl, inr}
+use Rattle.std.proofs.Common.{◌≡◌, ◌≢◌, ◌<◌, ⊎_elim, ℕ, zero, suc, List, [], ◌∷◌, map, length, get_or, refl, sym, ap, ◌∙◌, subst, arith, eqb}
 use Rattle.std.proofs.lemmas.List.{length-set, length-map, length-replicate, get_or-set_same, get_or-set_other, get_or-replicate, set-get_or}
-use Rattle.std.specs.Prelude.{Option, Some, None, slice_index, slice_set, replicate}
+use Rattle.std.specs.Prelude.{Option, None, slice_index, slice_set, replicate}
 use mathlib.Core.Option.{some, none, some-injective, some-ne-none}
 use mathlib.Core.Logic.{dite}
 use native.Mathlib.Decide.{ℕ_discrete}
@@ -11,7 +11,7 @@ use Rattle.atomic_table.specs.Table.{State, Allows, Enters, Act, keeps, takes, g
 use Rattle.atomic_table.proofs.Lists.{at_set, at_snoc, set_here, set_else, set_again, some_there, exchanged}
 use Rattle.stm_model.specs.declared.rule.AnyMem.{AnyMem}
 use Rattle.stm_rule.specs.Callers.{Handle}
-use Rattle.tx_checked.specs.NoteExchanges.{IsOurs, Kept, Hand, Entered, Opened, Silent}
+use Rattle.tx_checked.specs.NoteExchanges.{IsOurs, Kept, Hand, Entered, Opened}
 
 abbrev Slot : Type 0
 Slot = Option (Handle AnyMem)

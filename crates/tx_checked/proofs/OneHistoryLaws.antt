@@ -1,5 +1,5 @@
 -- What the callers of one memory know is of one history.
-use Rattle.std.proofs.Common.{ℕ, ◌≡◌, ◌<◌, ◌≤◌, ◌+◌, List, [], ◌∷◌, ◌++◌, Bool, true, false, refl, sym, ap, ◌∙◌, subst, arith}
+use Rattle.std.proofs.Common.{ℕ, ◌≡◌, ◌≤◌, ◌+◌, List, [], ◌∷◌, ◌++◌, Bool, true, false, refl, sym, ap, ◌∙◌, subst, arith}
 use Rattle.std.specs.Prelude.{nat_le, ◌==◌, if◌then◌else◌}
 use Rattle.std.proofs.lemmas.Bool.Decides.{nat_tests}
 use Rattle.stm_model.specs.declared.config.Config.{Config}
@@ -8,7 +8,7 @@ use Rattle.stm_model.specs.Histories as public
 use Rattle.rule_base.specs.declared.entries.Entry.{Entry}
 use Rattle.rule_base.specs.declared.views.View.{View}
 use Rattle.rule_base.specs.Bridge.{public_history, of_words}
-use Rattle.rule_base.specs.History.{Below, upto, made_by, Legal}
+use Rattle.rule_base.specs.History.{Below, upto}
 use Rattle.rule_base.specs.Lemmas.BridgeLemmas.{legal-public, public_history-append, public_history-made_by}
 use Rattle.rule_base.specs.Lemmas.HistoryLemmas.{below-upto, made_by-none}
 use Rattle.rule_base.specs.Lemmas.SeenLemmas.{upto-rest}

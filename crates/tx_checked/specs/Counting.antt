@@ -36,7 +36,8 @@ after_wait c = record c { waits = next c.waits }
 -- a full clock, marks that stand, and what can't be taken back or is out are not counted
 abbrev pub after_refusal : Refusal → Counts → Counts
 after_refusal (refusals.Conflict cause) c = after_conflict cause c
-after_refusal (refusals.LogFull limit) c = record c { full_logs = next c.full_logs }
+after_refusal (refusals.ReadsFull limit) c = record c { full_logs = next c.full_logs }
+after_refusal (refusals.WritesFull limit) c = record c { full_logs = next c.full_logs }
 after_refusal (refusals.ClockFull clock) c = c
 after_refusal refusals.Irrevocable c = c
 after_refusal (refusals.Deep limit) c = c

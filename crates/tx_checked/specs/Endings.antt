@@ -35,4 +35,4 @@ pub record EndsAs (m n : CheckedCaller) (old ws : List ℕ) : Type 0 where
 
 abbrev pub HasEnded : CheckedCaller → CheckedCaller → List ℕ → List ℕ → Result (Unit {0}) Refusal → Type 0
 HasEnded m n old ws (Ok r) = EndsAs m n old ws
-HasEnded m n old ws (Err e) = IsLeft End e m n × IsTakeRefused (config_of m) (number_of m) (is_closing m.phase) 0 (config_of m).words e (known_to m) (known_to n) × (ws ≡ old)
+HasEnded m n old ws (Err e) = IsLeft End e m n × IsTakeRefused (config_of m) (number_of m) (is_closing m.phase) e (known_to m) (known_to n) × (ws ≡ old)

@@ -1,6 +1,7 @@
 -- When a call doesn't fit, and what it is refused for then.
-use Rattle.std.specs.Prelude.{ℕ, Bool, ltb, nat_le, ◌+◌, ◌&&◌, if◌then◌else◌, Option, Some, None}
+use Rattle.std.specs.Prelude.{ℕ, Bool, ltb, nat_le, ◌+◌, ◌%◌, ◌==◌, ◌&&◌, ◌||◌, if◌then◌else◌, Option, Some, None}
 use Rattle.rule_base.specs.Encodings.{fenced}
+use Rattle.stm_model.specs.declared.config.Config.{Config}
 use Rattle.stm_tx.specs.Nesting.{live_marks}
 use Rattle.tx_answers.specs.Fences.{is_within}
 use Rattle.tx_checked.specs.declared.errand.Errand.{Errand}
@@ -87,7 +88,7 @@ access a m = access_at a (config_of m).words (known_to m).fence m.phase
 abbrev pub at_mark : ℕ → CheckedCaller → Option Misuse
 at_mark d m = or_else (running m) (if nat_le 1 d then (if nat_le d (live_marks (known_to m)) then None else Some wrong.Depth) else Some wrong.Depth)
 
--- of a call that takes `count` words from `from`
+-- of a call that takes words; and of one that takes `count` of them from `from`
 abbrev pub takes_at : Bool → Option Misuse
 takes_at takes = if takes then None else Some wrong.NoRanges
 
@@ -98,11 +99,21 @@ holds_at (Some r) = Some wrong.HoldsRange
 abbrev pub reaches : ℕ → ℕ → ℕ → Option Misuse
 reaches from count words = if nat_le 1 count then (if nat_le (from + count) words then None else Some wrong.Address) else Some wrong.Address
 
-abbrev pub taking_for : Errand → ℕ → ℕ → CheckedCaller → Option Misuse
-taking_for errand from count m = or_else (doing errand m) (or_else (takes_at (config_of m).fence) (or_else (holds_at m.range) (reaches from count (config_of m).words)))
+-- in a memory that isn't small a range is a number of blocks
+abbrev pub is_small : Config → Bool
+is_small c = nat_le c.words 1048576 && nat_le c.callers 62
+
+abbrev pub are_blocks : ℕ → ℕ → Bool
+are_blocks from count = (from % 8192 == 0) && (count % 8192 == 0)
+
+abbrev pub cuts : ℕ → ℕ → Config → Option Misuse
+cuts from count c = if is_small c || are_blocks from count then None else Some wrong.Address
+
+abbrev pub taking_for : Errand → CheckedCaller → Option Misuse
+taking_for errand m = or_else (doing errand m) (or_else (takes_at (config_of m).fence) (holds_at m.range))
 
 abbrev pub taking : ℕ → ℕ → CheckedCaller → Option Misuse
-taking from count m = taking_for (Take from count) from count m
+taking from count m = or_else (taking_for (Take from count) m) (or_else (reaches from count (config_of m).words) (cuts from count (config_of m)))
 
 -- of one that gives a range back, and of one that asks for a there
 abbrev pub gives_at : Option Range → Option Misuse
@@ -119,16 +130,16 @@ giving m = or_else (doing Give m) (gives_at m.range)
 abbrev pub in_range : ℕ → CheckedCaller → Option Misuse
 in_range a m = or_else (outside m) (has_at a m.range)
 
--- of one that hands out all words, with so much room
+-- of one that hands out all words, with so much room: they are whole blocks, so it is never refused for an address
 abbrev pub room_at : ℕ → ℕ → Option Misuse
 room_at room words = if nat_le words room then None else Some wrong.Room
 
 abbrev pub ending : ℕ → CheckedCaller → Option Misuse
-ending room m = or_else (taking_for End 0 (config_of m).words m) (room_at room (config_of m).words)
+ending room m = or_else (taking_for End m) (room_at room (config_of m).words)
 
 -- of one that makes logs longer
 abbrev pub is_length : ℕ → Bool
-is_length n = nat_le 1 n && nat_le n 4096
+is_length n = nat_le 1 n && nat_le n 1048576
 
 abbrev pub lengths : ℕ → ℕ → Option Misuse
 lengths reads writes = if is_length reads && is_length writes then None else Some wrong.Logs

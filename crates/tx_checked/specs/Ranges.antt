@@ -74,7 +74,7 @@ HasTaken from count m n (Ok r) =
     × ((known_to n).made ≡ (known_to m).made) × ((known_to n).installs ≡ (known_to m).installs) × (n.phase ≡ Idle)
     × (n.range ≡ Some (record { from = from; count = count }))
     × (n.refusal ≡ m.refusal) × (n.counts ≡ m.counts)
-HasTaken from count m n (Err e) = IsLeft (errands.Take from count) e m n × IsTakeRefused (config_of m) (number_of m) (is_closing m.phase) from count e (known_to m) (known_to n)
+HasTaken from count m n (Err e) = IsLeft (errands.Take from count) e m n × IsTakeRefused (config_of m) (number_of m) (is_closing m.phase) e (known_to m) (known_to n)
 
 abbrev pub range_after : Give → Option Range → Option Range
 range_after (gives.Committed time) r = None

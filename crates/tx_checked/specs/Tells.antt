@@ -50,12 +50,12 @@ begin_refusal (begins.ClockFull clock) old = Some (refusals.ClockFull clock)
 abbrev pub read_refusal : Read → Option Refusal → Option Refusal
 read_refusal (reads.Value x) old = old
 read_refusal (reads.Conflict cause) old = Some (refusals.Conflict cause)
-read_refusal (reads.Full limit) old = Some (refusals.LogFull limit)
+read_refusal (reads.Full limit) old = Some (refusals.ReadsFull limit)
 
 abbrev pub write_refusal : Write → Option Refusal → Option Refusal
 write_refusal writes.Done old = old
 write_refusal (writes.Conflict cause) old = Some (refusals.Conflict cause)
-write_refusal (writes.Full limit) old = Some (refusals.LogFull limit)
+write_refusal (writes.Full limit) old = Some (refusals.WritesFull limit)
 write_refusal (writes.ClockFull clock) old = Some (refusals.ClockFull clock)
 
 abbrev pub commit_refusal : Commit → Option Refusal → Option Refusal

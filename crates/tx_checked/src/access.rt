@@ -42,8 +42,8 @@ impl CheckedCaller {
             Read::Full { limit } => {
                 self.phase = CallerPhase::Idle;
                 self.reach = 0;
-                self.refusal = Some(Refusal::LogFull { limit });
-                self.counts.refuse(Refusal::LogFull { limit });
+                self.refusal = Some(Refusal::ReadsFull { limit });
+                self.counts.refuse(Refusal::ReadsFull { limit });
                 Ok(Read::Full { limit })
             }
         }
@@ -68,8 +68,8 @@ impl CheckedCaller {
             Write::Full { limit } => {
                 self.phase = CallerPhase::Idle;
                 self.reach = 0;
-                self.refusal = Some(Refusal::LogFull { limit });
-                self.counts.refuse(Refusal::LogFull { limit });
+                self.refusal = Some(Refusal::WritesFull { limit });
+                self.counts.refuse(Refusal::WritesFull { limit });
                 Ok(Write::Full { limit })
             }
             Write::ClockFull { clock } => {

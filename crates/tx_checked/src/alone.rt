@@ -48,7 +48,11 @@ pub(crate) fn close_alone(
 }
 
 /// Closes the gate, where this caller isn't `closing` already.
-fn close(desc: &mut Desc<AnyMem>, stm: &Stm<AnyMem>, closing: bool) -> Result<(), Refusal>
+pub(crate) fn close(
+    desc: &mut Desc<AnyMem>,
+    stm: &Stm<AnyMem>,
+    closing: bool,
+) -> Result<(), Refusal>
     requires stm { IsOf desc.old stm.now }
     requires idle { closing ≡ false → IsIdle (known desc.old) }
     requires closed { closing ≡ true → HoldsClosed (known desc.old) }

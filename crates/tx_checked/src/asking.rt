@@ -9,7 +9,7 @@ use crate::checked_caller::CheckedCaller;
 use crate::misuse::Misuse;
 use std::alloc::Global;
 use stm_model::alg::Alg;
-use stm_model::config::MAX_LOG;
+use stm_model::config::MOST_LOG;
 use stm_model::memory::Memory;
 use stm_tx::calls;
 use stm_tx::fencing::fence_seen;
@@ -59,7 +59,7 @@ impl CheckedCaller {
             (HasReserved reads writes self.old self.new) self.old self.new result }
     {
         self.is_outside()?;
-        if reads < 1 || reads > MAX_LOG || writes < 1 || writes > MAX_LOG {
+        if reads < 1 || reads > MOST_LOG || writes < 1 || writes > MOST_LOG {
             return Err(Misuse::Logs);
         }
         Ok(calls::reserve(alloc, &mut self.desc, reads, writes))

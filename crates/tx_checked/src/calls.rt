@@ -81,7 +81,8 @@ impl CheckedCaller {
             result }
     {
         self.is_inside()?;
-        match calls.commit(&mut self.desc, &self.stm) {
+        let answer = calls.commit(&mut self.desc, &self.stm).answer;
+        match answer {
             Commit::Committed { time } => {
                 self.phase = CallerPhase::Idle;
                 self.reach = 0;

@@ -1,6 +1,7 @@
 //! The end of a memory, for one of its callers.
 ghost use Rattle.std.specs.Prelude.{◌≡◌, ℕ, ◌<◌, ◌≤◌, None, Some, [], true, false, length, slice_index, OnOk, IfOk, IfErr};
 ghost use Rattle.rule_base.specs.Encodings.{fenced};
+ghost use Rattle.stm_model.specs.Configs.{IsSmall, AreBlocks};
 ghost use Rattle.stm_model.specs.Histories.{memory_after};
 ghost use Rattle.stm_rule.specs.Callers.{IsOf, IsSameCaller};
 ghost use Rattle.stm_tx.specs.Descs.{known, number};
@@ -71,7 +72,8 @@ fn see_callers(desc: &mut Desc<AnyMem>, stm: &Stm<AnyMem>)
 impl CheckedCaller {
     /// Takes all words out of the transactions for good, once no other caller is in an attempt and where no range is out,
     /// and hands them out: they are the memory after all that was committed. No attempt reads or writes a word from then
-    /// on. `Busy` leaves the gate closed: the call goes on from there, and `reopen` gives it up.
+    /// on. `Busy` leaves the gate closed: the call goes on from there, and `reopen` gives it up. Where a range is out nobody is
+    /// waited for.
     pub fn end(&mut self, words: &mut [u64]) -> Result<Result<(), Refusal>, Misuse>
         ensures tells { Tells (ending (length words.old) self.old)
             (HasEnded self.old self.new words.old words.new) self.old self.new result }
@@ -106,11 +108,14 @@ impl CheckedCaller {
         ensures takes { OnOk result ((config_of self.now).fence ≡ true) }
         ensures none { OnOk result (self.now.range ≡ None) }
         ensures some { OnOk result (1 ≤ (config_of self.now).words) }
+        ensures blocks { OnOk result
+            ((IsSmall (config_of self.now) → ⊥)
+            → AreBlocks 0 × AreBlocks (config_of self.now).words) }
         ensures room { OnOk result ((config_of self.now).words ≤ room) }
         ensures fits { OnOk result (ending room self.now ≡ None) }
         ensures wrong { IfErr result (λ e. ending room self.now ≡ Some e) }
     {
-        let closing = self.may_take(Errand::End, 0, self.stm.config.words)?;
+        let closing = self.may_take_for(Errand::End)?;
         if self.stm.config.words > room {
             return Err(Misuse::Room);
         }

@@ -58,7 +58,9 @@ impl Counts {
             | Refusal::Held { .. }
             | Refusal::Busy { .. }
             | Refusal::Again { .. } => self.waits = self.waits.wrapping_add(1),
-            Refusal::LogFull { .. } => self.full_logs = self.full_logs.wrapping_add(1),
+            Refusal::ReadsFull { .. } | Refusal::WritesFull { .. } => self.full_logs = self
+                .full_logs
+                .wrapping_add(1),
             Refusal::ClockFull { .. }
             | Refusal::Irrevocable
             | Refusal::Deep { .. }

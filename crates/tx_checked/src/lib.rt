@@ -4,6 +4,7 @@
 
 pub mod access;
 mod alone;
+mod alone_for_range;
 pub mod asking;
 pub mod calls;
 pub mod checked_caller;

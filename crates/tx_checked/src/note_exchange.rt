@@ -101,15 +101,20 @@ impl NoteExchange {
         if found == wanted { Some(seat) } else { None }
     }
 
-    /// Lays a note into the place, for a caller. It is lost where there is no such place, or it isn't free.
+    /// Lays a note into the place, for a caller, over one that nobody has fetched: the place is its teller's. It is lost
+    /// where there is no such place, or another has it open.
     pub(crate) fn lay(&self, place: usize, caller: usize, note: Note<AnyMem>)
         requires { IsOfSameMemory self.now.table.shared.key note }
     {
         if place >= self.table.word_count() {
             return;
         }
-        if let Some(mut seat) = self.open(place, FREE) {
-            let shared = &self.table.shared;
+        let shared = &self.table.shared;
+        let (left, _) = shared.load_new_seat::<Enter>(place);
+        if left == OPEN {
+            return;
+        }
+        if let Some(mut seat) = self.open(place, left) {
             shared.exchange(&mut seat, place, Some(note));
             shared.store::<Shut>(&mut seat, place, letter_to(caller));
         }

@@ -31,7 +31,8 @@ impl CallerPhase {
             | Refusal::GateClosed { .. }
             | Refusal::Held { .. }
             | Refusal::Again { .. }
-            | Refusal::LogFull { .. }
+            | Refusal::ReadsFull { .. }
+            | Refusal::WritesFull { .. }
             | Refusal::ClockFull { .. }
             | Refusal::Irrevocable
             | Refusal::Deep { .. }

@@ -1,6 +1,7 @@
 //! Privatization, for a caller with its memory: it takes a range of words out of the transactions, reads and writes
 //! there directly, and gives it back.
 ghost use Rattle.std.specs.Prelude.{◌≡◌, ◌≤◌, ◌+◌, None, Some, true, false, OnOk, OnErr, IfOk, IfErr};
+ghost use Rattle.stm_model.specs.Configs.{IsSmall, AreBlocks};
 ghost use Rattle.rule_base.specs.Encodings.{fenced};
 ghost use Rattle.stm_rule.specs.Callers.{IsOf, IsSameCaller};
 ghost use Rattle.stm_tx.specs.Descs.{known, number};
@@ -10,16 +11,18 @@ ghost use Rattle.tx_answers.specs.CallerState.{Grows, IsIdle};
 ghost use Rattle.tx_checked.specs.Alone.{IsHeldUp, IsTakeRefused, FindsFullAt};
 ghost use Rattle.tx_checked.specs.Errands.{is_closing};
 ghost use Rattle.tx_checked.specs.CheckedCallers.{config_of, known_to};
-ghost use Rattle.tx_checked.specs.Misuses.{taking, taking_for, giving, in_range};
+ghost use Rattle.tx_checked.specs.Misuses.{taking, taking_for, giving, in_range, is_small, are_blocks};
 ghost use Rattle.tx_checked.specs.Ranges.{GrowsBeside, TakesOut, HasTaken, GivesBack, HasGiven, HasReadDirect, HasWrittenDirect};
 ghost use Rattle.tx_checked.specs.Tells.{Tells};
 
 use crate::alone::close_alone;
+use crate::alone_for_range::close_alone_for_range;
 use crate::checked_caller::{CheckedCaller, Range};
 use crate::errand::Errand;
 use crate::misuse::Misuse;
 use crate::phase::CallerPhase;
 use crate::refusal::Refusal;
+use stm_model::config::{BLOCK, Config, SMALL_CALLERS, SMALL_WORDS};
 use stm_model::rule::AnyMem;
 use stm_rule::desc::Desc;
 use stm_rule::stm::Stm;
@@ -41,6 +44,7 @@ pub(crate) fn take_out(
     requires takes { stm.now.config.fence ≡ true }
     requires some { 1 ≤ count }
     requires inside { from + count ≤ stm.now.config.words }
+    requires blocks { (IsSmall stm.now.config → ⊥) → AreBlocks from × AreBlocks count }
     ensures same { IsSameCaller desc.old desc.new }
     ensures idle { OnOk result (IsIdle (known desc.new)) }
     ensures grew { OnOk result (GrowsBeside (known desc.old) (known desc.new)) }
@@ -51,28 +55,41 @@ pub(crate) fn take_out(
     ensures rises { OnErr result ((known desc.new).rises ≡ (known desc.old).rises) }
     ensures installs { (known desc.new).installs ≡ (known desc.old).installs }
     ensures refused { IfErr result (λ e.
-        IsTakeRefused stm.now.config (number desc.old) closing from count e (known desc.old)
+        IsTakeRefused stm.now.config (number desc.old) closing e (known desc.old)
         (known desc.new)) }
 {
-    close_alone(desc, stm, closing)?;
+    close_alone_for_range(desc, stm, closing)?;
     let answer = fencing::fence(desc, stm, from, count);
     reopen(desc, stm);
     match answer {
         Fence::Fenced => Ok(()),
-        Fence::Taken { gate } => Err(Refusal::RangeTaken { gate }),
+        Fence::Taken { .. } => unreachable!(),
     }
+}
+
+/// Whether any range of the memory may be taken out, and not whole blocks alone.
+fn is_small(config: &Config) -> bool
+    ensures { result ≡ is_small config.now }
+{
+    config.words <= SMALL_WORDS && config.callers <= SMALL_CALLERS
+}
+
+/// Whether the range is a number of blocks.
+fn are_blocks(from: usize, count: usize) -> bool
+    ensures { result ≡ are_blocks from count }
+{
+    from % BLOCK == 0 && count % BLOCK == 0
 }
 
 impl CheckedCaller {
     /// Takes `count` words from `from` on out of the transactions, for this caller alone, once no other caller is in an
-    /// attempt and where no range is out. `Busy` leaves the gate closed: the same call goes on from there, and `reopen`
-    /// gives it up.
+    /// attempt and where no range is out: of one that is, the gate's word tells before anyone is waited for. `Busy` leaves
+    /// the gate closed: the same call goes on from there, and `reopen` gives it up.
     pub fn fence(&mut self, from: usize, count: usize) -> Result<Result<(), Refusal>, Misuse>
         ensures { Tells (taking from count self.old) (HasTaken from count self.old self.new)
             self.old self.new result }
     {
-        let errand = Errand::Take { from, count };
-        let closing = self.may_take(errand, from, count)?;
+        let closing = self.may_take(from, count)?;
         match take_out(&mut self.desc, &self.stm, closing, from, count) {
             Ok(()) => {
                 self.phase = CallerPhase::Idle;
@@ -82,7 +99,7 @@ impl CheckedCaller {
             }
             Err(refusal) => {
                 self.phase = CallerPhase::after(refusal);
-                self.errand = errand;
+                self.errand = Errand::Take { from, count };
                 self.reach = 0;
                 self.refusal = Some(refusal);
                 self.counts.refuse(refusal);
@@ -91,17 +108,15 @@ impl CheckedCaller {
         }
     }
 
-    /// Whether it may take this range for that call: the answer is whether the gate was closed for it before.
-    pub(crate) fn may_take(&self, errand: Errand, from: usize, count: usize) -> Result<bool, Misuse>
+    /// Whether it may take words for that call: the answer is whether the gate was closed for it before.
+    pub(crate) fn may_take_for(&self, errand: Errand) -> Result<bool, Misuse>
         ensures idle { IfOk result (λ closing. closing ≡ false → IsIdle (known_to self.now)) }
         ensures closed { IfOk result (λ closing. closing ≡ true → HoldsClosed (known_to self.now)) }
         ensures is { IfOk result (λ closing. closing ≡ is_closing self.now.phase) }
         ensures takes { OnOk result ((config_of self.now).fence ≡ true) }
         ensures none { OnOk result (self.now.range ≡ None) }
-        ensures some { OnOk result (1 ≤ count) }
-        ensures within { OnOk result (from + count ≤ (config_of self.now).words) }
-        ensures fits { OnOk result (taking_for errand from count self.now ≡ None) }
-        ensures wrong { IfErr result (λ e. taking_for errand from count self.now ≡ Some e) }
+        ensures fits { OnOk result (taking_for errand self.now ≡ None) }
+        ensures wrong { IfErr result (λ e. taking_for errand self.now ≡ Some e) }
     {
         let closing = self.may_do(errand)?;
         if !self.stm.config.fence {
@@ -110,8 +125,28 @@ impl CheckedCaller {
         if self.range.is_some() {
             return Err(Misuse::HoldsRange);
         }
+        Ok(closing)
+    }
+
+    /// Whether it may take this range, as above.
+    fn may_take(&self, from: usize, count: usize) -> Result<bool, Misuse>
+        ensures idle { IfOk result (λ closing. closing ≡ false → IsIdle (known_to self.now)) }
+        ensures closed { IfOk result (λ closing. closing ≡ true → HoldsClosed (known_to self.now)) }
+        ensures is { IfOk result (λ closing. closing ≡ is_closing self.now.phase) }
+        ensures takes { OnOk result ((config_of self.now).fence ≡ true) }
+        ensures some { OnOk result (1 ≤ count) }
+        ensures within { OnOk result (from + count ≤ (config_of self.now).words) }
+        ensures blocks { OnOk result
+            ((IsSmall (config_of self.now) → ⊥) → AreBlocks from × AreBlocks count) }
+        ensures fits { OnOk result (taking from count self.now ≡ None) }
+        ensures wrong { IfErr result (λ e. taking from count self.now ≡ Some e) }
+    {
+        let closing = self.may_take_for(Errand::Take { from, count })?;
         let words = self.stm.config.words;
         if count == 0 || count > words || from > words - count {
+            return Err(Misuse::Address);
+        }
+        if !is_small(&self.stm.config) && !are_blocks(from, count) {
             return Err(Misuse::Address);
         }
         Ok(closing)

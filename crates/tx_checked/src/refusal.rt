@@ -14,14 +14,16 @@ pub enum Refusal {
     Busy { caller: usize, status: u64 },
     /// Another commit was faster: word 0 is the clock, 1 the lock.
     Again { word: u64, had: u64, now: u64 },
-    /// A log has its length.
-    LogFull { limit: usize },
+    /// The read log has as many items as it may.
+    ReadsFull { limit: usize },
+    /// The logs of what is written have as many items as they may.
+    WritesFull { limit: usize },
     /// The clock is at its limit, 2^62.
     ClockFull { clock: u64 },
     /// The attempt can only be committed.
     Irrevocable,
     /// As many marks stand as may.
     Deep { limit: usize },
-    /// A range of words is out of the transactions already: this is the gate's word.
+    /// A range of words is out of the transactions already: this is the word of the open gate that names it.
     RangeTaken { gate: u64 },
 }

@@ -27,11 +27,11 @@ pub trait Calls<R: Wait, K: MemRule> {
     // from the one to the other the clock was found at its limit
     ghost full: { Self → Self → Type 0 };
 
-    /// The caller's number, from 0 on: one of the memory's, of which there are 32 at most.
+    /// The caller's number, from 0 on: one of the memory's, of which there are 254 at most.
     fn number(&self) -> usize
         ensures is { result ≡ (seat self.now).number }
         ensures one { result < (seat self.now).callers }
-        ensures low { result < 32 };
+        ensures low { result < 254 };
 
     /// Runs a transaction until it commits, and answers what it does. None where the clock was found at its limit.
     fn run<T: Transaction<K>>(&mut self, transaction: &T) -> Option<T::Output>

@@ -6,5 +6,6 @@ pub mod calls;
 pub mod closed;
 pub mod job;
 pub mod repeats;
+pub mod rounds;
 pub mod sizes;
 pub mod times;

@@ -1,7 +1,8 @@
-//! The job of running one transaction so many times.
+//! The jobs of doing one thing so many times.
 use crate::calls::Calls;
 use crate::job::Job;
 use crate::repeats::times;
+use crate::rounds::{Round, rounds};
 use std::sync::Wait;
 use stm_model::rule::MemRule;
 use tx_transaction::transaction::Transaction;
@@ -27,5 +28,27 @@ impl<R: Wait, K: MemRule, T: Transaction<K>> Job<R, K> for Times<T> {
     /// How often it took effect: fewer times only where the clock was found at its limit.
     fn work<C: Calls<R, K>>(&self, caller: &mut C) -> usize {
         times(caller, self.rounds, &self.transaction)
+    }
+}
+
+/// The job of doing so many rounds. Answers how many were done.
+#[derive(Drop)]
+pub struct Rounds<T> {
+    pub count: usize,
+    pub each: T,
+}
+
+impl<R: Wait, K: MemRule, T: Round<R, K>> Job<R, K> for Rounds<T> {
+    ghost use Rattle.std.specs.Prelude.{◌≤◌};
+    ghost use Rattle.tx_jobs.specs.Rounds.{Went};
+
+    type Output = usize;
+
+    ghost precondition = { λ job rule words. T.precondition job.each rule words };
+
+    ghost postcondition = { λ job rule words caller done before after. (done ≤ job.count) × Went (T.postcondition job.each rule words caller) job.count before done after };
+
+    fn work<C: Calls<R, K>>(&self, caller: &mut C) -> usize {
+        rounds(caller, self.count, &self.each)
     }
 }

@@ -15,8 +15,8 @@ use tx_queue::queue::Queue;
 use tx_sums::sum_map::SumMap;
 use tx_tree::tree::Tree;
 
-/// The most words that a memory may have, 2^20.
-pub const MOST_WORDS: usize = 1_048_576;
+/// The most words that a memory may have, 2^32.
+pub const MOST_WORDS: usize = 4_294_967_296;
 
 /// Hands out words from address 0 on, each once. Contracts see it as the number of words that it has handed out.
 #[derive(Drop)]

@@ -71,6 +71,15 @@ push-refused ms d a n ws e f =
     let m = get_or ms (d - 1) blank_mark in
     ap (set ms (d - 1)) (e ∙ ap (λ (o : Option ℕ). let k : Mark = record m { olds = record m.olds { items = keep_some o a m.olds.items } } in k) f) ∙ set-get_or ms (d - 1) blank_mark
 
+-- one at a new address, with the marks as they are
+pub new-tied : (ms : List Mark) (d a x : ℕ) (ws : List (ℕ × ℕ)) → d ≤ length ms → item_at a ws ≡ None → Once ws → Tied (take d ms) ws
+    → Tied (take d ms) (put a x ws) × (marked (take d ms) (put a x ws) ≡ marked (take d ms) ws)
+new-tied ms zero a x ws l f o t = (tt, refl)
+new-tied ms (suc d) a x ws l f o t =
+    let n = saved a ws (get_or ms (suc d - 1) blank_mark) in
+    subst (λ (ns : List Mark). Tied (take (suc d) ns) (put a x ws) × (marked (take (suc d) ns) (put a x ws) ≡ marked (take (suc d) ms) ws))
+    (push-refused ms (suc d) a n ws refl f) (push-tied ms (suc d) a x n ws (omega arith) l refl o t)
+
 -- what stands of a log with marks
 abbrev pub Whole : List Mark → ℕ → LogState → Type 0
 Whole ms d g = (length ms ≡ 8) × (d ≤ 8) × Rooms g.len ms × Tied (take d ms) g.items
@@ -94,6 +103,17 @@ pushed-view ms d a x n g h Done some l e o t p =
     (p.0, ap (with_marks (set ms (d - 1) n) d) p.1 ∙ ap (λ (ks : List (List (ℕ × ℕ))). let k : LogState = record g { items = put a x g.items; marks = ks } in k) (push-tied ms d a x n g.items some l e o t).1)
 pushed-view ms d a x n g h (Full limit) some l e o t p =
     (p.0, p.1, p.2, ap (with_marks (set ms (d - 1) n) d) p.3 ∙ ap (λ (ns : List Mark). with_marks ns d g) (push-refused ms d a n g.items e p.0))
+
+pub new-stands : (ms : List Mark) (d a x : ℕ) (g h : LogState) (r : Push) → d ≤ length ms → item_at a g.items ≡ None → Once g.items → Whole ms d g
+    → Pushes g a (put a x g.items) r h → Whole ms d h
+new-stands ms d a x g h Done l f o w p = subst (Whole ms d) (sym p.1) (w.0, w.1, w.2, (new-tied ms d a x g.items l f o w.3).0)
+new-stands ms d a x g h (Full limit) l f o w p = subst (Whole ms d) (sym p.3) w
+
+pub new-view : (ms : List Mark) (d a x : ℕ) (g h : LogState) (r : Push) → d ≤ length ms → item_at a g.items ≡ None → Once g.items → Tied (take d ms) g.items
+    → Pushes g a (put a x g.items) r h → Pushes (with_marks ms d g) a (put a x g.items) r (with_marks ms d h)
+new-view ms d a x g h Done l f o t p =
+    (p.0, ap (with_marks ms d) p.1 ∙ ap (λ (ks : List (List (ℕ × ℕ))). let k : LogState = record g { items = put a x g.items; marks = ks } in k) (new-tied ms d a x g.items l f o t).1)
+new-view ms d a x g h (Full limit) l f o t p = (p.0, p.1, p.2, ap (with_marks ms d) p.3)
 
 -- A ROLL BACK to the last mark
 pub restored-tied : (ms : List Mark) (d : ℕ) (n : Mark) (ws : List (ℕ × ℕ)) → 0 < d → d ≤ length ms → n ≡ emptied_mark (get_or ms (d - 1) blank_mark) → Tied (take d ms) ws

@@ -42,7 +42,7 @@ pub enum Homes {
 #[inline(always)]
 pub fn home(homes: Homes, buckets: usize, a: usize) -> usize
     requires some { 0 < buckets }
-    requires few { buckets ≤ 8192 }
+    requires few { buckets ≤ 2097152 }
     ensures is { result ≡ home_of homes buckets a }
     ensures within { result < buckets }
 {
@@ -62,7 +62,7 @@ pub fn look_up(
     generation: u32,
     a: usize,
 ) -> Lookup
-    requires few { length index.now ≤ 8192 }
+    requires few { length index.now ≤ 2097152 }
     requires indexed { IsIndex homes generation items.now index.now }
     requires room { length items.now < length index.now }
     ensures { IsLookup homes generation items.now index.now a result }
@@ -98,7 +98,7 @@ pub fn look_up(
 /// the first is open, no address is compared.
 #[inline(always)]
 pub fn take(homes: Homes, index: &mut [Bucket], items: &[(usize, u64)], generation: u32, a: usize)
-    requires few { length index.old ≤ 8192 }
+    requires few { length index.old ≤ 2097152 }
     requires indexed { IsIndex homes generation items.now index.old }
     requires room { length items.now < length index.old }
     requires new { item_at a items.now ≡ None }
@@ -116,7 +116,7 @@ pub fn take(homes: Homes, index: &mut [Bucket], items: &[(usize, u64)], generati
 
 /// Takes a bucket for each of the items, of which none has one.
 pub fn take_all(homes: Homes, index: &mut [Bucket], items: &[(usize, u64)], generation: u32)
-    requires few { length index.old ≤ 8192 }
+    requires few { length index.old ≤ 2097152 }
     requires blank { IsIndex homes generation [] index.old }
     requires room { length items.now < length index.old }
     requires once { Once items.now }

@@ -11,7 +11,7 @@ use std::alloc::Global;
 use std::marker::Model;
 use stm_model::memory::Memory;
 
-/// At most `len` items, 1 to 4,096, and an index of `2 * len` buckets. It takes 16 bytes an item and 16 for its two
+/// At most `len` items, 1 to 1,048,576, and an index of `2 * len` buckets. It takes 16 bytes an item and 16 for its two
 /// buckets. Contracts see a `LogState`: the list of the items, `len` and the generation.
 #[derive(Drop, Debug)]
 pub struct IndexedLog {
@@ -32,15 +32,15 @@ impl Model for IndexedLog {
 
     ghost view = { λ l. record { items = l.items.items; len = l.len; generation = l.generation; marks = [] } };
 
-    ghost invariant = { λ l. IsIndex Mixed l.generation l.items.items l.index.items × (length l.index.items ≡ 2 * l.len) × (length l.items.items ≤ l.len) × (1 ≤ l.len) × (l.len ≤ 4096) × (1 ≤ l.generation) × (l.len ≤ vec_capacity l.items) };
+    ghost invariant = { λ l. IsIndex Mixed l.generation l.items.items l.index.items × (length l.index.items ≡ 2 * l.len) × (length l.items.items ≤ l.len) × (1 ≤ l.len) × (l.len ≤ 1048576) × (1 ≤ l.generation) × (l.len ≤ vec_capacity l.items) };
 }
 
 impl IndexedLog {
-    /// An empty log of length `len`, 1 to 4,096, with this generation, 1 to 4,294,967,295. It takes all its room at
+    /// An empty log of length `len`, 1 to 1,048,576, with this generation, 1 to 4,294,967,295. It takes all its room at
     /// once, and writes each bucket.
     pub fn with_generation(alloc: Global, len: usize, generation: u32) -> Result<IndexedLog, Memory>
         requires low { 1 ≤ len }
-        requires high { len ≤ 4096 }
+        requires high { len ≤ 1048576 }
         requires counted { 1 ≤ generation }
         ensures { IfOk result (λ l. l ≡ empty_at len generation) }
     {
@@ -103,6 +103,7 @@ impl IndexedLog {
     /// How many buckets a lookup of the address would look at in an index by the address modulo the number of buckets: those
     /// from its home on that other addresses have, and one more. At most the number of items plus 1. It makes that index.
     pub fn probes(&self, a: usize) -> usize
+        requires short { self.now.len ≤ 4096 }
         ensures probed { IsProbed (2 * self.now.len) self.now.items a result }
         ensures high { result ≤ length self.now.items + 1 }
     {
@@ -120,7 +121,7 @@ impl IndexedLog {
         self.items.len()
     }
 
-    /// How many items there may be, 1 to 4,096.
+    /// How many items there may be, 1 to 1,048,576.
     pub fn len(&self) -> usize
         ensures { result ≡ self.now.len }
     {
@@ -187,11 +188,11 @@ impl IndexedLog {
         bucket.item = count as u32;
     }
 
-    /// Makes the length the greater of its old one and `len`, 1 to 4,096. Where memory is refused the log is as before.
+    /// Makes the length the greater of its old one and `len`, 1 to 1,048,576. Where memory is refused the log is as before.
     /// A greater length costs a push an item into a new log, whose room is taken beside the old one's.
     pub fn reserve(&mut self, alloc: Global, len: usize) -> Result<(), Memory>
         requires low { 1 ≤ len }
-        requires high { len ≤ 4096 }
+        requires high { len ≤ 1048576 }
         ensures { MatchResult result
             (λ _. self.new ≡ record self.old { len = max self.old.len len }) (λ _.
             self.new ≡ self.old) }

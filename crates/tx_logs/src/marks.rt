@@ -22,10 +22,10 @@ pub struct Mark {
     pub olds: UndoLog,
 }
 
-/// Room for `MAX_MARKS` marks of a log of length `len`, 1 to 4,096: 32 bytes an item each.
+/// Room for `MAX_MARKS` marks of a log of length `len`, 1 to 1,048,576: 32 bytes an item each.
 pub(crate) fn blank_marks(alloc: Global, len: usize) -> Result<Vec<Mark>, Memory>
     requires low { 1 ≤ len }
-    requires high { len ≤ 4096 }
+    requires high { len ≤ 1048576 }
     ensures { IfOk result (λ ms. AreBlank len ms.items) }
 {
     let mut marks = Vec::new(alloc);

@@ -25,10 +25,10 @@ impl Model for ReadLog {
 }
 
 impl ReadLog {
-    /// An empty log of length `len`, 1 to 4,096, in generation 1. It takes all its room at once, 32 bytes an item.
+    /// An empty log of length `len`, 1 to 1,048,576, in generation 1. It takes all its room at once, 32 bytes an item.
     pub fn new(alloc: Global, len: usize) -> Result<ReadLog, Memory>
         requires low { 1 ≤ len }
-        requires high { len ≤ 4096 }
+        requires high { len ≤ 1048576 }
         ensures { IfOk result (λ l. l ≡ empty_at len 1) }
     {
         Ok(ReadLog {
@@ -36,11 +36,11 @@ impl ReadLog {
         })
     }
 
-    /// Makes the length the greater of its old one and `len`, 1 to 4,096, at the cost of a push an item. Where memory
+    /// Makes the length the greater of its old one and `len`, 1 to 1,048,576, at the cost of a push an item. Where memory
     /// is refused the log is as before.
     pub fn reserve(&mut self, alloc: Global, len: usize) -> Result<(), Memory>
         requires low { 1 ≤ len }
-        requires high { len ≤ 4096 }
+        requires high { len ≤ 1048576 }
         ensures { MatchResult result
             (λ _. self.new ≡ record self.old { len = max self.old.len len }) (λ _.
             self.new ≡ self.old) }
@@ -98,6 +98,7 @@ impl ReadLog {
     /// How many buckets a lookup of the address would look at in an index by the address modulo the number of buckets: those
     /// from its home on that other addresses have, and one more. At most the number of items plus 1.
     pub fn probes(&self, a: usize) -> usize
+        requires short { self.now.len ≤ 4096 }
         ensures probed { IsProbed (2 * self.now.len) self.now.items a result }
         ensures high { result ≤ length self.now.items + 1 }
     {
@@ -114,7 +115,7 @@ impl ReadLog {
         self.log.count()
     }
 
-    /// How many items there may be, 1 to 4,096.
+    /// How many items there may be, 1 to 1,048,576.
     #[inline]
     pub fn len(&self) -> usize
         ensures { result ≡ self.now.len }

@@ -16,7 +16,7 @@ use stm_model::memory::Memory;
 /// So many items are looked through: an index would cost more.
 const SHORT: usize = 8;
 
-/// At most `len` items, 1 to 4,096, and an index of `2 * len` buckets. It takes 16 bytes an item and 16 for its two
+/// At most `len` items, 1 to 1,048,576, and an index of `2 * len` buckets. It takes 16 bytes an item and 16 for its two
 /// buckets. Contracts see a `LogState`: the list of the items, `len` and the generation.
 #[derive(Drop, Debug)]
 pub struct ShortLog {
@@ -40,15 +40,15 @@ impl Model for ShortLog {
 
     ghost view = { λ l. record { items = l.items.items; len = l.len; generation = l.generation; marks = [] } };
 
-    ghost invariant = { λ l. IsKept l.short l.seen l.generation l.items.items l.index.items × (l.short ≤ l.len) × (length l.index.items ≡ 2 * l.len) × (length l.items.items ≤ l.len) × (1 ≤ l.len) × (l.len ≤ 4096) × (1 ≤ l.generation) × (l.len ≤ vec_capacity l.items) };
+    ghost invariant = { λ l. IsKept l.short l.seen l.generation l.items.items l.index.items × (l.short ≤ l.len) × (length l.index.items ≡ 2 * l.len) × (length l.items.items ≤ l.len) × (1 ≤ l.len) × (l.len ≤ 1048576) × (1 ≤ l.generation) × (l.len ≤ vec_capacity l.items) };
 }
 
 impl ShortLog {
-    /// An empty log of length `len`, 1 to 4,096, with this generation, 1 to 4,294,967,295. It takes all its room at
+    /// An empty log of length `len`, 1 to 1,048,576, with this generation, 1 to 4,294,967,295. It takes all its room at
     /// once, and writes each bucket.
     pub fn with_generation(alloc: Global, len: usize, generation: u32) -> Result<ShortLog, Memory>
         requires low { 1 ≤ len }
-        requires high { len ≤ 4096 }
+        requires high { len ≤ 1048576 }
         requires counted { 1 ≤ generation }
         ensures { IfOk result (λ l. l ≡ empty_at len generation) }
     {
@@ -104,6 +104,7 @@ impl ShortLog {
     /// How many buckets a lookup of the address would look at in an index by the address modulo the number of buckets: those
     /// from its home on that other addresses have, and one more. At most the number of items plus 1. It makes that index.
     pub fn probes(&self, a: usize) -> usize
+        requires short { self.now.len ≤ 4096 }
         ensures probed { IsProbed (2 * self.now.len) self.now.items a result }
         ensures high { result ≤ length self.now.items + 1 }
     {
@@ -121,7 +122,7 @@ impl ShortLog {
         self.items.len()
     }
 
-    /// How many items there may be, 1 to 4,096.
+    /// How many items there may be, 1 to 1,048,576.
     pub fn len(&self) -> usize
         ensures { result ≡ self.now.len }
     {
@@ -176,9 +177,9 @@ impl ShortLog {
         }
     }
 
-    /// The same where no item has the address, so that `repeat` tells nothing.
+    /// The same where no item has the address, so that `repeat` tells nothing. No lookup while the log is short, one else.
     #[inline(always)]
-    fn push_new(&mut self, a: usize, v: u64, repeat: Repeat) -> Push
+    pub fn push_new(&mut self, a: usize, v: u64, repeat: Repeat) -> Push
         requires { item_at a self.old.items ≡ None }
         ensures { Pushes self.old a (pushed repeat a v self.old.items) result self.new }
     {
@@ -256,11 +257,11 @@ impl ShortLog {
         }
     }
 
-    /// Makes the length the greater of its old one and `len`, 1 to 4,096. Where memory is refused the log is as before.
+    /// Makes the length the greater of its old one and `len`, 1 to 1,048,576. Where memory is refused the log is as before.
     /// A greater length costs a push an item into a new log, whose room is taken beside the old one's.
     pub fn reserve(&mut self, alloc: Global, len: usize) -> Result<(), Memory>
         requires low { 1 ≤ len }
-        requires high { len ≤ 4096 }
+        requires high { len ≤ 1048576 }
         ensures { MatchResult result
             (λ _. self.new ≡ record self.old { len = max self.old.len len }) (λ _.
             self.new ≡ self.old) }
@@ -285,7 +286,7 @@ impl ShortLog {
     {
         self.items.clear();
         self.seen = 0;
-        self.short = short_from(self.short, self.len);
+        begin_short(&mut self.short, self.len);
         self.generation = self.generation.wrapping_add(1);
         if self.generation == 0 {
             clear_marks(&mut self.index);
@@ -306,15 +307,18 @@ impl ShortLog {
     }
 }
 
-/// Up to so many items an emptied log of this length is short: as many as before, unless it was no longer short.
+/// Makes an emptied log of this length short again, where it was no longer. It tests first: a begin empties logs that were
+/// short, and then loads no length.
 #[inline(always)]
-fn short_from(short: usize, len: usize) -> usize
-    requires { (short ≤ 8) × (short ≤ len) }
-    ensures most { result ≤ 8 }
-    ensures within { result ≤ len }
-    ensures some { 1 ≤ len → 1 ≤ result }
+fn begin_short(short: &mut usize, len: usize)
+    requires { (short.old ≤ 8) × (short.old ≤ len) }
+    ensures most { short.new ≤ 8 }
+    ensures within { short.new ≤ len }
+    ensures some { 1 ≤ len → 1 ≤ short.new }
 {
-    if short == 0 { len.min(SHORT) } else { short }
+    if *short == 0 {
+        *short = len.min(SHORT);
+    }
 }
 
 /// The bit of an address, by its last six bits.

@@ -1,5 +1,5 @@
 //! What an attempt must put back.
-ghost use Rattle.std.specs.Prelude.{◌*◌, ◌≡◌, ◌≤◌, ◌<◌, ◌+◌, [], IfOk, MatchResult, length, max, slice_index_or, take};
+ghost use Rattle.std.specs.Prelude.{◌*◌, ◌≡◌, ◌≤◌, ◌<◌, ◌+◌, [], None, IfOk, MatchResult, length, max, slice_index_or, take};
 ghost use Rattle.stm_model.specs.Memories.{item_at, Once};
 ghost use Rattle.tx_logs.specs.Probing.{IsProbed};
 ghost use Rattle.tx_logs.specs.LogStates.{LogState, Pushes, empty_at, next_generation, renewed, keep, with_last};
@@ -25,10 +25,10 @@ impl Model for UndoLog {
 }
 
 impl UndoLog {
-    /// An empty log of length `len`, 1 to 4,096, in generation 1. It takes all its room at once, 32 bytes an item.
+    /// An empty log of length `len`, 1 to 1,048,576, in generation 1. It takes all its room at once, 32 bytes an item.
     pub fn new(alloc: Global, len: usize) -> Result<UndoLog, Memory>
         requires low { 1 ≤ len }
-        requires high { len ≤ 4096 }
+        requires high { len ≤ 1048576 }
         ensures { IfOk result (λ l. l ≡ empty_at len 1) }
     {
         Ok(UndoLog {
@@ -36,11 +36,11 @@ impl UndoLog {
         })
     }
 
-    /// Makes the length the greater of its old one and `len`, 1 to 4,096, at the cost of a push an item. Where memory
+    /// Makes the length the greater of its old one and `len`, 1 to 1,048,576, at the cost of a push an item. Where memory
     /// is refused the log is as before.
     pub fn reserve(&mut self, alloc: Global, len: usize) -> Result<(), Memory>
         requires low { 1 ≤ len }
-        requires high { len ≤ 4096 }
+        requires high { len ≤ 1048576 }
         ensures { MatchResult result
             (λ _. self.new ≡ record self.old { len = max self.old.len len }) (λ _.
             self.new ≡ self.old) }
@@ -55,6 +55,15 @@ impl UndoLog {
         ensures { Pushes self.old a (keep a v self.old.items) result self.new }
     {
         self.log.push(a, v, Repeat::Keep)
+    }
+
+    /// The same where no item has the address. No lookup while the log is short, one else.
+    #[inline(always)]
+    pub fn push_new(&mut self, a: usize, v: u64) -> Push
+        requires new { item_at a self.old.items ≡ None }
+        ensures { Pushes self.old a (keep a v self.old.items) result self.new }
+    {
+        self.log.push_new(a, v, Repeat::Keep)
     }
 
     /// Puts the value in the place of the last item's, whose address stays: that of an item which a push has just made.
@@ -78,6 +87,7 @@ impl UndoLog {
     /// How many buckets a lookup of the address would look at in an index by the address modulo the number of buckets: those
     /// from its home on that other addresses have, and one more. At most the number of items plus 1.
     pub fn probes(&self, a: usize) -> usize
+        requires short { self.now.len ≤ 4096 }
         ensures probed { IsProbed (2 * self.now.len) self.now.items a result }
         ensures high { result ≤ length self.now.items + 1 }
     {
@@ -95,7 +105,7 @@ impl UndoLog {
         self.log.count()
     }
 
-    /// How many items there may be, 1 to 4,096.
+    /// How many items there may be, 1 to 1,048,576.
     #[inline]
     pub fn len(&self) -> usize
         ensures { result ≡ self.now.len }

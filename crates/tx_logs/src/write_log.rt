@@ -1,5 +1,5 @@
 //! What an attempt has written.
-ghost use Rattle.std.specs.Prelude.{◌*◌, ◌≡◌, ◌≤◌, ◌<◌, ◌+◌, ◌-◌, [], ◌∷◌, ◌++◌, IfOk, MatchResult, length, max, slice_index_or, get_or, take};
+ghost use Rattle.std.specs.Prelude.{◌*◌, ◌≡◌, ◌≤◌, ◌<◌, ◌+◌, ◌-◌, [], ◌∷◌, ◌++◌, None, IfOk, MatchResult, length, max, slice_index_or, get_or, take};
 ghost use Rattle.stm_model.specs.Memories.{item_at, Once, put};
 ghost use Rattle.tx_logs.specs.Probing.{IsProbed};
 ghost use Rattle.tx_logs.specs.LogStates.{LogState, Pushes, empty_at, next_generation, renewed, rolled, firsts};
@@ -35,10 +35,10 @@ impl Model for WriteLog {
 }
 
 impl WriteLog {
-    /// An empty log of length `len`, 1 to 4,096, in generation 1. It takes all its room at once, 32 bytes an item.
+    /// An empty log of length `len`, 1 to 1,048,576, in generation 1. It takes all its room at once, 32 bytes an item.
     pub fn new(alloc: Global, len: usize) -> Result<WriteLog, Memory>
         requires low { 1 ≤ len }
-        requires high { len ≤ 4096 }
+        requires high { len ≤ 1048576 }
         ensures { IfOk result (λ l. l ≡ empty_at len 1) }
     {
         WriteLog::with_generation(alloc, len, 1)
@@ -47,7 +47,7 @@ impl WriteLog {
     /// The same in a generation of 1 to 4,294,967,295.
     pub fn with_generation(alloc: Global, len: usize, generation: u32) -> Result<WriteLog, Memory>
         requires low { 1 ≤ len }
-        requires high { len ≤ 4096 }
+        requires high { len ≤ 1048576 }
         requires counted { 1 ≤ generation }
         ensures { IfOk result (λ l. l ≡ empty_at len generation) }
     {
@@ -58,11 +58,11 @@ impl WriteLog {
         })
     }
 
-    /// Makes the length the greater of its old one and `len`, 1 to 4,096, at the cost of a push an item, and ends the
+    /// Makes the length the greater of its old one and `len`, 1 to 1,048,576, at the cost of a push an item, and ends the
     /// marks. Where memory is refused the log is as before.
     pub fn reserve(&mut self, alloc: Global, len: usize) -> Result<(), Memory>
         requires low { 1 ≤ len }
-        requires high { len ≤ 4096 }
+        requires high { len ≤ 1048576 }
         ensures { MatchResult result
             (λ _. self.new ≡ record self.old { len = max self.old.len len; marks = [] }) (λ _.
             self.new ≡ self.old) }
@@ -98,6 +98,16 @@ impl WriteLog {
         let _count = self.log.count();
         save(&mut self.marks[self.depth - 1], &self.log, a);
         self.log.push(a, v, Repeat::Replace)
+    }
+
+    /// The same where no item has the address, so that no mark has anything to keep. No lookup while the log is short, one else.
+    #[inline(always)]
+    pub fn push_new(&mut self, a: usize, v: u64) -> Push
+        requires new { item_at a self.old.items ≡ None }
+        ensures { Pushes self.old a (put a v self.old.items) result self.new }
+    {
+        let _count = self.log.count();
+        self.log.push_new(a, v, Repeat::Replace)
     }
 
     /// How many marks stand, `MAX_MARKS` at most.
@@ -192,6 +202,7 @@ impl WriteLog {
     /// How many buckets a lookup of the address would look at in an index by the address modulo the number of buckets: those
     /// from its home on that other addresses have, and one more. At most the number of items plus 1.
     pub fn probes(&self, a: usize) -> usize
+        requires short { self.now.len ≤ 4096 }
         ensures probed { IsProbed (2 * self.now.len) self.now.items a result }
         ensures high { result ≤ length self.now.items + 1 }
     {
@@ -208,7 +219,7 @@ impl WriteLog {
         self.log.count()
     }
 
-    /// How many items there may be, 1 to 4,096.
+    /// How many items there may be, 1 to 1,048,576.
     #[inline]
     pub fn len(&self) -> usize
         ensures { result ≡ self.now.len }

@@ -18,12 +18,20 @@ use Rattle.tx_loops.specs.Loops.{AskSays, IsOut, MadeNothing, OpenSays}
 use Rattle.tx_loops.proofs.CommitLaws.{nothing-trans}
 
 -- a length that fits is never what is wrong
-pub outside_wrong : (wanted : ℕ) (e : Misuse) (o : Option Misuse) → 0 < wanted → wanted ≤ 4096 → or_else o (lengths wanted wanted) ≡ Some e → o ≡ Some e
-outside_wrong wanted e (Some f) low high is = is
-outside_wrong wanted e None low high is =
+pub reads_wrong : (wanted : ℕ) (e : Misuse) (o : Option Misuse) → 0 < wanted → wanted ≤ 1048576 → or_else o (lengths wanted 1) ≡ Some e → o ≡ Some e
+reads_wrong wanted e (Some f) low high is = is
+reads_wrong wanted e None low high is =
     let least : nat_le 1 wanted ≡ true = le-leb 1 wanted low in
-    let most : nat_le wanted 4096 ≡ true = le-leb wanted 4096 high in
-    let fits : lengths wanted wanted ≡ None = rw (least, most) refl in
+    let most : nat_le wanted 1048576 ≡ true = le-leb wanted 1048576 high in
+    let fits : lengths wanted 1 ≡ None = rw (least, most) refl in
+    absurd (let no : None ≡ Some e = sym fits ∙ is in cc)
+
+pub writes_wrong : (wanted : ℕ) (e : Misuse) (o : Option Misuse) → 0 < wanted → wanted ≤ 1048576 → or_else o (lengths 1 wanted) ≡ Some e → o ≡ Some e
+writes_wrong wanted e (Some f) low high is = is
+writes_wrong wanted e None low high is =
+    let least : nat_le 1 wanted ≡ true = le-leb 1 wanted low in
+    let most : nat_le wanted 1048576 ≡ true = le-leb wanted 1048576 high in
+    let fits : lengths 1 wanted ≡ None = rw (least, most) refl in
     absurd (let no : None ≡ Some e = sym fits ∙ is in cc)
 
 -- an attempt has begun: nothing was made
@@ -57,6 +65,7 @@ asked-after m k n turns.Done nothing later asks h = absurd h
 asked-after m k n turns.Over nothing later asks h = absurd h
 asked-after m k n turns.Memory nothing later asks h = absurd h
 asked-after m k n turns.Irrevocable nothing later asks h = absurd h
+asked-after m k n turns.Sleep nothing later asks h = absurd h
 
 -- and one that begins, and asks at once
 pub asked-at-once : (m k n : LoopingCaller) (t : Turn) → MadeNothing m.caller k.caller → (known_to m.caller).front ≤ (known_to k.caller).start → k.stage ≡ Asking → AskSays k n t → OpenSays m n (Ok t)
@@ -70,3 +79,4 @@ asked-at-once m k n turns.Done nothing fresh asks h = absurd h
 asked-at-once m k n turns.Over nothing fresh asks h = absurd h
 asked-at-once m k n turns.Memory nothing fresh asks h = absurd h
 asked-at-once m k n turns.Irrevocable nothing fresh asks h = absurd h
+asked-at-once m k n turns.Sleep nothing fresh asks h = absurd h

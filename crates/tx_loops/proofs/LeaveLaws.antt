@@ -10,9 +10,10 @@ use Rattle.tx_loops.specs.declared.stage.Stage.{Stage}
 use Rattle.tx_loops.specs.declared.stage.Stage.TheVariants.{Free, Bound, Lapsed, Committing}
 use Rattle.tx_loops.specs.declared.turn.Turn.{Turn}
 use Rattle.tx_loops.specs.declared.turn.Turn.TheVariants as turns
-use Rattle.tx_loops.specs.Loops.{DoneSays, FinishSays, IsOut, IsPutOff, MadeNothing, log_of}
+use Rattle.tx_loops.specs.declared.turn.How.{How}
+use Rattle.tx_loops.specs.Loops.{DoneSays, FinishSays, GivesUp, IsOut, IsPutOff, MadeNothing, log_of, stays_out}
 use Rattle.tx_loops.specs.Stages.{is_given_up, log_at}
-use Rattle.tx_loops.specs.Turns.{IsAfterRefusal}
+use Rattle.tx_loops.specs.Turns.{GoesOnAfter, IsAfterRefusal}
 use Rattle.tx_loops.proofs.CommitLaws.{nothing-refl, nothing-trans, took-after}
 use Rattle.tx_parts.specs.Laying.{SameLog}
 
@@ -38,6 +39,21 @@ finished m k n turns.Run nothing later like h = absurd h
 finished m k n turns.Over nothing later like h = absurd h
 finished m k n turns.Memory nothing later like h = absurd h
 finished m k n turns.Irrevocable nothing later like h = absurd h
+finished m k n turns.Sleep nothing later like h = absurd h
+
+-- an attempt that was given up, and what comes after it
+pub gives-up : (how : How) (m k l n : LoopingCaller) (t : Turn) → IsOut m k → k.caller.range ≡ m.caller.range → l.caller ≡ k.caller → l.stage ≡ k.stage → n.caller ≡ l.caller → n.stage ≡ l.stage
+    → GoesOnAfter how k.caller.refusal (stays_out m.caller) t → GivesUp how m n t
+gives-up how m k l n t out range lk ls nl ns goes =
+    let same : n.caller ≡ k.caller = nl ∙ lk in (
+      record {
+        nothing = subst (λ (c : CheckedCaller). MadeNothing m.caller c) (sym same) out.nothing;
+        stage = ns ∙ (ls ∙ out.stage);
+        idle = λ i. subst (λ (c : CheckedCaller). IsIdle (known_to c)) (sym same) (out.idle i);
+      },
+      ap (λ (c : CheckedCaller). c.range) same ∙ range,
+      subst (λ (c : CheckedCaller). GoesOnAfter how c.refusal (stays_out m.caller) t) (sym same) goes,
+    )
 
 -- what may be left open has ended already
 pub given-lapsed : (s : Stage) → is_given_up s ≡ true → (s ≡ Free) ⊎ ((s ≡ Bound) ⊎ (s ≡ Lapsed)) → s ≡ Lapsed
@@ -62,3 +78,4 @@ lapsed-says m n turns.Run was now same h = absurd h
 lapsed-says m n turns.Over was now same h = absurd h
 lapsed-says m n turns.Memory was now same h = absurd h
 lapsed-says m n turns.Irrevocable was now same h = absurd h
+lapsed-says m n turns.Sleep was now same h = absurd h

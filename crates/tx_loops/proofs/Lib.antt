@@ -4,6 +4,8 @@ pub mod CommitLaws
 pub mod EnterLaws
 pub mod LeaveLaws
 pub mod MarkLaws
+pub mod ReadLaws
 pub mod StageLaws
 pub mod StoreLaws
+pub mod WatchLaws
 pub mod WriteLaws

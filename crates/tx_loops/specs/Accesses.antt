@@ -73,6 +73,19 @@ ReadsAt Asking a m n r = IsAway m n r
 ReadsAt Committing a m n r = IsAway m n r
 ReadsAt stage a m n r = ReadsBelow a m n r
 
+-- what a read comes to that doesn't go to the attempt; and that one does
+abbrev pub ReadsHere : ℕ → Stage → LoopingCaller → Result Read Misuse → Type 0
+ReadsHere a Buffered m r = MatchOption (item_at a m.buffer.items) ⊥ (λ x. r ≡ Ok (reads.Value x))
+ReadsHere a Asking m r = r ≡ Err wrong.Committing
+ReadsHere a Committing m r = r ≡ Err wrong.Committing
+ReadsHere a stage m r = ⊥
+
+abbrev pub ReadsOn : ℕ → Stage → LoopingCaller → Type 0
+ReadsOn a Buffered m = item_at a m.buffer.items ≡ None
+ReadsOn a Asking m = ⊥
+ReadsOn a Committing m = ⊥
+ReadsOn a stage m = Unit {0}
+
 -- WHAT A READ TELLS: the buffer's write of the word, else what the caller reads
 abbrev pub ReadSays : ℕ → LoopingCaller → LoopingCaller → Result Read Misuse → Type 0
 ReadSays a m n r = ReadsAt m.stage a m n r

@@ -86,6 +86,7 @@ AskSays m n turns.Done = ⊥
 AskSays m n turns.Over = ⊥
 AskSays m n turns.Memory = ⊥
 AskSays m n turns.Irrevocable = ⊥
+AskSays m n turns.Sleep = ⊥
 
 -- and one that begins
 abbrev pub OpenSays : LoopingCaller → LoopingCaller → Result Turn Misuse → Type 0
@@ -97,6 +98,7 @@ OpenSays m n (Ok turns.Done) = ⊥
 OpenSays m n (Ok turns.Over) = ⊥
 OpenSays m n (Ok turns.Memory) = ⊥
 OpenSays m n (Ok turns.Irrevocable) = ⊥
+OpenSays m n (Ok turns.Sleep) = ⊥
 OpenSays m n (Err e) = (outside m.caller ≡ Some e) × (n ≡ m)
 
 -- what the commit of a body comes to
@@ -109,6 +111,7 @@ FinishSays m n turns.Run = ⊥
 FinishSays m n turns.Over = ⊥
 FinishSays m n turns.Memory = ⊥
 FinishSays m n turns.Irrevocable = ⊥
+FinishSays m n turns.Sleep = ⊥
 
 -- WHAT `enter` TELLS
 abbrev pub EnterAt : Stage → LoopingCaller → LoopingCaller → Result Turn Misuse → Type 0
@@ -153,6 +156,7 @@ DoneSays m n (Ok turns.Run) = ⊥
 DoneSays m n (Ok turns.Over) = ⊥
 DoneSays m n (Ok turns.Memory) = ⊥
 DoneSays m n (Ok turns.Irrevocable) = ⊥
+DoneSays m n (Ok turns.Sleep) = ⊥
 DoneSays m n (Err e) = (leave_misuse true m.stage ≡ Some e) × (n ≡ m)
 
 -- and of any other: nothing of it stands, or it had said that it can't stop, and all of it does

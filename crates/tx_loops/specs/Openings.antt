@@ -1,5 +1,5 @@
 -- What the opening of a memory leaves.
-use Rattle.std.specs.Prelude.{ℕ, ◌≡◌, All, List, map}
+use Rattle.std.specs.Prelude.{◌≡◌, All, List, map}
 use Rattle.stm_model.specs.declared.alg.Alg.{Alg}
 use Rattle.stm_model.specs.declared.config.Config.{Config}
 use Rattle.tx_atomic.specs.declared.switching.Hindrance.{Hindrance}

@@ -1,9 +1,10 @@
 //! The reads and writes of a caller that may be in a loop.
-ghost use Rattle.std.specs.Prelude.{◌≡◌, false, Some, None, OnOk, IfErr};
-ghost use Rattle.tx_answers.specs.CallerState.{IsRunning};
+ghost use Rattle.std.specs.Prelude.{◌≡◌, [], true, false, Some, None, OnOk, IfErr, IfSome, IfNone};
+ghost use Rattle.tx_answers.specs.CallerState.{IsIdle, IsRunning};
 ghost use Rattle.tx_checked.specs.CheckedCallers.{IsServed, config_of, known_to};
 ghost use Rattle.tx_checked.specs.Misuses.{access};
-ghost use Rattle.tx_loops.specs.Accesses.{ReadSays, WriteSays, WritesInto};
+ghost use Rattle.tx_loops.specs.Accesses.{ReadSays, ReadsHere, ReadsOn, WriteSays, WritesInto};
+ghost use Rattle.tx_loops.specs.Loops.{MadeNothing};
 ghost use Rattle.tx_loops.specs.Stages.{IsSpared, is_plain};
 ghost use Rattle.tx_loops.specs.declared.stage.Stage.TheVariants.{Buffered};
 
@@ -22,12 +23,13 @@ use tx_logs::push::Push;
 impl LoopingCaller {
     /// Reads the word at `a`: the buffer's write of it, else as the caller does by these calls.
     #[inline(always)]
+    #[tactic(auto, using(crate::proofs::ReadLaws::reads_here, crate::proofs::ReadLaws::reads_on))]
     pub fn read_by<C: Calls>(&mut self, calls: &C, a: usize) -> Result<Read, Misuse>
         requires served { IsServed C.acts_as (known_to self.old.caller) }
         ensures { ReadSays a self.old self.new result }
     {
-        if !self.stage.is_plain() {
-            return self.read_apart(a);
+        if let Some(answer) = self.read_here(a) {
+            return answer;
         }
         match self.caller.read_by(calls, a) {
             Ok(Read::Value(x)) => Ok(Read::Value(x)),
@@ -39,26 +41,40 @@ impl LoopingCaller {
         }
     }
 
-    #[inline(never)]
-    fn read_apart(&mut self, a: usize) -> Result<Read, Misuse>
-        requires apart { is_plain self.old.stage ≡ false }
-        ensures { ReadSays a self.old self.new result }
+    /// What a read comes to that doesn't go to the attempt. In a buffer without the address's bit that is two tests.
+    #[inline(always)]
+    fn read_here(&self, a: usize) -> Option<Result<Read, Misuse>>
+        ensures here { IfSome result (ReadsHere a self.now.stage self.now) }
+        ensures below { IfNone result (ReadsOn a self.now.stage self.now) }
     {
         match self.stage {
-            Stage::Buffered => {
-                if let Some(x) = self.buffer.find(a) {
-                    return Ok(Read::Value(x));
-                }
-                match self.caller.read(a) {
-                    Ok(Read::Value(x)) => Ok(Read::Value(x)),
-                    Ok(refused) => {
-                        self.stage = Stage::Lapsed;
-                        Ok(refused)
-                    }
-                    Err(misuse) => Err(misuse),
-                }
-            }
-            _ => Err(Misuse::Committing),
+            Stage::Free | Stage::Direct | Stage::Bound | Stage::Lapsed => None,
+            Stage::Buffered => match self.buffer.find(a) {
+                Some(x) => Some(Ok(Read::Value(x))),
+                None => None,
+            },
+            Stage::Asking | Stage::Committing => Some(Err(Misuse::Committing)),
+        }
+    }
+
+    /// Whether a read goes to the attempt, whatever its address.
+    #[inline(always)]
+    pub fn is_straight(&self) -> bool {
+        match self.stage {
+            Stage::Free | Stage::Direct | Stage::Bound | Stage::Lapsed => true,
+            Stage::Buffered => self.buffer.count() == 0,
+            Stage::Asking | Stage::Committing => false,
+        }
+    }
+
+    /// Whether writes go into the buffer.
+    #[inline(always)]
+    pub fn is_buffered(&self) -> bool
+        ensures { result ≡ true → self.now.stage ≡ Buffered }
+    {
+        match self.stage {
+            Stage::Buffered => true,
+            _ => false,
         }
     }
 
@@ -91,8 +107,9 @@ impl LoopingCaller {
         }
     }
 
-    /// Where the buffer has no room the attempt ends, and leaves nothing.
-    fn write_into(&mut self, a: usize, x: u64) -> Result<Write, Misuse>
+    /// Writes into the buffer. Where that has no room the attempt ends, and leaves nothing.
+    #[inline(always)]
+    pub fn write_into(&mut self, a: usize, x: u64) -> Result<Write, Misuse>
         requires buffered { self.old.stage ≡ Buffered }
         ensures { WritesInto a x self.old self.new result }
     {
@@ -100,9 +117,7 @@ impl LoopingCaller {
         match self.buffer.push(a, x) {
             Push::Done => Ok(Write::Done),
             Push::Full { limit } => {
-                end_blank(&mut self.caller);
-                self.caller.refusal = Some(Refusal::LogFull { limit });
-                self.caller.counts.full_logs = self.caller.counts.full_logs.wrapping_add(1);
+                overflow(&mut self.caller, limit);
                 self.stage = Stage::Lapsed;
                 Ok(Write::Full { limit })
             }
@@ -110,7 +125,22 @@ impl LoopingCaller {
     }
 }
 
+/// Ends the attempt of a body whose buffer has no room.
+#[cold]
+#[inline(never)]
+fn overflow(caller: &mut CheckedCaller, limit: usize)
+    requires running { IsRunning (known_to caller.old) }
+    requires blank { (known_to caller.old).log.writes ≡ [] }
+    ensures nothing { MadeNothing caller.old caller.new }
+    ensures idle { IsIdle (known_to caller.new) }
+{
+    end_blank(caller);
+    caller.refusal = Some(Refusal::WritesFull { limit });
+    caller.counts.full_logs = caller.counts.full_logs.wrapping_add(1);
+}
+
 /// Whether the attempt may read and write the word at `a`.
+#[inline(always)]
 fn may_access(caller: &CheckedCaller, a: usize) -> Result<(), Misuse>
     requires running { IsRunning (known_to caller.now) }
     ensures spared { OnOk result
@@ -118,17 +148,14 @@ fn may_access(caller: &CheckedCaller, a: usize) -> Result<(), Misuse>
     ensures fits { OnOk result (access a caller.now ≡ None) }
     ensures wrong { IfErr result (λ e. access a caller.now ≡ Some e) }
 {
+    if a < caller.reach {
+        return Ok(());
+    }
     match caller.phase {
         CallerPhase::Idle => Err(Misuse::NoAttempt),
         CallerPhase::Committing => Err(Misuse::Committing),
         CallerPhase::Closing => Err(Misuse::Closing),
-        CallerPhase::Running => {
-            if a < caller.stm.config.words {
-                Ok(())
-            } else {
-                Err(Misuse::Address)
-            }
-        }
+        CallerPhase::Running => Err(Misuse::Address),
         CallerPhase::Beside => {
             if a >= caller.stm.config.words {
                 Err(Misuse::Address)

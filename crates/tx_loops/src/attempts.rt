@@ -22,7 +22,7 @@ use tx_logs::write_log::WriteLog;
 impl LoopingCaller {
     /// Whether no body of a loop runs, which alone ends its attempt.
     #[inline(always)]
-    fn is_free(&self) -> Result<(), Misuse>
+    pub(crate) fn is_free(&self) -> Result<(), Misuse>
         ensures fits { OnOk result (free_misuse self.now.stage ≡ None) }
         ensures wrong { IfErr result (λ e. free_misuse self.now.stage ≡ Some e) }
     {

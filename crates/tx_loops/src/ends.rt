@@ -1,10 +1,11 @@
 //! How an attempt of a body ends.
 ghost use Rattle.std.specs.Prelude.{◌≡◌, [], true, false};
 ghost use Rattle.tx_answers.specs.CallerState.{IsIdle, is_irrevocable};
-ghost use Rattle.tx_checked.specs.CheckedCallers.{known_to};
+ghost use Rattle.tx_checked.specs.CheckedCallers.{IsServed, known_to};
 ghost use Rattle.tx_loops.specs.Ends.{outcome_of};
 ghost use Rattle.tx_loops.specs.Loops.{AsksAgain, IsRefused, IsThrough, MadeNothing};
 
+use stm_tx::serving::Calls;
 use tx_answers::answers::Commit;
 use tx_checked::checked_caller::CheckedCaller;
 use tx_checked::misuse::Misuse;
@@ -20,16 +21,19 @@ pub(crate) enum CommitOutcome {
     Refused,
 }
 
-/// Commits.
-pub(crate) fn commit_body(caller: &mut CheckedCaller) -> CommitOutcome
+/// Commits, by calls that serve its algorithm.
+#[inline(always)]
+pub(crate) fn commit_body<C: Calls>(calls: &C, caller: &mut CheckedCaller) -> CommitOutcome
+    requires served { IsServed C.acts_as (known_to caller.old) }
     requires running { (known_to caller.old).running ≡ true }
     ensures done { result ≡ CommitOutcome.Done → IsThrough caller.old caller.new }
     ensures again { result ≡ CommitOutcome.Again → AsksAgain caller.old caller.new }
     ensures refused { result ≡ CommitOutcome.Refused → IsRefused caller.old caller.new }
 {
-    outcome_of(caller.commit())
+    outcome_of(caller.commit_by(calls))
 }
 
+#[inline(always)]
 fn outcome_of(answer: Result<Commit, Misuse>) -> CommitOutcome
     ensures { result ≡ outcome_of answer }
 {

@@ -1,51 +1,101 @@
 //! The begin of a loop, and of each of its attempts.
-ghost use Rattle.std.specs.Prelude.{◌≡◌, ◌<◌, false};
+ghost use Rattle.std.specs.Prelude.{◌≡◌, ◌<◌, true, false, None};
 ghost use Rattle.tx_answers.specs.CallerState.{IsRunning, no_log};
 ghost use Rattle.tx_checked.specs.CheckedCallers.{known_to};
 ghost use Rattle.tx_loops.specs.Loops.{AskSays, EnterSays, LengthenSays, MayRun, OpenSays};
+ghost use Rattle.tx_loops.specs.Waits.{KeepsWatch};
+ghost use Rattle.tx_loops.specs.Watches.{StandsStill};
 ghost use Rattle.tx_loops.specs.declared.stage.Stage.TheVariants.{Asking, Free};
 
 use crate::ends::end_blank;
 use crate::looping_caller::LoopingCaller;
-use crate::plan::Plan;
+use crate::plan::LogKind;
 use crate::stage::Stage;
 use crate::turn::Turn;
 use std::alloc::Global;
 use stm_model::alg::Alg;
 use stm_model::memory::Memory;
+use stm_tx::serving::AnyAlgorithm;
 use tx_answers::answers::{Begin, Irrev};
 use tx_checked::misuse::Misuse;
 
 impl LoopingCaller {
     /// Begins a loop, or its next attempt, or goes on with one that was put off.
+    #[tactic(auto, using(crate::proofs::WatchLaws::keeps_still, crate::proofs::WatchLaws::keeps_same))]
     pub fn enter(&mut self, alloc: Global) -> Result<Turn, Misuse>
-        ensures { EnterSays self.old self.new result }
+        ensures says { EnterSays self.old self.new result }
+        ensures watch { KeepsWatch self.old self.new }
     {
         match self.stage {
             Stage::Free => {
                 if self.plan.wanted > 0 {
                     self.lengthen(alloc)
+                } else if self.plan.is_to_announce() {
+                    self.open_announced()
                 } else {
                     self.open()
                 }
             }
             Stage::Asking => Ok(self.ask()),
-            Stage::Committing => Ok(self.finish()),
+            Stage::Committing => Ok(self.finish(&AnyAlgorithm)),
             Stage::Direct | Stage::Bound | Stage::Lapsed | Stage::Buffered => Err(
                 Misuse::InAttempt,
             ),
         }
     }
 
-    /// Makes the logs longer, as was wanted.
-    #[tactic(auto, using(crate::proofs::EnterLaws::outside_wrong))]
+    /// Whether `enter` does no more than `open`.
+    #[inline(always)]
+    pub fn is_ready(&self) -> bool
+        ensures free { result ≡ true → self.now.stage ≡ Free }
+        ensures simple { result ≡ true → self.now.plan.wanted ≡ 0 }
+    {
+        match self.stage {
+            Stage::Free => self.plan.is_simple(),
+            _ => false,
+        }
+    }
+
+    /// Makes a log longer, as was wanted.
     fn lengthen(&mut self, alloc: Global) -> Result<Turn, Misuse>
         requires free { self.old.stage ≡ Free }
         requires wanted { 0 < self.old.plan.wanted }
-        ensures { LengthenSays self.old self.new result }
+        ensures says { LengthenSays self.old self.new result }
+        ensures watch { KeepsWatch self.old self.new }
+    {
+        match self.plan.kind {
+            LogKind::Reads => self.lengthen_reads(alloc),
+            LogKind::Writes => self.lengthen_writes(alloc),
+        }
+    }
+
+    #[tactic(auto, using(crate::proofs::EnterLaws::reads_wrong, crate::proofs::WatchLaws::keeps_same, crate::proofs::WatchLaws::keeps_none))]
+    fn lengthen_reads(&mut self, alloc: Global) -> Result<Turn, Misuse>
+        requires free { self.old.stage ≡ Free }
+        requires wanted { 0 < self.old.plan.wanted }
+        ensures says { LengthenSays self.old self.new result }
+        ensures watch { KeepsWatch self.old self.new }
     {
         let wanted = self.plan.wanted;
-        match self.caller.reserve(alloc, wanted, wanted)? {
+        match self.caller.reserve(alloc, wanted, 1)? {
+            Ok(()) => {
+                self.plan.wanted = 0;
+                Ok(Turn::Pause { times: 0 })
+            }
+            Err(Memory) => Ok(self.give_out()),
+        }
+    }
+
+    /// The buffer is one of the logs of what is written.
+    #[tactic(auto, using(crate::proofs::EnterLaws::writes_wrong, crate::proofs::WatchLaws::keeps_same, crate::proofs::WatchLaws::keeps_none))]
+    fn lengthen_writes(&mut self, alloc: Global) -> Result<Turn, Misuse>
+        requires free { self.old.stage ≡ Free }
+        requires wanted { 0 < self.old.plan.wanted }
+        ensures says { LengthenSays self.old self.new result }
+        ensures watch { KeepsWatch self.old self.new }
+    {
+        let wanted = self.plan.wanted;
+        match self.caller.reserve(alloc, 1, wanted)? {
             Ok(()) => {}
             Err(Memory) => return Ok(self.give_out()),
         }
@@ -63,15 +113,31 @@ impl LoopingCaller {
         ensures turn { result ≡ Turn.Memory }
         ensures stage { self.new.stage ≡ Free }
         ensures caller { self.new.caller ≡ self.old.caller }
+        ensures watch { self.new.plan.watch ≡ None }
     {
-        self.plan = Plan::new();
+        self.plan_anew();
         Turn::Memory
     }
 
-    /// Begins an attempt.
-    fn open(&mut self) -> Result<Turn, Misuse>
+    /// Announces that its user will wait, before the attempt that finds out whether it has to.
+    #[tactic(auto, using(crate::proofs::WatchLaws::open_after, crate::proofs::WatchLaws::keeps_after))]
+    fn open_announced(&mut self) -> Result<Turn, Misuse>
         requires free { self.old.stage ≡ Free }
-        ensures { OpenSays self.old self.new result }
+        ensures says { OpenSays self.old self.new result }
+        ensures watch { KeepsWatch self.old self.new }
+    {
+        self.caller.may_leave()?;
+        self.announce();
+        self.open()
+    }
+
+    /// Begins an attempt.
+    #[inline(always)]
+    #[tactic(auto, using(crate::proofs::WatchLaws::keeps_still, crate::proofs::WatchLaws::keeps_same, crate::proofs::WatchLaws::keeps_none))]
+    pub fn open(&mut self) -> Result<Turn, Misuse>
+        requires free { self.old.stage ≡ Free }
+        ensures says { OpenSays self.old self.new result }
+        ensures watch { KeepsWatch self.old self.new }
     {
         match self.caller.begin()? {
             Begin::Begun(alg) => {
@@ -89,13 +155,14 @@ impl LoopingCaller {
                 times: self.plan.wait_for_lock(),
             }),
             Begin::ClockFull { .. } => {
-                self.plan = Plan::new();
+                self.plan_anew();
                 Ok(Turn::ClockFull)
             }
         }
     }
 
     /// Has the body run: on a buffer where what the attempt writes couldn't be taken back.
+    #[inline(always)]
     fn run(&mut self, alg: Alg) -> Turn
         requires running { IsRunning (known_to self.old.caller) }
         requires blank { (known_to self.old.caller).log ≡ no_log }
@@ -104,6 +171,7 @@ impl LoopingCaller {
         ensures turn { result ≡ Turn.Run }
         ensures caller { self.new.caller ≡ self.old.caller }
         ensures runs { MayRun self.new }
+        ensures plan { self.new.plan ≡ self.old.plan }
     {
         match alg {
             Alg::Cgl | Alg::Tml => self.run_buffered(),
@@ -115,12 +183,14 @@ impl LoopingCaller {
     }
 
     /// Has the body run on a buffer.
+    #[inline(always)]
     fn run_buffered(&mut self) -> Turn
         requires running { IsRunning (known_to self.old.caller) }
         requires blank { (known_to self.old.caller).log ≡ no_log }
         ensures turn { result ≡ Turn.Run }
         ensures caller { self.new.caller ≡ self.old.caller }
         ensures runs { MayRun self.new }
+        ensures plan { self.new.plan ≡ self.old.plan }
     {
         self.buffer.renew();
         self.stage = Stage::Buffered;
@@ -128,9 +198,13 @@ impl LoopingCaller {
     }
 
     /// Asks to be irrevocable.
+    #[cold]
+    #[inline(never)]
+    #[tactic(auto, using(crate::proofs::WatchLaws::still_same))]
     fn ask(&mut self) -> Turn
         requires asking { self.old.stage ≡ Asking }
-        ensures { AskSays self.old self.new result }
+        ensures says { AskSays self.old self.new result }
+        ensures watch { StandsStill self.old.plan.watch self.new.plan.watch }
     {
         let Ok(answer) = self.caller.try_irrevocable() else {
             return self.turn_back();
@@ -154,9 +228,11 @@ impl LoopingCaller {
     }
 
     /// Ends the attempt that asks.
+    #[tactic(auto, using(crate::proofs::WatchLaws::still_same))]
     fn turn_back(&mut self) -> Turn
         requires asking { self.old.stage ≡ Asking }
-        ensures { AskSays self.old self.new result }
+        ensures says { AskSays self.old self.new result }
+        ensures watch { StandsStill self.old.plan.watch self.new.plan.watch }
     {
         end_blank(&mut self.caller);
         self.stage = Stage::Free;

@@ -16,3 +16,5 @@ pub mod plan;
 pub mod stage;
 mod storing;
 pub mod turn;
+pub mod waiting;
+pub mod watch;

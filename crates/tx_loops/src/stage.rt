@@ -1,6 +1,6 @@
 //! Where a caller stands in its loop.
 ghost use Rattle.std.specs.Prelude.{◌≡◌};
-ghost use Rattle.tx_loops.specs.Stages.{is_plain, lapsed};
+ghost use Rattle.tx_loops.specs.Stages.{has_body, is_plain, lapsed};
 
 /// Where a caller stands in its loop, between two calls.
 #[derive(Clone, Copy, Drop)]
@@ -30,6 +30,16 @@ impl Stage {
         match self {
             Stage::Free | Stage::Direct | Stage::Bound | Stage::Lapsed => true,
             Stage::Buffered | Stage::Asking | Stage::Committing => false,
+        }
+    }
+
+    /// Whether a body runs in an attempt that may be taken back, and hasn't ended.
+    pub(crate) fn is_running(self) -> bool
+        ensures { result ≡ has_body self }
+    {
+        match self {
+            Stage::Direct | Stage::Buffered => true,
+            Stage::Free | Stage::Bound | Stage::Lapsed | Stage::Asking | Stage::Committing => false,
         }
     }
 

@@ -14,7 +14,8 @@ use tx_checked::misuse::Misuse;
 use tx_logs::write_log::WriteLog;
 
 /// Writes all that lies in the log, in the order of the first writes. False where the attempt has ended, and nothing
-/// stands.
+/// stands. Of an empty log it is a test.
+#[inline(always)]
 pub(crate) fn store_through(caller: &mut CheckedCaller, buffer: &WriteLog) -> bool
     requires running { IsRunning (known_to caller.old) }
     requires spared { EachSpared (config_of caller.old).words (known_to caller.old).fence
@@ -29,6 +30,36 @@ pub(crate) fn store_through(caller: &mut CheckedCaller, buffer: &WriteLog) -> bo
     ensures irrevocable { result ≡ true
         → is_irrevocable (known_to caller.old) ≡ true
         → is_irrevocable (known_to caller.new) ≡ true }
+    ensures alg { result ≡ true → (known_to caller.new).alg ≡ (known_to caller.old).alg }
+    ensures granted { result ≡ true
+        → (known_to caller.new).granted ≡ (known_to caller.old).granted }
+    ensures ended { result ≡ false
+        → IsIdle (known_to caller.new) × (is_irrevocable (known_to caller.old) ≡ false) }
+{
+    if buffer.count() == 0 {
+        return true;
+    }
+    store_each(caller, buffer)
+}
+
+#[inline(never)]
+fn store_each(caller: &mut CheckedCaller, buffer: &WriteLog) -> bool
+    requires running { IsRunning (known_to caller.old) }
+    requires spared { EachSpared (config_of caller.old).words (known_to caller.old).fence
+        buffer.now.items }
+    ensures nothing { MadeNothing caller.old caller.new }
+    ensures range { caller.new.range ≡ caller.old.range }
+    ensures runs { result ≡ true → IsRunning (known_to caller.new) }
+    ensures lays { result ≡ true
+        → Lays buffer.now.items (known_to caller.old).log (known_to caller.new).log }
+    ensures once { Once buffer.now.items }
+    ensures later { result ≡ true → (known_to caller.old).start ≤ (known_to caller.new).start }
+    ensures irrevocable { result ≡ true
+        → is_irrevocable (known_to caller.old) ≡ true
+        → is_irrevocable (known_to caller.new) ≡ true }
+    ensures alg { result ≡ true → (known_to caller.new).alg ≡ (known_to caller.old).alg }
+    ensures granted { result ≡ true
+        → (known_to caller.new).granted ≡ (known_to caller.old).granted }
     ensures ended { result ≡ false
         → IsIdle (known_to caller.new) × (is_irrevocable (known_to caller.old) ≡ false) }
 {

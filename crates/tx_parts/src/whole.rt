@@ -16,7 +16,7 @@ pub struct Whole<P> {
     pub part: P,
     /// A word that is read before the part is done: best one that the part reads, since it adds a read else.
     pub first: usize,
-    /// For how many words there is room, 1 to 4,096: as many as the part writes in all.
+    /// For how many words there is room, 1 to 1,048,576: as many as the part writes in all.
     pub room: usize,
     pub alloc: Global,
 }
@@ -27,7 +27,7 @@ impl<K: MemRule, P: Part<K>> Transaction<K> for Whole<P> {
 
     type Output = PartOutcome<P::Output>;
 
-    ghost precondition = { λ it rule words. P.precondition it.part rule words × (P.depth it.part ≤ MAX_MARKS) × (it.first < words) × (1 ≤ it.room) × (it.room ≤ 4096) };
+    ghost precondition = { λ it rule words. P.precondition it.part rule words × (P.depth it.part ≤ MAX_MARKS) × (it.first < words) × (1 ≤ it.room) × (it.room ≤ 1048576) };
 
     ghost postcondition = { λ it rule words came log. ComesFirst (K.good rule) words it.first it.room (P.postcondition it.part rule words) came log };
 
@@ -62,7 +62,7 @@ impl<K: MemRule, P: Part<K>> Transaction<K> for Awaited<P> {
 
     type Output = Option<Result<P::Output, Undone>>;
 
-    ghost precondition = { λ it rule words. P.precondition it.whole.part rule words × (P.depth it.whole.part ≤ MAX_MARKS) × (it.whole.first < words) × (1 ≤ it.whole.room) × (it.whole.room ≤ 4096) };
+    ghost precondition = { λ it rule words. P.precondition it.whole.part rule words × (P.depth it.whole.part ≤ MAX_MARKS) × (it.whole.first < words) × (1 ≤ it.whole.room) × (it.whole.room ≤ 1048576) };
 
     ghost postcondition = { λ it rule words came log. ComesAwaited (K.good rule) words it.whole.first it.whole.room (P.postcondition it.whole.part rule words) came log };
 

@@ -87,7 +87,7 @@ fn number_of<K: MemRule>(desc: &Desc<K>, stm: &Stm<K>) -> usize
     requires { IsOf desc.now stm.now }
     ensures is { result ≡ number desc.now }
     ensures one { result < stm.now.config.callers }
-    ensures low { result < 32 }
+    ensures low { result < 254 }
 {
     let _ = stm;
     desc.number

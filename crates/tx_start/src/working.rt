@@ -12,6 +12,7 @@ use std::thread::Threads;
 use stm_tx::{Desc, MemRule, NewError, Stm};
 use tx_atomic::pace::Pace;
 use tx_atomic::tally::Tally;
+use tx_backoff::Patience;
 use tx_jobs::job::Job;
 
 /// What a caller leaves.
@@ -37,11 +38,20 @@ pub(crate) fn work_all<
         → Works (J.postcondition job.now stm.now.rule stm.now.config.words)
         (slice_index_or descs.items i e) (slice_index_or left.items i d)) }
 {
+    let patience = patience_of(rt, descs.len());
     let job_of = |desc|
         requires { IsReady stm.now desc × J.precondition job.now stm.now.rule stm.now.config.words }
-    { work(rt, stm, desc, job) };
+    { work(rt, stm, desc, patience, job) };
     let left = thread::map_vec(rt, descs, &job_of)?;
     Ok(left)
+}
+
+/// While there are more callers than processors one that waits makes room: it doesn't spin.
+fn patience_of<R: Threads>(rt: &R, callers: usize) -> Patience {
+    match thread::available_parallelism(rt) {
+        Ok(processors) if processors.get() < callers => Patience::none(),
+        _ => Patience::new(),
+    }
 }
 
 /// Has one caller do its job.
@@ -49,17 +59,20 @@ fn work<R: Wait, K: MemRule, J: Job<R, K>>(
     rt: &R,
     stm: &Stm<K>,
     desc: Desc<K>,
+    patience: Patience,
     job: &J,
 ) -> Left<K, J::Output>
     requires ready { IsReady stm.now desc }
     requires precondition { J.precondition job.now stm.now.rule stm.now.config.words }
     ensures works { Works (J.postcondition job.now stm.now.rule stm.now.config.words) desc result }
 {
+    let mut pace = Pace::new();
+    pace.patience = patience;
     let mut caller = Caller {
         rt,
         stm,
         desc,
-        pace: Pace::new(),
+        pace,
     };
     let answer = job.work(&mut caller);
     let Caller { desc, pace, .. } = caller;

@@ -1,75 +1,51 @@
-//! Some words read or written one after the other, for transactions that read what they need and then write.
-ghost use Rattle.std.specs.Prelude.{◌≡◌, ◌<◌, ◌≤◌, [], ◌∷◌, ◌%◌, ◌^◌, sum, None, IfOk, OnOk};
+//! Words read or written one after the other, for transactions that read what they need and then write.
+ghost use Rattle.std.specs.Prelude.{◌≡◌, ◌<◌, ◌≤◌, ◌%◌, ◌^◌, ℕ, Bool, sum, count_by, map, None, IfOk, OnOk};
+ghost use Rattle.stm_model.specs.Memories.{Explains};
 ghost use Rattle.tx_effects.specs.Accesses.{LeadsOn};
-ghost use Rattle.tx_effects.specs.FreshLaws.{nothing};
-ghost use Rattle.tx_transaction.specs.WordLaws.{AllRead, AllWritten, IsKnown, HasSum, SumRead};
+ghost use Rattle.tx_transaction.specs.Words.{AllBelow, AllRead, AllWritten, RangeRead, Decides, Found, valued, sum_in, count_in};
 
 use std::ops::Range;
 use stm_model::access::Access;
 use stm_model::stop::Stop;
 
-/// Reads two words. In an attempt that had done nothing some good memory has both.
+/// Reads the words at these addresses in turn, one at least: `let [a, b] = read_words(memory, [3, 5])?`.
 ///
 /// # Errors
 /// The Stop of the access.
-pub fn read_two<A: Access>(memory: &mut A, a: usize, b: usize) -> Result<(u64, u64), Stop>
-    requires going { A.stopped memory.old ≡ None }
-    requires within { (a < A.words memory.old) × (b < A.words memory.old) }
-    ensures read { IfOk result (λ v.
-        AllRead (A.words memory.old) (A.log memory.old) ((a, v.0) ∷ (b, v.1) ∷ [])
-        (A.log memory.new)) }
-    ensures known { A.log memory.old ≡ nothing
-        → IfOk result (λ v.
-        IsKnown (A.good memory.old) (A.words memory.old) ((a, v.0) ∷ (b, v.1) ∷ [])) }
-    ensures frame { LeadsOn A.Access memory.old memory.new result }
-{
-    let first = memory.read(a)?;
-    let second = memory.read(b)?;
-    Ok((first, second))
-}
-
-/// Reads three words, as `read_two` two.
-///
-/// # Errors
-/// The Stop of the access.
-pub fn read_three<A: Access>(
+pub fn read_words<A: Access, const N: usize>(
     memory: &mut A,
-    a: usize,
-    b: usize,
-    c: usize,
-) -> Result<(u64, u64, u64), Stop>
+    at: [usize; N],
+) -> Result<[u64; N], Stop>
     requires going { A.stopped memory.old ≡ None }
-    requires within { (a < A.words memory.old) × (b < A.words memory.old)
-        × (c < A.words memory.old) }
+    requires some { 0 < N }
+    requires within { AllBelow (A.words memory.old) at }
     ensures read { IfOk result (λ v.
-        AllRead (A.words memory.old) (A.log memory.old) ((a, v.0) ∷ (b, v.1) ∷ (c, v.2) ∷ [])
-        (A.log memory.new)) }
-    ensures known { A.log memory.old ≡ nothing
-        → IfOk result (λ v.
-        IsKnown (A.good memory.old) (A.words memory.old) ((a, v.0) ∷ (b, v.1) ∷ (c, v.2) ∷ [])) }
+        AllRead (A.words memory.old) (A.log memory.old) (valued 0 at.entry v) (A.log memory.new)) }
+    ensures found { IfOk result (λ v.
+        Found (A.good memory.old) (A.words memory.old) (A.log memory.old)
+        (λ m. Explains m (valued 0 at.entry v)) (A.log memory.new)) }
     ensures frame { LeadsOn A.Access memory.old memory.new result }
 {
-    let first = memory.read(a)?;
-    let second = memory.read(b)?;
-    let third = memory.read(c)?;
-    Ok((first, second, third))
+    let mut found = [0; N];
+    for (i, a) in at.iter().enumerate() {
+        found[i] = memory.read(*a)?;
+    }
+    Ok(found)
 }
 
-/// Reads the words of this range one after the other, and answers their sum, modulo 2^64. In an attempt that had done
-/// nothing some good memory has it.
+/// Reads the words of this range in turn, one at least, and answers their sum, modulo 2^64.
 ///
 /// # Errors
 /// The Stop of the access.
 pub fn read_sum<A: Access>(memory: &mut A, range: Range<usize>) -> Result<u64, Stop>
     requires going { A.stopped memory.old ≡ None }
     requires within { (range.start < range.end) × (range.end ≤ A.words memory.old) }
-    ensures read { IfOk result (λ sum.
-        SumRead (A.words memory.old) (A.log memory.old) range.start range.end sum
-        (A.log memory.new)) }
-    ensures known { A.log memory.old ≡ nothing
-        → IfOk result (λ sum.
-        HasSum (A.good memory.old) (A.words memory.old) range.start range.end sum) }
-    ensures writes { OnOk result ((A.log memory.new).writes ≡ (A.log memory.old).writes) }
+    ensures read { IfOk result (λ total.
+        RangeRead (A.words memory.old) (A.log memory.old) range.start range.end
+        (λ vs. total ≡ sum vs % 2 ^ 64) (A.log memory.new)) }
+    ensures found { IfOk result (λ total.
+        Found (A.good memory.old) (A.words memory.old) (A.log memory.old)
+        (λ m. total ≡ sum_in range.start range.end m % 2 ^ 64) (A.log memory.new)) }
     ensures frame { LeadsOn A.Access memory.old memory.new result }
 {
     let mut sum: u64 = 0;
@@ -80,55 +56,55 @@ pub fn read_sum<A: Access>(memory: &mut A, range: Range<usize>) -> Result<u64, S
     Ok(sum)
 }
 
-/// Writes one word, an address and its value.
+/// Reads the words of this range in turn, one at least, and answers how many of them pass the test.
 ///
 /// # Errors
 /// The Stop of the access.
-pub fn write_one<A: Access>(memory: &mut A, word: (usize, u64)) -> Result<(), Stop>
-    requires going { A.stopped memory.old ≡ None }
-    requires within { word.0 < A.words memory.old }
-    ensures wrote { OnOk result (AllWritten (A.log memory.old) (word ∷ []) (A.log memory.new)) }
-    ensures frame { LeadsOn A.Access memory.old memory.new result }
-{
-    memory.write(word.0, word.1)?;
-    Ok(())
-}
-
-/// Writes two words, as `write_one` one.
-///
-/// # Errors
-/// The Stop of the access.
-pub fn write_two<A: Access>(memory: &mut A, a: (usize, u64), b: (usize, u64)) -> Result<(), Stop>
-    requires going { A.stopped memory.old ≡ None }
-    requires within { (a.0 < A.words memory.old) × (b.0 < A.words memory.old) }
-    ensures wrote { OnOk result (AllWritten (A.log memory.old) (a ∷ b ∷ []) (A.log memory.new)) }
-    ensures frame { LeadsOn A.Access memory.old memory.new result }
-{
-    memory.write(a.0, a.1)?;
-    memory.write(b.0, b.1)?;
-    Ok(())
-}
-
-/// Writes three words, as `write_one` one.
-///
-/// # Errors
-/// The Stop of the access.
-pub fn write_three<A: Access>(
+pub fn read_count<A: Access, F: Fn(u64) -> bool>(
     memory: &mut A,
-    a: (usize, u64),
-    b: (usize, u64),
-    c: (usize, u64),
+    range: Range<usize>,
+    test: &F,
+) -> Result<usize, Stop>
+    requires going { A.stopped memory.old ≡ None }
+    requires within { (range.start < range.end) × (range.end ≤ A.words memory.old) }
+    requires callable { F.IsAlwaysCallable test.now }
+    ensures read { IfOk result (λ count.
+        (passes : ℕ → Bool) → Decides (F.post test.now) passes
+        → RangeRead (A.words memory.old) (A.log memory.old) range.start range.end
+        (λ vs. count ≡ count_by passes vs) (A.log memory.new)) }
+    ensures found { IfOk result (λ count.
+        (passes : ℕ → Bool) → Decides (F.post test.now) passes
+        → Found (A.good memory.old) (A.words memory.old) (A.log memory.old)
+        (λ m. count ≡ count_in passes range.start range.end m) (A.log memory.new)) }
+    ensures frame { LeadsOn A.Access memory.old memory.new result }
+{
+    let mut count: usize = 0;
+    for a in range.start..range.end {
+        let value = memory.read(a)?;
+        if test(value) {
+            count += 1;
+        }
+    }
+    Ok(count)
+}
+
+/// Writes these words in turn, each an address and its value, one at least.
+///
+/// # Errors
+/// The Stop of the access.
+pub fn write_words<A: Access, const N: usize>(
+    memory: &mut A,
+    words: [(usize, u64); N],
 ) -> Result<(), Stop>
     requires going { A.stopped memory.old ≡ None }
-    requires within { (a.0 < A.words memory.old) × (b.0 < A.words memory.old)
-        × (c.0 < A.words memory.old) }
-    ensures wrote { OnOk result
-        (AllWritten (A.log memory.old) (a ∷ b ∷ c ∷ []) (A.log memory.new)) }
+    requires some { 0 < N }
+    requires within { AllBelow (A.words memory.old) (map (λ w. w.0) words) }
+    ensures wrote { OnOk result (AllWritten (A.log memory.old) words.entry (A.log memory.new)) }
     ensures frame { LeadsOn A.Access memory.old memory.new result }
 {
-    memory.write(a.0, a.1)?;
-    memory.write(b.0, b.1)?;
-    memory.write(c.0, c.1)?;
+    for (a, value) in words {
+        memory.write(a, value)?;
+    }
     Ok(())
 }
 

@@ -171,7 +171,7 @@ module _ (good : (ℕ → ℕ) → Type 0) (c : Config) (n : ℕ) where
         raised = raised-put w x n v refl (λ e. same ∙ (sym named ∙ e)) (λ e j. g.core.raised (same ∙ (sym named ∙ e)) n j) g.core.raised;
       };
       fence = fence-comes c w x n from count v refl refl refl refl may.on caller none (fence_of-gate (fence_number n from count) (1 + n) alg (closed-fits c.callers (gate_projection w) g.core.gate n caller))
-          (let i = may.inside in let s = may.some in let f = may.fits in omega arith) (let i = may.inside in let f = may.fits in omega arith) may.inside g.core.history.below refl lies out g.fence;
+          may.fits may.inside g.core.history.below refl lies out g.fence;
     };
     advances = record { clock = le_refl w.clock; horizon = same-horizon w x (named ∙ sym same) (le_refl w.clock) (le_refl w.done); seen = λ f l. refl };
     shown = record { legal = g.core.history.legal; below = g.core.history.below; seen = (g.core.history.known n).seen; front = (g.core.history.known n).front };

@@ -22,7 +22,7 @@ giving_back x = (0, fence_loads 0) ∷ (1, announces) ∷ (1, loads_gate) ∷ (0
 
 -- with two callers, in a memory that takes fences and from clock 0, these steps are allowed; between them caller 0 has the range, and the history is then this one entry
 abbrev pub CoreFences : ((ℕ → ℕ) → Type 0) → Config → Type 0
-CoreFences good c = (x : ℕ) → 0 < c.words → c.words ≤ 1048576 → x < 2 ^ 64 → ((m : ℕ → ℕ) → good m → m 0 ≡ 0 → good (λ a. over (one_cell x) a (m a)))
+CoreFences good c = (x : ℕ) → 0 < c.words → x < 2 ^ 64 → ((m : ℕ → ℕ) → good m → m 0 ≡ 0 → good (λ a. over (one_cell x) a (m a)))
     → Allowed core_kind (CoreMay good (fenced_config c)) taking_out (opening_world (fenced_config c))
     × (((run core_kind (CoreMay good (fenced_config c)) taking_out (opening_world (fenced_config c))).views 0).fence.holds ≡ true)
     × Allowed core_kind (CoreMay good (fenced_config c)) (giving_back x) (run core_kind (CoreMay good (fenced_config c)) taking_out (opening_world (fenced_config c)))
@@ -30,7 +30,7 @@ CoreFences good c = (x : ℕ) → 0 < c.words → c.words ≤ 1048576 → x < 2 
     ≡ record { time = 1; caller = 0; number = 0; reads = one_cell 0; writes = one_cell x } ∷ [])
 
 pub core_fences_lem : (good : (ℕ → ℕ) → Type 0) (c : Config) → CoreFences good c
-core_fences_lem good c x some fits small keeps = (
+core_fences_lem good c x some small keeps = (
   (
     (omega arith, refl),
     (
@@ -42,7 +42,7 @@ core_fences_lem good c x some fits small keeps = (
           (
             (omega arith, record { holds = refl; other = λ e. cc }),
             (
-              (omega arith, record { on = refl; phase = refl; quiet = seen; named = refl; free = refl; ungiven = refl; some = omega arith; inside = omega arith; fits = fits }),
+              (omega arith, record { on = refl; phase = refl; quiet = seen; named = refl; free = refl; ungiven = refl; some = omega arith; inside = omega arith; fits = record { caller = omega arith; low = omega arith; few = omega arith; blocks = λ e. absurd cc } }),
               tt,
             ),
           ),

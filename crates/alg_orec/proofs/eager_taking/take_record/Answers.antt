@@ -1,4 +1,4 @@
-use Rattle.std.proofs.Common.{ℕ, ◌≡◌, ◌<◌, true, subst, sym, arith, rules}
+use Rattle.std.proofs.Common.{ℕ, ◌≡◌, ◌<◌, ◌∙◌, true, subst, sym, ap, arith, rules}
 use Rattle.std.specs.Prelude.{◌%◌, None}
 use Rattle.std.specs.Option.{is_some}
 use Rattle.stm_model.specs.declared.config.TheConstants.{CLOCK_LIMIT}
@@ -6,6 +6,7 @@ use Rattle.stm_model.specs.Memories.{item_at}
 use Rattle.rule_base.specs.Encodings.{version_of}
 use Rattle.rule_base.specs.StepKinds.{Tells}
 use Rattle.rule_orec.specs.OrecSteps.{orec_limit, orec_lock, CanOrecLock}
+use Rattle.stm_rule.specs.declared.local.Local.{Local}
 use Rattle.stm_rule.specs.Kept.{good_of}
 use Rattle.stm_rule.specs.StandLemmas.{tells-of}
 use Rattle.steps_orec.specs.RecordFindings.{FindsRecord, FindsClock}
@@ -87,10 +88,15 @@ returns-then-found-word-clause-takes g c =
     let at = goal.at.returns-then-found-word-clause-takes g c in
     rw c.record_of-index.ensures (laws.refused-lock (clocked g at.After-limit-clock) (free g at.In-Ok) c.lock-found.result _ (locked g at.After-lock-found) (search rules))
 
+pub push_new-requires : goal.push_new-requires
+push_new-requires g c =
+    let none : item_at c.record_of-index.result c.args.local.now.locks.items ≡ None = search rules in
+    record { new = ap (λ (l : Local). item_at c.record_of-index.result l.locks.items) c.in-Ok.ensures.samples.local ∙ none }
+
 pub returns-clause-takes : goal.returns-clause-takes
 returns-clause-takes g c =
     let at = goal.at.returns-clause-takes g c in
     let r = c.args.a % c.args.stm.now.config.records in
-    laws.taken-now (clocked g at.After-limit-clock) (free g at.In-Ok) c.lock-found.result _ (locked g at.After-lock-found) c.push.result c.push.new.self (search rules) (search rules)
-    (subst (λ (x : ℕ). Pushes c.sample_valid.new.local.locks r (keep r x c.sample_valid.new.local.locks.items) c.push.result c.push.new.self) (version g at.After-lock-found)
-    (subst (λ (i : ℕ). Pushes c.sample_valid.new.local.locks i (keep i c.version_of-version.result c.sample_valid.new.local.locks.items) c.push.result c.push.new.self) c.record_of-index.ensures c.push.ensures))
+    laws.taken-now (clocked g at.After-limit-clock) (free g at.In-Ok) c.lock-found.result _ (locked g at.After-lock-found) c.push_new.result c.push_new.new.self (search rules) (search rules)
+    (subst (λ (x : ℕ). Pushes c.sample_valid.new.local.locks r (keep r x c.sample_valid.new.local.locks.items) c.push_new.result c.push_new.new.self) (version g at.After-lock-found)
+    (subst (λ (i : ℕ). Pushes c.sample_valid.new.local.locks i (keep i c.version_of-version.result c.sample_valid.new.local.locks.items) c.push_new.result c.push_new.new.self) c.record_of-index.ensures c.push_new.ensures))

@@ -68,10 +68,10 @@ returns-clause-locks g c =
     let l = c.args.local.now in
     let is : c.version_of-version.result ≡ version_of c.look-word.result = search rules in
     subst (λ (x : ℕ). LocksOne c.args.stm.now.config c.args.caller c.args.r (Ok x) l c.args.seat.now.me.0.view
-    (record l { locks = c.push.new.self }) c.lock-found.new.seat.me.0.view) (sym is)
+    (record l { locks = c.push_new.new.self }) c.lock-found.new.seat.me.0.view) (sym is)
     (laws.has-locked _ _ _ c.requires.caller _ _ c.requires.view (unheld g at.After-look-word) c.look-word.result
-    c.lock-found.result _ _ c.push.result c.push.new.self (search rules) (search rules)
+    c.lock-found.result _ _ c.push_new.result c.push_new.new.self (search rules) (search rules)
     (looked g at.After-look-word)
     (tried g at.After-lock-found is)
-    (subst (λ (x : ℕ). Pushes l.locks c.args.r (keep c.args.r x l.locks.items) c.push.result c.push.new.self) is
-    c.push.ensures) c.requires.new c.requires.room)
+    (subst (λ (x : ℕ). Pushes l.locks c.args.r (keep c.args.r x l.locks.items) c.push_new.result c.push_new.new.self) is
+    c.push_new.ensures) c.requires.new c.requires.room)

@@ -7,5 +7,5 @@ use Rattle.draw_core.proofs.picture.picture.Goals as goal
 
 pub returns-clause-markup : goal.returns-clause-markup
 returns-clause-markup c =
-    let is : c.into_bytes.result.items ≡ svg_of (boxes_of c.args.lines.now) = search rules in
-    subst IsMarkup (sym is) (picture-is-markup c.args.lines.now)
+    let is : c.into_bytes.result.items ≡ svg_of c.args.leaf (boxes_of c.args.lines.now) = search rules in
+    subst IsMarkup (sym is) (picture-is-markup c.args.leaf c.args.lines.now)

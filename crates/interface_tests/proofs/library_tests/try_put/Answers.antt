@@ -10,8 +10,8 @@ use Rattle.interface_tests.proofs.Stocks.{HasRoom, stocks-read, stocks-put, stil
 use Rattle.interface_tests.proofs.library_tests.try_put.Goals as goal
 use Rattle.interface_tests.proofs.library_tests.try_put.Goals.{then-has_room+in-Done, then-stock-eq0, else-stock-eq0, else-has_room}
 
-pub commit-requires-clause-keeps : goal.commit-requires-clause-keeps
-commit-requires-clause-keeps c =
+pub commit_for_answer-requires-clause-keeps : goal.commit_for_answer-requires-clause-keeps
+commit_for_answer-requires-clause-keeps c =
     let room = c.args.stm.now.rule.room in
     let words = c.args.stm.now.config.words in
     let none = (c.if-not-begin.ensures.runs refl).1 in
@@ -39,5 +39,5 @@ commit-requires-clause-keeps c =
 pub returns-in-Again-clause-idle : goal.returns-in-Again-clause-idle
 returns-in-Again-clause-idle c =
     let again = c.in-Again.ensures.commits in
-    let revocable = still-revocable (known c.if-has_room.desc) (known c.commit.new.desc) again.0.continues.alg again.0.granted again.2 again.7 in
-    cancels-idle (HasRoom c.args.stm.now.rule.room) c.args.stm.now.config (number c.commit.new.desc) c.cancel.result (known c.commit.new.desc) (known c.cancel.new.desc) revocable c.cancel.ensures.cancels
+    let revocable = still-revocable (known c.if-has_room.desc) (known c.commit_for_answer.new.desc) again.0.continues.alg again.0.granted again.2 again.7 in
+    cancels-idle (HasRoom c.args.stm.now.rule.room) c.args.stm.now.config (number c.commit_for_answer.new.desc) c.cancel.result (known c.commit_for_answer.new.desc) (known c.cancel.new.desc) revocable c.cancel.ensures.cancels

@@ -36,8 +36,8 @@ finish-ends-requires-clause-turn c =
     let t = c.in-None.ensures.turns in
     subst (λ (l : Local). CanFinish (any stm.rule) stm.config d.number l c.turn.new.seat.me.0.view) (sym t.0) (d.seat.me.0.view, t.1)
 
-pub commit-requires-clause-running : goal.commit-requires-clause-running
-commit-requires-clause-running c = c.in-Again.ensures.commits.0.continues.running
+pub commit_for_answer-requires-clause-running : goal.commit_for_answer-requires-clause-running
+commit_for_answer-requires-clause-running c = c.in-Again.ensures.commits.0.continues.running
 
 pub invariant_of-first-in-None : goal.invariant_of-first-in-None
 invariant_of-first-in-None c =

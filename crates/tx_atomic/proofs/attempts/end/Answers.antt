@@ -16,11 +16,11 @@ use Rattle.tx_atomic.specs.Tries.{FindsAgain, FinishesBy, Finishes}
 use Rattle.tx_atomic.specs.TryLaws.{again-more, commit-full, commit-done}
 use Rattle.tx_atomic.proofs.attempts.end.Goals as goal
 
-pub commit-requires-clause-served : goal.commit-requires-clause-served
-commit-requires-clause-served g c = serves-on g.C.Calls.acts_as (known c.args.desc.now) (known c.loop.desc) c.loop.invariant.alg c.loop.invariant.granted c.requires.served
+pub commit-answer-requires-clause-served : goal.commit-answer-requires-clause-served
+commit-answer-requires-clause-served g c = serves-on g.C.Calls.acts_as (known c.args.desc.now) (known c.loop.desc) c.loop.invariant.alg c.loop.invariant.granted c.requires.served
 
-pub commit-requires-clause-keeps : goal.commit-requires-clause-keeps
-commit-requires-clause-keeps g c =
+pub commit-answer-requires-clause-keeps : goal.commit-answer-requires-clause-keeps
+commit-answer-requires-clause-keeps g c =
     let stm = c.args.stm.now in
     λ wrote. subst (λ (l : Log). Keeps (g.K.MemRule.good stm.rule) stm.config.words l) (sym c.loop.invariant.log) c.requires.may.1
 
@@ -29,8 +29,8 @@ returns-in-Committed-clause-took g c =
     let stm = c.args.stm.now in
     let good = g.K.MemRule.good stm.rule in
     let inv = c.loop.invariant in
-    let now = subst (λ n. Commits good stm.config n c.commit.result (known c.loop.desc) (known c.commit.new.desc)) (same-number c.args.desc.now c.loop.desc inv.same) c.commit.ensures.commits in
-    took-by good stm.config (number c.args.desc.now) _ c.commit.result _ (known c.args.desc.now) (known c.loop.desc) (known c.commit.new.desc) inv.log inv.made inv.grew inv.later now c.in-Committed.is
+    let now = subst (λ n. Commits good stm.config n c.commit-answer.result.answer (known c.loop.desc) (known c.commit-answer.new.desc)) (same-number c.args.desc.now c.loop.desc inv.same) c.commit-answer.ensures.commits in
+    took-by good stm.config (number c.args.desc.now) _ c.commit-answer.result.answer _ (known c.args.desc.now) (known c.loop.desc) (known c.commit-answer.new.desc) inv.log inv.made inv.grew inv.later now c.in-Committed.is
 
 pub loop-init : goal.loop-init
 loop-init g c =
@@ -47,11 +47,11 @@ loop-preserved g c =
     let n = number c.args.desc.now in
     let u = known c.args.desc.now in
     let v = known c.loop.desc in
-    let w = known c.commit.new.desc in
+    let w = known c.commit-answer.new.desc in
     let inv = c.loop.invariant in
-    let grew = commits-grow good stm.config (number c.loop.desc) c.commit.result u v w inv.grew c.commit.ensures.commits in
-    let went = c.in-Again.ensures.commits in
-    let more = again-more good stm.config n inv.again.0 (number c.loop.desc) c.commit.result _ _ _ u v w (same-number c.args.desc.now c.loop.desc inv.same) inv.again.1 c.in-Again.is c.commit.ensures.commits in
+    let grew = commits-grow good stm.config (number c.loop.desc) c.commit-answer.result.answer u v w inv.grew c.commit-answer.ensures.commits in
+    let went = subst (λ r. Commits good stm.config (number c.loop.desc) r v w) c.in-Again.is c.commit-answer.ensures.commits in
+    let more = again-more good stm.config n inv.again.0 (number c.loop.desc) c.commit-answer.result.answer _ _ _ u v w (same-number c.args.desc.now c.loop.desc inv.same) inv.again.1 c.in-Again.is c.commit-answer.ensures.commits in
     let again : (k : ℕ) × FindsAgain good stm.config n k u w × (c.wait_at_commit.new.self.tally ≡ noted_times k Again c.args.pace.now.tally)
     = (suc inv.again.0, more, c.wait_at_commit.ensures.noted ∙ ap (noted Again) (c.tell.ensures ∙ inv.again.2)) in
     search (rules, grew, went, again)
@@ -74,40 +74,41 @@ pub returns-in-Committed-clause-finishes : goal.returns-in-Committed-clause-fini
 returns-in-Committed-clause-finishes g c =
     let stm = c.args.stm.now in
     finishes (g.K.MemRule.good stm.rule) stm.config (number c.args.desc.now) (number c.loop.desc) None (known c.args.desc.now)
-    (known c.loop.desc) (known c.commit.new.desc) c.args.pace.now.tally c.loop.pace.tally
+    (known c.loop.desc) (known c.commit-answer.new.desc) c.args.pace.now.tally c.loop.pace.tally
     (same-number c.args.desc.now c.loop.desc c.loop.invariant.same) c.loop.invariant.again
-    (commit-done (g.K.MemRule.good stm.rule) stm.config (number c.loop.desc) c.commit.result (known c.loop.desc) (known c.commit.new.desc)
-    c.in-Committed.is c.commit.ensures.commits)
+    (commit-done (g.K.MemRule.good stm.rule) stm.config (number c.loop.desc) c.commit-answer.result.answer (known c.loop.desc) (known c.commit-answer.new.desc)
+    c.in-Committed.is c.commit-answer.ensures.commits)
 
 pub returns-in-Conflict-clause-finishes : goal.returns-in-Conflict-clause-finishes
 returns-in-Conflict-clause-finishes g c =
     let stm = c.args.stm.now in
     refused (g.K.MemRule.good stm.rule) stm.config (number c.args.desc.now) (number c.loop.desc) (ends.Conflict c.in-Conflict.cause)
-    c.refuse.new.self.last (known c.args.desc.now) (known c.loop.desc) (known c.commit.new.desc) c.args.pace.now.tally c.loop.pace.tally
+    c.refuse.new.self.last (known c.args.desc.now) (known c.loop.desc) (known c.commit-answer.new.desc) c.args.pace.now.tally c.loop.pace.tally
     c.refuse.new.self.tally c.refuse.ensures.last c.refuse.ensures.tally (same-number c.args.desc.now c.loop.desc c.loop.invariant.same)
-    c.loop.invariant.again c.in-Conflict.ensures.commits
+    c.loop.invariant.again
+    (subst (λ r. Commits (g.K.MemRule.good stm.rule) stm.config (number c.loop.desc) r (known c.loop.desc) (known c.commit-answer.new.desc)) c.in-Conflict.is c.commit-answer.ensures.commits)
 
 pub returns-in-ClockFull-clause-finishes : goal.returns-in-ClockFull-clause-finishes
 returns-in-ClockFull-clause-finishes g c =
     let stm = c.args.stm.now in
     refused (g.K.MemRule.good stm.rule) stm.config (number c.args.desc.now) (number c.loop.desc) ends.ClockFull
-    c.refuse-in-ClockFull.new.self.last (known c.args.desc.now) (known c.loop.desc) (known c.commit.new.desc) c.args.pace.now.tally
+    c.refuse-in-ClockFull.new.self.last (known c.args.desc.now) (known c.loop.desc) (known c.commit-answer.new.desc) c.args.pace.now.tally
     c.loop.pace.tally c.refuse-in-ClockFull.new.self.tally c.refuse-in-ClockFull.ensures.last c.refuse-in-ClockFull.ensures.tally
     (same-number c.args.desc.now c.loop.desc c.loop.invariant.same) c.loop.invariant.again
-    (commit-full (g.K.MemRule.good stm.rule) stm.config (number c.loop.desc) c.commit.result _ (known c.loop.desc) (known c.commit.new.desc)
-    c.in-ClockFull.is c.commit.ensures.commits)
+    (commit-full (g.K.MemRule.good stm.rule) stm.config (number c.loop.desc) c.commit-answer.result.answer _ (known c.loop.desc) (known c.commit-answer.new.desc)
+    c.in-ClockFull.is c.commit-answer.ensures.commits)
 
 pub returns-in-Committed-clause-grew : goal.returns-in-Committed-clause-grew
 returns-in-Committed-clause-grew g c =
-    commits-grow (g.K.MemRule.good c.args.stm.now.rule) c.args.stm.now.config (number c.loop.desc) c.commit.result (known c.args.desc.now)
-    (known c.loop.desc) (known c.commit.new.desc) c.loop.invariant.grew c.commit.ensures.commits
+    commits-grow (g.K.MemRule.good c.args.stm.now.rule) c.args.stm.now.config (number c.loop.desc) c.commit-answer.result.answer (known c.args.desc.now)
+    (known c.loop.desc) (known c.commit-answer.new.desc) c.loop.invariant.grew c.commit-answer.ensures.commits
 
 pub returns-in-Conflict-clause-grew : goal.returns-in-Conflict-clause-grew
 returns-in-Conflict-clause-grew g c =
-    commits-grow (g.K.MemRule.good c.args.stm.now.rule) c.args.stm.now.config (number c.loop.desc) c.commit.result (known c.args.desc.now)
-    (known c.loop.desc) (known c.commit.new.desc) c.loop.invariant.grew c.commit.ensures.commits
+    commits-grow (g.K.MemRule.good c.args.stm.now.rule) c.args.stm.now.config (number c.loop.desc) c.commit-answer.result.answer (known c.args.desc.now)
+    (known c.loop.desc) (known c.commit-answer.new.desc) c.loop.invariant.grew c.commit-answer.ensures.commits
 
 pub returns-in-ClockFull-clause-grew : goal.returns-in-ClockFull-clause-grew
 returns-in-ClockFull-clause-grew g c =
-    commits-grow (g.K.MemRule.good c.args.stm.now.rule) c.args.stm.now.config (number c.loop.desc) c.commit.result (known c.args.desc.now)
-    (known c.loop.desc) (known c.commit.new.desc) c.loop.invariant.grew c.commit.ensures.commits
+    commits-grow (g.K.MemRule.good c.args.stm.now.rule) c.args.stm.now.config (number c.loop.desc) c.commit-answer.result.answer (known c.args.desc.now)
+    (known c.loop.desc) (known c.commit-answer.new.desc) c.loop.invariant.grew c.commit-answer.ensures.commits

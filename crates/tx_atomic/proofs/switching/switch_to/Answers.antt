@@ -6,4 +6,4 @@ pub returns-clause-grew : goal.returns-clause-grew
 returns-clause-grew g c =
     let u = known c.args.desc.now in
     let installed = grows-trans u (known c.close_alone-looks.new.desc) (known c.install.new.desc) c.close_alone-looks.ensures.grew c.install.ensures.installs.closed.grows in
-    grows-trans u (known c.install.new.desc) (known c.reopen.new.desc) installed c.reopen.ensures.reopens.grows
+    grows-trans u (known c.install.new.desc) (known c.reopen-rung.new.desc) installed c.reopen-rung.ensures.reopens.grows

@@ -1,4 +1,4 @@
-use Rattle.std.proofs.Common.{ℕ, ◌≡◌, ◌<◌, ◌≤◌, length, [], true}
+use Rattle.std.proofs.Common.{ℕ, ◌≡◌, ◌<◌, ◌≤◌, length, []}
 use Rattle.std.specs.Prelude.{slice_index}
 use Rattle.stm_model.specs.Histories.{memory_after}
 use Rattle.stm_rule.specs.Callers.{IsSameCaller}

@@ -1,6 +1,6 @@
 use Rattle.std.proofs.Common.{◌∙◌, [], ◌∷◌, ap, arith}
 use Rattle.stm_model.specs.declared.config.Config.{Config}
-use Rattle.tx_checked.proofs.Newcomers.{all-hindered, all-new, installed-ready}
+use Rattle.tx_checked.proofs.Newcomers.{all-hindered, all-new}
 use Rattle.tx_checked.proofs.opening.open.Goals as goal
 
 pub install_first-installed-requires-clause-some : goal.install_first-installed-requires-clause-some

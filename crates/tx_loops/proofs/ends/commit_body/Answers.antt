@@ -7,9 +7,9 @@ use Rattle.tx_loops.proofs.CommitLaws.{commit-comes}
 use Rattle.tx_loops.proofs.ends.commit_body.Goals as goal
 
 pub returns : goal.returns
-returns c =
+returns g c =
     let m = c.args.caller.now in
-    let n = c.commit.new.self in
+    let n = c.commit_by.new.self in
     let P : CommitOutcome → Type 0 = λ o. (o ≡ Done → IsThrough m n) × (o ≡ Again → AsksAgain m n) × (o ≡ Refused → IsRefused m n) in
-    let b = subst P (sym c.outcome_of.ensures) (commit-comes m n c.commit.result c.requires.running c.commit.ensures) in
+    let b = subst P (sym c.outcome_of.ensures) (commit-comes m n c.commit_by.result c.requires.running c.commit_by.ensures) in
     record { done = b.0; again = b.1; refused = b.2 }

@@ -25,6 +25,6 @@ loop-caller-preserved c =
     let pushed : callers_in c.push.new.self.items ≡ callers_in items ++ m ∷ [] = ap callers_in c.in-Ok.ensures.items ∙ map-append caller_in items _ in
     record {
       callers = ap (λ l. l ++ rest) pushed ∙ (append_assoc (callers_in items) (m ∷ []) rest ∙ (ap (λ l. callers_in items ++ l) (sym steps) ∙ at.invariant.callers));
-      free = push-free items c.push.new.self.items _ c.in-Ok.ensures.items at.invariant.free refl c.new-in-loop-caller.ensures cc;
+      free = push-free items c.push.new.self.items _ c.in-Ok.ensures.items at.invariant.free refl c.new-in-loop-caller.ensures.wanted cc;
       len = (let was = at.invariant.len in let gone = c.in-Some.ensures.steps.1 in let short = ap length steps in omega arith);
     }

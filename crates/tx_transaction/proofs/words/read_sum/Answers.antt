@@ -1,6 +1,9 @@
-use Rattle.std.proofs.Common.{rules, ℕ, ◌≡◌, ◌∙◌, refl, arith, subst}
+use Rattle.std.proofs.Common.{rules, ℕ, ◌≡◌, ◌∙◌, ◌%◌, ◌^◌, sum, arith, subst}
+use Rattle.std.proofs.lemmas.List.Sums.{sum_by_push}
 use Rattle.tx_effects.specs.EffectLaws.{same-trans}
-use Rattle.tx_transaction.specs.WordLaws.{HasSum, only-read, sum-more, sum-known}
+use Rattle.tx_transaction.specs.Words.{RangeRead}
+use Rattle.tx_transaction.specs.WordLaws.{range-found}
+use Rattle.tx_transaction.proofs.LoopLaws.{range-next}
 use Rattle.tx_transaction.proofs.words.read_sum.Goals as goal
 
 pub loop-a-preserved : goal.loop-a-preserved
@@ -13,21 +16,23 @@ loop-a-preserved g c =
       good = same-trans _ _ _ was.good one.good;
       keeps = g.met.A.Access.keeps_trans _ _ _ was.keeps one.keeps;
       explained = λ some. one.explained;
-      read = sum-more _ was.read (let low = c.loop-a-test.true in let within = c.requires.within in omega arith) one.value refl;
+      read = range-next _ was.read (let low = c.loop-a-test.true in let within = c.requires.within in omega arith) one.value
+          (λ vs is. let more = sum_by_push (λ (x : ℕ). x) vs c.in_ok-value.value in omega arith);
     }
 
-pub returns-clause-known : goal.returns-clause-known
-returns-clause-known g c fresh =
-    let all = c.loop-a.invariant in
+pub returns-clause-read : goal.returns-clause-read
+returns-clause-read g c =
     let past = c.loop-a-test.false in
     let within = c.requires.within in
     let upto = c.loop-a.auto.a-end in
     let is : c.loop-a.a ≡ c.args.range.end = omega arith in
-    subst (λ (end : ℕ). HasSum (g.A.Access.good c.args.memory.now) (g.A.Access.words c.args.memory.now) c.args.range.start end c.loop-a.sum) is
-    (sum-known all.read all.good all.words (all.explained (omega arith)) fresh)
+    subst (λ (end : ℕ). RangeRead (g.A.Access.words c.args.memory.now) (g.A.Access.log c.args.memory.now) c.args.range.start end (λ vs. c.loop-a.sum ≡ sum vs % 2 ^ 64) (g.A.Access.log c.loop-a.memory)) is
+    c.loop-a.invariant.read
 
-pub returns-clause-writes : goal.returns-clause-writes
-returns-clause-writes g c = only-read c.loop-a.invariant.read.read
+pub returns-clause-found : goal.returns-clause-found
+returns-clause-found g c =
+    let all = c.loop-a.invariant in
+    range-found (returns-clause-read g c) (all.explained (let past = c.loop-a-test.false in let within = c.requires.within in omega arith)) all.good all.words
 
 pub returns-clause-frame : goal.returns-clause-frame
 returns-clause-frame g c =

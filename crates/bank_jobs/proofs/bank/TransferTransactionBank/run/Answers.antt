@@ -1,27 +1,30 @@
-use Rattle.std.proofs.Common.{ℕ, ◌≡◌, ◌≢◌, ◌<◌, ◌+◌, ◌-◌, List, get_or, arith}
-use Rattle.tx_effects.specs.FreshLaws.{IsSound, keeps-by}
-use Rattle.tx_transaction.specs.WordLaws.{known, does-write, sum-moves, sum_steps}
-use Rattle.bank_jobs.specs.declared.bank.Transfer.{Transfer}
-use Rattle.bank_jobs.specs.Banks.{IsBalanced, moved_in}
+use Rattle.std.proofs.Common.{ℕ, ◌≡◌, ◌≢◌, ◌<◌, ◌+◌, ◌∙◌, List, [], ◌∷◌, length, get_or, arith}
+use Rattle.stm_model.specs.Memories.{written}
+use Rattle.tx_transaction.specs.RangeLaws.{sum-moves, sum_steps}
+use Rattle.tx_transaction.specs.WordLaws.{known, does-write, keeps-written}
+use Rattle.bank_jobs.specs.Banks.{IsBalanced}
 use Rattle.bank_jobs.proofs.bank.TransferTransactionBank.run.Goals as goal
 
-moved-keeps : (it : Transfer) {words : ℕ} → (words ≡ 9) × (it.from < 8) × (it.to < 8) × (it.from ≢ it.to)
-    → (m : List ℕ) → IsSound IsBalanced words m → IsBalanced (moved_in it m).memory
-moved-keeps it fits m s =
-    let moves = sum-moves m 8 it.from it.to (get_or m it.from 0 - it.amount) (get_or m it.to 0 + it.amount)
-    fits.1 fits.2 fits.3 (let long = s.1 in let words = fits.0 in omega arith) in
+moved-keeps : (m : List ℕ) (a b v w : ℕ) → a < 8 → b < 8 → a ≢ b → length m ≡ 9 → v + w ≡ get_or m a 0 + get_or m b 0
+    → IsBalanced m → IsBalanced (written m ((a, v) ∷ (b, w) ∷ []))
+moved-keeps m a b v w low high apart long same was =
+    let moves = sum-moves m 8 a b v w low high apart (omega arith) same in
     grind sum_steps
 
 pub overflow_add-payee : goal.overflow_add-payee
 overflow_add-payee g c =
-    known c.requires.good (c.in_ok-payer.ensures.known c.requires.fresh)
+    known c.requires.good c.requires.fresh c.in_ok-payer.ensures.found
     (λ m s ex. let enough = c.if-payer-self.false in grind (sum_steps, ex.0, ex.1.0, s, c.requires.precondition))
 
 pub returns-clause-postcondition : goal.returns-clause-postcondition
 returns-clause-postcondition g c =
-    does-write c.requires.good c.requires.fresh c.in_ok-payer.ensures.read c.in_ok-write_two.ensures.wrote
+    does-write c.requires.good c.requires.fresh c.in_ok-payer.ensures.found c.in_ok-write_words.ensures.wrote
     (λ m s ex. let enough = c.if-payer-self.false in grind (sum_steps, ex.0, ex.1.0))
 
 pub returns-clause-kept : goal.returns-clause-kept
 returns-clause-kept g c =
-    keeps-by _ _ _ _ _ (returns-clause-postcondition g c) (λ m s small. moved-keeps _ c.requires.precondition m s)
+    keeps-written c.requires.good c.requires.fresh c.in_ok-payer.ensures.found c.in_ok-write_words.ensures.wrote
+    (λ m s small ex.
+    let enough = c.if-payer-self.false in
+    let fits = c.requires.precondition in
+    moved-keeps m _ _ _ _ fits.1 fits.2 fits.3 (s.1 ∙ fits.0) (omega (arith, ex.0, ex.1.0)) s.0)

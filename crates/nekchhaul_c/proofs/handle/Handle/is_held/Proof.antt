@@ -1,12 +1,11 @@
 -- `is_held` looks at the tag alone.
-use Rattle.std.proofs.Common.{◌≡◌, ◌∙◌, ℕ, List, [], ◌∷◌, true, false, refl, sym, ap, lit<}
+use Rattle.std.proofs.Common.{◌∙◌, ℕ, List, [], ◌∷◌, true, false, refl, sym, ap, lit<}
 use Rattle.std.specs.Prelude.{is_some}
 use base.Fraction.{full_share}
 use mir.Syntax.{named}
 use mir.Val.{Val, vbool}
 use base.Fml.{ftrue, flft}
-use types.Logic.{Logic}
-use types.Kit.{‵, raw, ◌⊛◌, ◌$◌, ◌∵◌, !, qed, move, keep, split, join, group, rewrite, fsplit, fsplit3, fjoin, suffices, frame, feq_i, done}
+use types.Kit.{‵, ◌⊛◌, ◌$◌, ◌∵◌, !, qed, move, keep, split, join, group, rewrite, fsplit, fsplit3, fjoin, suffices, frame, feq_i, done}
 use types.Part.{whole, sub, look_in}
 use types.Run.{stop, fld, load, of_opd, bin, lit, returns, enter}
 use types.ByLocal.{alloc_all, pass_all, free_all, look_at, get, through, sets}

@@ -5,7 +5,10 @@ use Rattle.stm_trace.specs.Turns.{MaySay}
 use Rattle.stm_worker.specs.Workers.{Turned, cleared}
 use Rattle.stm_trace.specs.declared.said.Said.TheVariants.{TryCommit}
 use Rattle.stm_trace.specs.Places.{failed_next, must_next}
+use Rattle.tx_answers.specs.Answers.{Commits}
+use Rattle.tx_answers.specs.declared.answers.Commit.{Commit}
 use Rattle.tx_answers.specs.declared.answers.Commit.TheVariants.{Conflict, ClockFull}
+use Rattle.stm_tx.specs.Descs.{known, number}
 use Rattle.stm_worker.proofs.TurnLaws.{turned-committed, turned-readonly, turned-again, turned-quit, few-next, runs-now}
 use Rattle.stm_worker.proofs.worker.Worker.commit.Goals as goal
 
@@ -15,9 +18,10 @@ returns-in-Committed g c =
     let stm = c.args.stm.now in
     let u = c.args.self.now in
     let s = c.requires.sound in
+    let came = subst (λ (a : Commit). Commits good stm.config (number u.desc) a (known u.desc) (known c.commit-answer.new.desc)) c.in-Committed.is c.commit-answer.ensures.commits in
     record {
-      turned = turned-committed good stm u s c.commit.new.desc c.commit.ensures.same c.in-Committed.time true c.end.new.self
-          c.requires.inside c.requires.over c.requires.unforced c.in-Committed.ensures.commits c.end.ensures.ends;
+      turned = turned-committed good stm u s c.commit-answer.new.desc c.commit-answer.ensures.same c.in-Committed.time true c.end.new.self
+          c.requires.inside c.requires.over c.requires.unforced came c.end.ensures.ends;
     }
 
 pub returns-in-ReadOnly : goal.returns-in-ReadOnly
@@ -26,9 +30,10 @@ returns-in-ReadOnly g c =
     let stm = c.args.stm.now in
     let u = c.args.self.now in
     let s = c.requires.sound in
+    let came = subst (λ (a : Commit). Commits good stm.config (number u.desc) a (known u.desc) (known c.commit-answer.new.desc)) c.in-ReadOnly.is c.commit-answer.ensures.commits in
     record {
-      turned = turned-readonly good stm u s c.commit.new.desc c.commit.ensures.same c.in-ReadOnly.time true
-          c.end-in-ReadOnly.new.self c.requires.inside c.requires.over c.requires.unforced c.in-ReadOnly.ensures.commits
+      turned = turned-readonly good stm u s c.commit-answer.new.desc c.commit-answer.ensures.same c.in-ReadOnly.time true
+          c.end-in-ReadOnly.new.self c.requires.inside c.requires.over c.requires.unforced came
           c.end-in-ReadOnly.ensures.ends;
     }
 
@@ -38,9 +43,10 @@ returns-in-Again g c =
     let stm = c.args.stm.now in
     let u = c.args.self.now in
     let s = c.requires.sound in
+    let came = subst (λ (a : Commit). Commits good stm.config (number u.desc) a (known u.desc) (known c.commit-answer.new.desc)) c.in-Again.is c.commit-answer.ensures.commits in
     record {
-      turned = turned-again good stm u s c.commit.new.desc c.commit.ensures.same c.in-Again.word c.in-Again.had c.in-Again.now true
-          c.requires.inside c.requires.over c.requires.unforced c.in-Again.ensures.commits;
+      turned = turned-again good stm u s c.commit-answer.new.desc c.commit-answer.ensures.same c.in-Again.word c.in-Again.had c.in-Again.now true
+          c.requires.inside c.requires.over c.requires.unforced came;
     }
 
 pub returns-in-Conflict : goal.returns-in-Conflict
@@ -50,12 +56,13 @@ returns-in-Conflict g c =
     let u = c.args.self.now in
     let s = c.requires.sound in
     let said = Conflict c.in-Conflict.cause in
+    let came = subst (λ (a : Commit). Commits good stm.config (number u.desc) a (known u.desc) (known c.commit-answer.new.desc)) c.in-Conflict.is c.commit-answer.ensures.commits in
     record {
       turned = subst (Turned good stm MaySay u (TryCommit said)) (sym c.make_way.ensures)
-          (turned-quit good stm u s c.commit.new.desc c.commit.ensures.same (TryCommit said) (with_outcome u.profile outcomes.Conflict)
+          (turned-quit good stm u s c.commit-answer.new.desc c.commit-answer.ensures.same (TryCommit said) (with_outcome u.profile outcomes.Conflict)
           (must_next u.must u.failed) true (failed_next u.must u.failed) (cleared u.out) c.requires.inside
           (c.requires.inside, c.requires.unforced, c.requires.over)
-          c.in-Conflict.ensures.commits (runs-now good stm u s c.requires.inside) refl c.in-Conflict.ensures.commits.0 refl (few-next good stm u s c.commit.new.desc c.commit.ensures.same));
+          came (runs-now good stm u s c.requires.inside) refl came.0 refl (few-next good stm u s c.commit-answer.new.desc c.commit-answer.ensures.same));
     }
 
 pub returns-in-ClockFull : goal.returns-in-ClockFull
@@ -65,8 +72,9 @@ returns-in-ClockFull g c =
     let u = c.args.self.now in
     let s = c.requires.sound in
     let said = ClockFull c.in-ClockFull.clock in
+    let came = subst (λ (a : Commit). Commits good stm.config (number u.desc) a (known u.desc) (known c.commit-answer.new.desc)) c.in-ClockFull.is c.commit-answer.ensures.commits in
     record {
       turned = subst (Turned good stm MaySay u (TryCommit said)) (sym c.give_up.ensures)
-          (turned-quit good stm u s c.commit.new.desc c.commit.ensures.same (TryCommit said) u.profile u.must true u.failed (cleared u.out) c.requires.inside (c.requires.inside, c.requires.unforced, c.requires.over)
-          c.in-ClockFull.ensures.commits (runs-now good stm u s c.requires.inside) refl c.in-ClockFull.ensures.commits.0 refl s.counted);
+          (turned-quit good stm u s c.commit-answer.new.desc c.commit-answer.ensures.same (TryCommit said) u.profile u.must true u.failed (cleared u.out) c.requires.inside (c.requires.inside, c.requires.unforced, c.requires.over)
+          came (runs-now good stm u s c.requires.inside) refl came.0 refl s.counted);
     }

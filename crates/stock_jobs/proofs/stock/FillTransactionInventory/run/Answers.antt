@@ -17,7 +17,7 @@ left-keeps m item left long low within was = λ i at. let here = was i at in let
 
 pub returns-clause-postcondition : goal.returns-clause-postcondition
 returns-clause-postcondition g c =
-    does-write c.requires.good c.requires.fresh c.in_ok-supplied.ensures.read c.in_ok-write_three.ensures.wrote
+    does-write c.requires.good c.requires.fresh c.in_ok-supplied.ensures.found c.in_ok-write_words.ensures.wrote
     (λ m s ex. rw (ex.0, ex.1.0, ex.1.1.0, c.filled-left.ensures.is) refl)
 
 pub returns-clause-kept : goal.returns-clause-kept

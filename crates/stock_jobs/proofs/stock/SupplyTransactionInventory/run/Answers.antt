@@ -6,7 +6,7 @@ use Rattle.stock_jobs.proofs.stock.SupplyTransactionInventory.run.Goals as goal
 
 pub returns-clause-postcondition : goal.returns-clause-postcondition
 returns-clause-postcondition g c =
-    does-write c.requires.good c.requires.fresh c.in_ok-supplied.ensures.read c.in_ok-write_two.ensures.wrote
+    does-write c.requires.good c.requires.fresh c.in_ok-supplied.ensures.found c.in_ok-write_words.ensures.wrote
     (λ m s ex. rw (ex.0, ex.1.0, c.min-amount.ensures) refl)
 
 pub returns-clause-kept : goal.returns-clause-kept

@@ -1,11 +1,18 @@
 use Rattle.std.proofs.Common.{arith, ◌≡◌, ◌∷◌, [], ◌∙◌, sym, ap, subst}
-use Rattle.std.specs.Prelude.{Option, Some}
+use Rattle.std.specs.Prelude.{Some}
 use Rattle.atomic_table.specs.Table.{rest}
 use Rattle.stm_model.specs.declared.rule.AnyMem.{AnyMem}
 use Rattle.stm_rule.specs.Callers.{Handle}
 use Rattle.tx_checked.specs.NoteExchanges.{IsOfSameMemory, Hand}
-use Rattle.tx_checked.proofs.NoteExchanges.{shut}
+use Rattle.tx_checked.proofs.NoteExchanges.{entered, shut}
 use Rattle.tx_checked.proofs.note_exchange.NoteExchange.lay.Goals as goal
+
+pub load_new_seat-left-requires : goal.load_new_seat-left-requires
+load_new_seat-left-requires c =
+    let shared = c.args.self.now.table.shared in
+    let low = c.if-place-word_count.false in
+    let count = c.word_count.ensures in
+    (omega arith, entered shared.key shared.table_id.slots c.args.place)
 
 pub store-requires : goal.store-requires
 store-requires c =

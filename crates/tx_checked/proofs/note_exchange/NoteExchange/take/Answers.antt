@@ -1,9 +1,7 @@
-use Rattle.std.proofs.Common.{arith, ◌≡◌, ◌∷◌, [], ◌∙◌, sym, ap, subst}
-use Rattle.std.specs.Prelude.{Option, None}
+use Rattle.std.proofs.Common.{arith, ◌≡◌, ◌∷◌, [], ◌∙◌, ap}
+use Rattle.std.specs.Prelude.{None}
 use Rattle.atomic_table.specs.Table.{rest}
-use Rattle.stm_model.specs.declared.rule.AnyMem.{AnyMem}
-use Rattle.stm_rule.specs.Callers.{Handle}
-use Rattle.tx_checked.specs.NoteExchanges.{IsOfSameMemory, Hand}
+use Rattle.tx_checked.specs.NoteExchanges.{Hand}
 use Rattle.tx_checked.proofs.NoteExchanges.{shut}
 use Rattle.tx_checked.proofs.note_exchange.NoteExchange.take.Goals as goal
 

@@ -11,7 +11,7 @@ use Rattle.tx_parts.specs.Laying.{SameLog}
 use Rattle.tx_loops.proofs.looping_caller.LoopingCaller.finish_buffered.Goals as goal
 
 pub returns-then-store_through : goal.returns-then-store_through
-returns-then-store_through c =
+returns-then-store_through g c =
     let m = c.args.self.now in
     let k = c.store_through.new.caller in
     let stored = c.if-store_through.true in
@@ -19,4 +19,4 @@ returns-then-store_through c =
     let alone = laid-alone m.buffer.items (known_to m.caller).log (known_to k).log c.store_through.ensures.once blank (c.store_through.ensures.lays stored) in
     let like = subst (λ (s : Stage). SameLog (log_at s (known_to m.caller).log m.buffer.items) (known_to k).log) (sym c.requires.buffered) alone in
     let begun : LoopingCaller = record { caller = k; buffer = m.buffer; stage = Lapsed; plan = m.plan; at_stage = at-lapsed (known_to k) (config_of k).words m.buffer.items } in
-    finished m begun c.finish.new.self c.finish.result c.store_through.ensures.nothing (c.store_through.ensures.later stored) like c.finish.ensures
+    finished m begun c.finish.new.self c.finish.result c.store_through.ensures.nothing (c.store_through.ensures.later stored) like c.finish.ensures.says

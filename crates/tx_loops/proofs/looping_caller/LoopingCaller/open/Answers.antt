@@ -7,11 +7,11 @@ use Rattle.tx_checked.specs.Tells.{HasBegun, Tells}
 use Rattle.tx_loops.proofs.EnterLaws.{asked-at-once, begun-nothing}
 use Rattle.tx_loops.proofs.looping_caller.LoopingCaller.open.Goals as goal
 
-pub returns-then-is_urgent : goal.returns-then-is_urgent
-returns-then-is_urgent c =
+pub returns-then-is_urgent-clause-says : goal.returns-then-is_urgent-clause-says
+returns-then-is_urgent-clause-says c =
     let m = c.args.self.now in
     let k = c.begin.new.self in
     let Told = λ (r : Result Begin Misuse). Tells (outside m.caller) (HasBegun m.caller k) m.caller k r in
     let told = subst (λ (i : Begin). Told (Ok i)) c.in-Begun.is (subst Told c.in_ok-alg.was c.begin.ensures) in
     let b = begun-nothing m.caller k c.in-Begun.alg told in
-    asked-at-once m _ c.ask.new.self c.ask.result b.0 b.1 refl c.ask.ensures
+    asked-at-once m _ c.ask.new.self c.ask.result b.0 b.1 refl c.ask.ensures.says

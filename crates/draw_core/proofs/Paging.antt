@@ -1,0 +1,53 @@
+-- A page, row by row.
+use Rattle.std.proofs.Common.{ℕ, zero, suc, ◌≡◌, ◌<◌, ◌≤◌, ◌+◌, ◌-◌, List, [], ◌∷◌, ◌++◌, length, take, drop, refl, sym, ap, ◌∙◌, arith, append_assoc, length-append}
+use Rattle.std.specs.Prelude.{map, if◌then◌else◌, Option, Some, None}
+use Rattle.draw_core.specs.declared.row.Row.{Row}
+use Rattle.std.proofs.lemmas.List.{take_all, take-append-le, drop-append-le}
+use Rattle.draw_core.specs.Shapes.{Box, box_of, boxes_of}
+use Rattle.draw_core.specs.Rows.{joined, pushed, rows_from, rows_of}
+use Rattle.draw_core.specs.Standing.{Standing, after_row, stood}
+
+pub stood-more : (ss : List Standing) (bs : List Box) (b : Box) → stood ss (bs ++ b ∷ []) ≡ map (after_row b) (stood ss bs)
+stood-more ss [] b = refl
+stood-more ss (c ∷ bs) b = stood-more (map (after_row c) ss) bs b
+
+rows-more : (rows bs : List Box) (b : Box) → rows_from rows (bs ++ b ∷ []) ≡ pushed (rows_from rows bs) b
+rows-more rows [] b = refl
+rows-more rows (c ∷ bs) b = rows-more (pushed rows c) bs b
+
+pub rows_of-more : (bs : List Box) (b : Box) → rows_of (bs ++ b ∷ []) ≡ pushed (rows_of bs) b
+rows_of-more bs b = rows-more [] bs b
+
+pub pushed-last : (rows : List Box) (r b : Box) → pushed (rows ++ r ∷ []) b ≡ rows ++ joined r b
+pushed-last [] r b = refl
+pushed-last (s ∷ []) r b = refl
+pushed-last (s ∷ t ∷ rows) r b = ap (λ l. s ∷ l) (pushed-last (t ∷ rows) r b)
+
+-- a row more, before a page and on it
+module _ (from : ℕ) (rows : List Box) (b : Box) where
+  pub take-before : length rows < from → take from (rows ++ b ∷ []) ≡ take from rows ++ b ∷ []
+  take-before lt =
+      let n = length-append rows (b ∷ []) in
+      take_all from (rows ++ b ∷ []) (omega (arith, n, lt)) ∙ ap (λ l. l ++ b ∷ []) (sym (take_all from rows (omega (arith, lt))))
+
+  pub take-after : from ≤ length rows → take from (rows ++ b ∷ []) ≡ take from rows
+  take-after le = take-append-le from rows (b ∷ []) le
+
+  pub drop-after : from ≤ length rows → drop from (rows ++ b ∷ []) ≡ drop from rows ++ b ∷ []
+  drop-after le = drop-append-le from rows (b ∷ []) le
+
+some-of : Option Row → Row → Row
+some-of None d = d
+some-of (Some row) d = row
+
+pub row-is : (a b : Row) → Some a ≡ Some b → a ≡ b
+unfolding some-of
+row-is a b e = ap (λ o. some-of o a) e
+
+pub none-is : (o : Option Row) → ((row : Row) → o ≡ Some row → ⊥) → o ≡ None
+none-is None h = refl
+none-is (Some row) h = absurd (h row refl)
+
+pub none-by : (o : Option ℕ) → ((n : ℕ) → o ≡ Some n → ⊥) → o ≡ None
+none-by None h = refl
+none-by (Some n) h = absurd (h n refl)

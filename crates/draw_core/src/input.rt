@@ -1,0 +1,26 @@
+//! Where a text is read from.
+use std::io::{self, ErrorKind, Read};
+
+/// Standard input, a file, a file and then another, or a file that isn't there.
+#[derive(Drop)]
+pub(crate) enum Text<I, F> {
+    Input(I),
+    File(F),
+    Both(F, F),
+    /// Each read fails.
+    Missing,
+}
+
+impl<I: Read, F: Read> Read for Text<I, F> {
+    fn read(&mut self, buf: &mut [u8]) -> io::Result<usize> {
+        match self {
+            Text::Input(input) => input.read(buf),
+            Text::File(file) => file.read(buf),
+            Text::Both(first, second) => match first.read(buf) {
+                Ok(0) => second.read(buf),
+                read => read,
+            },
+            Text::Missing => Err(io::Error::from(ErrorKind::NotFound)),
+        }
+    }
+}

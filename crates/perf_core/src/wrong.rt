@@ -1,0 +1,177 @@
+//! Which word of a command line is wrong, in a sentence.
+use crate::plan::WORKLOADS;
+use std::alloc::{AllocError, Global};
+use stm_model::alg::ALGORITHMS;
+use stm_profile::numbers::number;
+use strsim::levenshtein;
+
+/// How many bytes of a word are shown.
+const MOST_SHOWN: usize = 24;
+
+/// The numbers that follow the algorithm, with their ranges.
+const NUMBERS: [(&str, u64, u64); 3] = [
+    ("THREADS", 1, 32),
+    ("COUNT", 1, u32::MAX as u64),
+    ("SEED", 0, u64::MAX),
+];
+
+/// What is wrong with words that ask for nothing, in a sentence: which of them, and what may stand there.
+///
+/// # Errors
+/// Memory, where it is refused.
+pub fn wrong_word(alloc: Global, words: &[&str]) -> Result<String, AllocError> {
+    let mut said = String::new(alloc);
+    let mut workloads = Vec::new(alloc);
+    for workload in WORKLOADS {
+        workloads.push(workload.name())?;
+    }
+    if put_name(
+        alloc,
+        &mut said,
+        "WORKLOAD",
+        words.get(1),
+        workloads.as_slice(),
+    )? {
+        return Ok(said);
+    }
+    let mut algorithms = Vec::new(alloc);
+    for alg in ALGORITHMS {
+        algorithms.push(alg.name())?;
+    }
+    if put_name(
+        alloc,
+        &mut said,
+        "ALGORITHM",
+        words.get(2),
+        algorithms.as_slice(),
+    )? {
+        return Ok(said);
+    }
+    for (i, range) in NUMBERS.iter().enumerate() {
+        let (name, low, high) = *range;
+        if put_number(&mut said, name, words.get(i + 3), low, high)? {
+            return Ok(said);
+        }
+    }
+    put_rest(&mut said, &words[words.len().min(6)..])?;
+    Ok(said)
+}
+
+/// Appends what is wrong with a word that is to be one of these; answers whether something is.
+fn put_name(
+    alloc: Global,
+    said: &mut String,
+    name: &str,
+    word: Option<&&str>,
+    names: &[&str],
+) -> Result<bool, AllocError> {
+    let Some(word) = word else {
+        write!(said, "{name} is missing; here stands one of ")?;
+        put_nearest(alloc, said, "", names)?;
+        return Ok(true);
+    };
+    if names.contains(word) {
+        return Ok(false);
+    }
+    put_word(said, word)?;
+    write!(said, " is no {name}; here stands ")?;
+    put_nearest(alloc, said, word, names)?;
+    Ok(true)
+}
+
+/// Appends what is wrong with a word that is to be a number of this range; answers whether something is.
+fn put_number(
+    said: &mut String,
+    name: &str,
+    word: Option<&&str>,
+    low: u64,
+    high: u64,
+) -> Result<bool, AllocError> {
+    let Some(word) = word else {
+        write!(
+            said,
+            "{name} is missing; here stands {name} from {low} to {high}"
+        )?;
+        return Ok(true);
+    };
+    let why = match number(word) {
+        None => " is no number (digits alone, no 0 in front, below 2^64)",
+        Some(n) if low <= n && n <= high => return Ok(false),
+        Some(_) => " is out of its range",
+    };
+    put_word(said, word)?;
+    write!(said, "{why}; here stands {name} from {low} to {high}")?;
+    Ok(true)
+}
+
+/// Appends what is wrong with the words after the seed: `[READS] [switches N] [conflicts]`.
+fn put_rest(said: &mut String, words: &[&str]) -> Result<(), AllocError> {
+    let mut at = 0usize;
+    if let Some(word) = words.first() {
+        if number(word).is_some() {
+            if put_number(said, "READS", Some(word), 1, 4_096)? {
+                return Ok(());
+            }
+            at = 1;
+        }
+    }
+    if words.get(at) == Some(&"switches") {
+        if put_number(said, "N", words.get(at + 1), 1, u64::from(u32::MAX))? {
+            return Ok(());
+        }
+        at += 2;
+    }
+    if words.get(at) == Some(&"conflicts") {
+        at += 1;
+    }
+    match words.get(at) {
+        Some(word) => put_word(said, word)?,
+        None => said.push_str("the last word")?,
+    }
+    said.push_str(" isn't used so; here stands `SEED [READS] [switches N] [conflicts]`")
+}
+
+/// Appends these names, those that are most like a word first.
+fn put_nearest(
+    alloc: Global,
+    said: &mut String,
+    word: &str,
+    names: &[&str],
+) -> Result<(), AllocError> {
+    let mut cut = String::new(alloc);
+    push_cut(&mut cut, word)?;
+    let mut is_first = true;
+    for wanted in 0..=MOST_SHOWN {
+        for name in names {
+            if levenshtein(alloc, name, cut.as_str())?.min(MOST_SHOWN) != wanted {
+                continue;
+            }
+            if !is_first {
+                said.push_str(", ")?;
+            }
+            write!(said, "`{name}`")?;
+            is_first = false;
+        }
+    }
+    Ok(())
+}
+
+/// Appends a word, cut.
+fn put_word(said: &mut String, word: &str) -> Result<(), AllocError> {
+    said.push_str("`")?;
+    push_cut(said, word)?;
+    said.push_str("`")
+}
+
+/// Appends the first bytes of a word; what isn't shown in a line is a question mark.
+fn push_cut(said: &mut String, word: &str) -> Result<(), AllocError> {
+    let mut length = 0usize;
+    for c in word.chars() {
+        length = length.saturating_add(c.len_utf8());
+        if MOST_SHOWN < length {
+            return said.push_str(" ..");
+        }
+        said.push(if c.is_control() { '?' } else { c })?;
+    }
+    Ok(())
+}
