@@ -100,8 +100,14 @@ fi
 # One object with the names of the header alone.
 mkdir -p "$to"
 rm -f "$to"/libnekchhaul.*
-ld -r -o "$room/nekchhaul.o" ./*.o
+ld -r -o "$room/calls.o" ./*.o
+# (waking.c has these names, and calls what had them)
+for name in enter $(sed -n 's/^WAKING(\([a-z_]*\),.*/\1/p' "$here/waking.c"); do objcopy --redefine-sym nekchhaul_$name=nekchhaul_silent_$name "$room/calls.o"; done
+# shellcheck disable=SC2086
+"$cc" -std=c11 -O2 -fPIC $flags -c "$here/waking.c" -o "$room/waking.o"
+ld -r -o "$room/nekchhaul.o" "$room/calls.o" "$room/waking.o"
 objcopy -w --keep-global-symbol='nekchhaul_*' "$room/nekchhaul.o"
+objcopy -w --localize-symbol='nekchhaul_silent_*' "$room/nekchhaul.o"
 # (older runtimes of the thread sanitizer have these by the C library's names alone)
 for name in memcpy memmove memset; do objcopy --redefine-sym __tsan_$name=$name "$room/nekchhaul.o"; done
 # shellcheck disable=SC2086

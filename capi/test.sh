@@ -54,7 +54,7 @@ header=$here/include/nekchhaul.h
 nm -g "$archive" | sed -n 's/.* T \(.*\)$/\1/p' | sort >"$room/exported"
 compare declared exported "the header declares other names than the archive has"
 sed -n '/typedef enum nekchhaul_status/,/} nekchhaul_status;/s/^ *NEKCHHAUL_\([A-Z_]*\) = \([0-9]*\).*/\1 \2/p' "$header" >"$room/all"
-grep -vE '^(ONE_CALLER|STOP) ' "$room/all" | sort >"$room/numbers"
+grep -vE '^(ONE_CALLER|NONE_FREE|STOP) ' "$room/all" | sort >"$room/numbers"
 sed -n 's/^\(pub(crate) \)*const \([A-Z_]*\): u32 = \([0-9]*\);/\2 \3/p' "$here/../crates/nekchhaul_c/src/status.rt" | grep -v '^STOP ' | sort >"$room/crate"
 compare numbers crate "the header has other numbers than crates/nekchhaul_c/src/status.rt"
 sed 's/ .*//' "$room/all" | grep -vx STOP | sort >"$room/statuses"
@@ -62,7 +62,7 @@ sed -n 's/^ *NEKCHHAUL_NAME(\([A-Z_]*\))$/\1/p' "$header" | sort >"$room/named"
 compare statuses named "a status has no name in nekchhaul_status_name"
 # Each wrapper has each call of the header, but those that are within another that it has: one try of a call that must be alone, or
 # tries without end, in that of so many tries; a cancel in nekchhaul_abandon; of nekchhaul_wait, nekchhaul_wake and nekchhaul_pause the parts.
-within='nekchhaul_(begin_under|cancel|move|learn_of_another|switch|fence|give_back|close|install|take_range|return_range|end|announce|ring|sleep)'
+within='nekchhaul_(begin_under|cancel|move|learn_of_another|switch|fence|give_back|close|install|take_range|return_range|end|announce|ring|bell|sleep)'
 for wrapper in include/nekchhaul.hpp rust/src python/nekchhaul.py; do
     for name in $(grep -vxE "$within" "$room/declared"); do
         try "$wrapper has no call ${name#nekchhaul_}" grep -rqwE "(nekchhaul_)?${name#nekchhaul_}" "$here/$wrapper"
@@ -101,7 +101,7 @@ cc=
 for compiler in gcc clang; do
     tries $compiler || continue
     [ "$cc" ] || cc=$compiler
-    for example in misuse causes whole nested alone committing memory stops cost bank events collector allocator turns waiting; do
+    for example in misuse causes whole nested alone committing memory stops cost bank events collector allocator turns waiting peek pool; do
         compiled "$compiler" $example.c -std=c11
     done
     for example in misuse causes whole nested allocator; do
@@ -116,10 +116,13 @@ for compiler in gcc clang; do
     done
     [ "$compiler" = "$cc" ] || share=20 # (what another compiler makes anew is the header)
     ran "stops.c-$compiler" $share
+    ran "pool.c-$compiler" $((200 / share))
+    ran "peek.c-$compiler" $((20000 / share))
     ran "collector.c-$compiler" $share
     if [ "$compiler" = "$cc" ]; then # these try the library, and not the header
         ran "alone.c-$compiler"
         ran "committing.c-$compiler"
+        [ "$flags" ] || ran "turns.c-$compiler" 2000
         [ "$flags" ] && ran "waiting.c-$compiler" 500 || ran "waiting.c-$compiler"
         [ "$flags" ] || ran "memory.c-$compiler" # (a sanitizer takes memory of its own)
     fi

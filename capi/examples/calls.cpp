@@ -238,6 +238,19 @@ int main()
         others(callers[0], callers[1]);
     }
     auto callers = nh::open({4, 16, 16, 16, 16, 0}, nh::algorithm::orec_lazy, 2);
+    {
+        auto lent = nh::open({4, 16, 16, 16, 16, 0}, nh::algorithm::orec_lazy, 2);
+        nh::table table(std::move(lent));
+        nh::caller one = table.join(), other = table.join();
+        IS(status_of([&] { table.join(); }) == NEKCHHAUL_NONE_FREE);
+        one.atomically([](auto &t) { t.write(1, 8); });
+        IS(other.peek(1) == 8 && status_of([&] { other.peek(4); }) == NEKCHHAUL_ADDRESS);
+        one.take_range(1, 1);
+        IS(status_of([&] { other.peek(1); }) == NEKCHHAUL_FENCED && status_of([&] { table.part(one); }) == NEKCHHAUL_HOLDS_RANGE);
+        table.part_for_dead(one);
+        IS(status_of([&] { table.part(one); }) == NEKCHHAUL_NO_CALLER);
+        table.part(other);
+    }
     nh::caller(std::move(callers[0])).take_range(0, 1); // which the destructor gives back
     IS(status_of([&] { callers[1].begin().read(0); }) == NEKCHHAUL_OK);
     IS(status_of([] { nh::open({1, 1, 2, 1, 1, 0}, nh::algorithm::serial, 0); }) == NEKCHHAUL_SIZE_CALLERS);

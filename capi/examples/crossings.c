@@ -40,6 +40,11 @@ static uint32_t do_read_many(nekchhaul_caller *c, void *argument)
     return nekchhaul_read_many(c, all, WORDS, values, WORDS);
 }
 
+static uint32_t do_peek(nekchhaul_caller *c, void *argument)
+{
+    return nekchhaul_peek(c, 0, argument);
+}
+
 static uint32_t do_writes(nekchhaul_caller *c, void *argument)
 {
     (void)argument;
@@ -51,20 +56,20 @@ __attribute__((noinline)) void measure(nekchhaul_caller *caller, nekchhaul_body 
 {
     uint64_t sum = 0;
     for (int i = 0; i < TIMES; i++)
-        if (body ? nekchhaul_atomically(caller, body, &sum) : nekchhaul_begin(caller) || nekchhaul_commit(caller)) abort();
+        if (body == do_peek ? body(caller, &sum) : body ? nekchhaul_atomically(caller, body, &sum) : nekchhaul_begin(caller) || nekchhaul_commit(caller)) abort();
 }
 
 int main(void)
 {
     static const char *const algorithms[] = { "CGL", "TML", "OrecLazy", "OrecEager", "RingSW", "Serial" };
-    static const nekchhaul_body bodies[] = { NULL, do_nothing, do_count, do_reads, do_read_many, do_writes };
-    static const char *const names[] = { "pair", "empty", "count", "reads", "read_many", "writes" };
+    static const nekchhaul_body bodies[] = { NULL, do_nothing, do_count, do_reads, do_read_many, do_writes, do_peek };
+    static const char *const names[] = { "pair", "empty", "count", "reads", "read_many", "writes", "peek" };
     printf("%s\n", nekchhaul_version() & NEKCHHAUL_UNPROVED ? "unproved" : "proved");
     for (uint32_t a = 0; a < 6; a++) {
         nekchhaul_sizes sizes = { WORDS, 64, 64, 2 * WORDS, 2 * WORDS, 0 };
         nekchhaul_caller caller = NEKCHHAUL_NO_CALLER_INIT;
         if (nekchhaul_open(&sizes, a, &caller, 1)) return 1;
-        for (int i = 0; i < 6; i++) {
+        for (int i = 0; i < 7; i++) {
             measure(&caller, bodies[i]);
             printf("%s %s %d %d\n", algorithms[a], names[i], TIMES, WORDS);
         }

@@ -2,15 +2,15 @@
  * switch and a close. Two threads hand a value over TIMES times under each algorithm; a consumer with nothing to do takes less than a
  * hundredth of a processor. The sleep here has no end of its own: a ring that is lost hangs, until the alarm. */
 #define _GNU_SOURCE
-#include <linux/futex.h>
+#define nekchhaul_sleep sleep_on
 #include <nekchhaul.h>
+#undef nekchhaul_sleep
 #include <pthread.h>
 #include <stdatomic.h>
 #include <stdio.h>
 #include <stdlib.h>
 #include <string.h>
 #include <sys/resource.h>
-#include <sys/syscall.h>
 #include <time.h>
 #include <unistd.h>
 
@@ -21,12 +21,12 @@ static nekchhaul_caller callers[3];
 static atomic_ulong sleeps;
 static atomic_int end;
 
-/* In place of the library's: until the word has changed, however long. */
-void nekchhaul_sleep(const uint64_t *at, uint32_t seen)
+/* In place of the library's, and by it: until the word has changed, however long. */
+void nekchhaul_sleep(const uint64_t *at, uint32_t seen);
+void sleep_on(const uint64_t *at, uint32_t seen)
 {
-    const struct timespec nap = { 0, 2000000 };
     atomic_fetch_add(&sleeps, 1);
-    while ((uint32_t)__atomic_load_n(at, __ATOMIC_SEQ_CST) == seen) syscall(SYS_futex, at, FUTEX_WAIT_PRIVATE, seen, &nap, NULL, 0);
+    while ((uint32_t)__atomic_load_n(at, __ATOMIC_SEQ_CST) == seen) nekchhaul_sleep(at, seen);
 }
 
 static void open_under(uint32_t algorithm)

@@ -18,10 +18,11 @@
  * THREADS. A handle is used by one thread at a time. It may go to another thread after anything that orders the two: a
  * lock, a thread's start or its join. Different handles are used by as many threads at once as there are handles.
  *
- * WHAT IS PROVED, and of what. Each call of the archive meets its contract in crates/nekchhaul_c, which was checked by
- * machine: no order of calls, no address and no number makes one go wrong, and each tells what the library's own calls
- * tell. What this header has in C (nekchhaul_move, the pauses, nekchhaul_atomically, which decides nothing), the wrappers above it,
- * the C compiler and the linker are not proved. What the C side owes, since nothing can check it, is in docs/C.md: the
+ * WHAT IS PROVED, and of what. Each call of crates/nekchhaul_c meets its contract there, which was checked by machine: no
+ * order of calls, no address and no number makes one go wrong, and each tells what the library's own calls tell. Tested,
+ * and not proved, are what capi/waking.c has around nine of them, which wakes who sleeps and gives turns behind a lock;
+ * what this header has in C (nekchhaul_move, the pauses, nekchhaul_atomically, which decides nothing, the table); the
+ * wrappers, the C compiler and the linker. What the C side owes, since nothing can check it, is in docs/C.md: the
  * pointers are not null and lead to objects of their own, no copy of a handle is used, no handle is used by two threads
  * at once, and no call is made from a signal handler or in the child of a fork.
  */
@@ -101,6 +102,7 @@ typedef enum nekchhaul_status {
     NEKCHHAUL_ONE_CALLER = 50,  /* of learn, and a misuse: the two handles are one */
     NEKCHHAUL_RUN = 51,         /* of enter: an attempt is open for the body */
     NEKCHHAUL_PAUSE = 52,       /* of enter and leave: pause, and enter */
+    NEKCHHAUL_NONE_FREE = 53,   /* of join: no handle lies in the table */
     NEKCHHAUL_STOP = 256        /* of a body, and more: leave nothing, and answer that */
 } nekchhaul_status;
 
@@ -203,6 +205,11 @@ NEKCHHAUL_CALL uint32_t nekchhaul_begin_under(nekchhaul_caller *caller, uint32_t
  * COMMITTING, ADDRESS, FENCED. */
 NEKCHHAUL_CALL uint32_t nekchhaul_read(nekchhaul_caller *caller, size_t address, uint64_t *value);
 
+/* One word outside attempts: what an attempt of this one read finds at its moment, which is none before anything that the
+ * caller has seen. CONFLICT, GATE_CLOSED, HELD, CLOCK_FULL; IN_ATTEMPT, ADDRESS, CLOSING; FENCED. Such a read is counted by
+ * nekchhaul_counts only where it is refused. */
+NEKCHHAUL_CALL uint32_t nekchhaul_peek(nekchhaul_caller *caller, size_t address, uint64_t *value);
+
 /* Reads the words at `count` addresses, in turn, into the first places of `values`, of which there are `places`: one
  * crossing for many reads. It answers as nekchhaul_read does for the first that is refused, and ROOM where there are fewer
  * places than addresses. The places from there on, and those after the last address, are as they were; after any answer
@@ -237,7 +244,8 @@ NEKCHHAUL_CALL uint32_t nekchhaul_become_irrevocable(nekchhaul_caller *caller);
 
 /* Begins an attempt for a body. RUN: run it, and call nekchhaul_leave. PAUSE: another is in the way; nekchhaul_pause(pause), and
  * enter again. 0: the commit that nekchhaul_leave put off is done. Any other answer ends the loop, with nothing left:
- * CLOCK_FULL; MEMORY where a full log couldn't be made longer; IN_ATTEMPT, CLOSING. */
+ * CLOCK_FULL; MEMORY where a full log couldn't be made longer; IN_ATTEMPT, CLOSING. Who has waited behind a lock for three
+ * milliseconds goes before those who enter later. */
 NEKCHHAUL_CALL uint32_t nekchhaul_enter(nekchhaul_caller *caller, nekchhaul_pause_of *pause);
 
 /* Ends that attempt by `how`, which is what the body answered: 0, the status of a call, RETRY, or NEKCHHAUL_STOP + n. 0: it took
@@ -313,6 +321,11 @@ NEKCHHAUL_CALL uint32_t nekchhaul_release(nekchhaul_caller *caller);
 NEKCHHAUL_CALL uint32_t nekchhaul_announce(nekchhaul_caller *caller, nekchhaul_pause_of *pause);
 NEKCHHAUL_CALL uint32_t nekchhaul_ring(nekchhaul_caller *caller);
 
+/* Where those sleep who were rung for: `at` of `bell` is the bed's word, of bed 0 to 31, and of NEKCHHAUL_RUNG that with a bit for each
+ * bed that was rung for and not woken. Nothing else of `bell` is of use. */
+NEKCHHAUL_CALL uint32_t nekchhaul_bell(nekchhaul_caller *caller, uint32_t bed, nekchhaul_pause_of *bell);
+#define NEKCHHAUL_RUNG 32u
+
 /* ---- From here on it is C, and not proved. ------------------------------------------------------------------------ */
 
 /* The library has those of these functions that are for its users as its own too, for callers that have no C compiler. */
@@ -369,6 +382,7 @@ NEKCHHAUL_INLINE const char *nekchhaul_status_name(uint32_t status)
     NEKCHHAUL_NAME(ONE_CALLER)
     NEKCHHAUL_NAME(RUN)
     NEKCHHAUL_NAME(PAUSE)
+    NEKCHHAUL_NAME(NONE_FREE)
     default: return status >= NEKCHHAUL_STOP ? "STOP" : "UNKNOWN";
     }
 #undef NEKCHHAUL_NAME
@@ -400,9 +414,82 @@ NEKCHHAUL_INLINE uint32_t nekchhaul_learn(nekchhaul_caller *to, nekchhaul_caller
     return to->tag_ ? (uint32_t)NEKCHHAUL_ONE_CALLER : (uint32_t)NEKCHHAUL_NO_CALLER;
 }
 
-/* Sleeps while the low 32 bits of the word at `at` are `seen`, by the system's futex, and looks every two milliseconds: a commit changes
- * the word and wakes nobody. It sleeps for a tenth of a second at most, since a body may look at more than the memory. The library's
- * own function. */
+/* A table of handles of one memory, for threads that come and go. Any thread may join at any time, and has then a handle to itself,
+ * moved out of the table, until it parts. Its fields are the library's. */
+typedef struct nekchhaul_table {
+    nekchhaul_caller *callers_; /* the first `free_` of the places hold a caller */
+    size_t places_, free_;
+    const uint64_t *memory_;
+    uint32_t lock_;
+} nekchhaul_table;
+
+/* Which memory it is of, where the caller is in no attempt, hasn't closed the gate and has no range. */
+static inline uint32_t nekchhaul_memory_of(nekchhaul_caller *caller, const uint64_t **memory)
+{
+    nekchhaul_state_of state;
+    nekchhaul_pause_of bell;
+    uint32_t s = nekchhaul_state(caller, &state);
+    *memory = NULL;
+    if (s == NEKCHHAUL_OK) s = nekchhaul_bell(caller, NEKCHHAUL_RUNG, &bell);
+    if (s != NEKCHHAUL_OK) return s;
+    *memory = bell.at;
+    if (state.stand) return state.stand == 3 ? NEKCHHAUL_CLOSING : NEKCHHAUL_IN_ATTEMPT;
+    return state.range & 1 ? (uint32_t)NEKCHHAUL_HOLDS_RANGE : (uint32_t)NEKCHHAUL_OK;
+}
+
+/* Makes a table of these handles, which lie in it from then on; once all have parted they are handles again. Answers for the first that
+ * doesn't fit: NO_CALLER, IN_ATTEMPT, CLOSING, HOLDS_RANGE; STRANGER where it is of another memory than the first; ROOM where there is
+ * none. */
+NEKCHHAUL_INLINE uint32_t nekchhaul_share(nekchhaul_table *table, nekchhaul_caller *callers, size_t count)
+{
+    const uint64_t *first = NULL, *memory;
+    for (size_t i = 0; i < count; i++) {
+        uint32_t s = nekchhaul_memory_of(&callers[i], &memory);
+        if (s != NEKCHHAUL_OK) return s;
+        if (i && memory != first) return NEKCHHAUL_STRANGER;
+        first = memory;
+    }
+    if (!count) return NEKCHHAUL_ROOM;
+    table->callers_ = callers;
+    table->places_ = table->free_ = count;
+    table->memory_ = first;
+    __atomic_store_n(&table->lock_, 0, __ATOMIC_RELEASE);
+    return NEKCHHAUL_OK;
+}
+
+/* Takes a handle out of the table into `caller`, which holds none, for this thread. HOLDS_CALLER; NONE_FREE. */
+NEKCHHAUL_INLINE uint32_t nekchhaul_join(nekchhaul_table *table, nekchhaul_caller *caller)
+{
+    uint32_t s = NEKCHHAUL_NONE_FREE;
+    if (caller->tag_) return NEKCHHAUL_HOLDS_CALLER;
+    while (__atomic_exchange_n(&table->lock_, 1, __ATOMIC_ACQUIRE)) sched_yield();
+    if (table->free_) {
+        *caller = nekchhaul_move(&table->callers_[--table->free_]);
+        s = NEKCHHAUL_OK;
+    }
+    __atomic_store_n(&table->lock_, 0, __ATOMIC_RELEASE);
+    return s;
+}
+
+/* Puts it back; `caller` holds none then, so that who parts twice is told NO_CALLER. Else it stays where it is: IN_ATTEMPT, CLOSING,
+ * HOLDS_RANGE, and STRANGER where the table is of another memory. */
+NEKCHHAUL_INLINE uint32_t nekchhaul_part(nekchhaul_table *table, nekchhaul_caller *caller)
+{
+    const uint64_t *memory;
+    uint32_t s = nekchhaul_memory_of(caller, &memory);
+    if (s == NEKCHHAUL_NO_CALLER) return s;
+    if (memory != table->memory_) return NEKCHHAUL_STRANGER;
+    if (s != NEKCHHAUL_OK) return s;
+    while (__atomic_exchange_n(&table->lock_, 1, __ATOMIC_ACQUIRE)) sched_yield();
+    if (table->free_ < table->places_) table->callers_[table->free_++] = nekchhaul_move(caller);
+    else s = NEKCHHAUL_ROOM; /* never: it came out of a place */
+    __atomic_store_n(&table->lock_, 0, __ATOMIC_RELEASE);
+    return s;
+}
+
+/* Sleeps while the low 32 bits of the word at `at` are `seen`, by the system's futex, until a commit, a reopened gate or nekchhaul_wake
+ * wakes it; for a tenth of a second at most, since a body may look at more than the memory. The library's own function, as what wakes is
+ * (capi/waking.c, around the calls above). */
 void nekchhaul_sleep(const uint64_t *at, uint32_t seen);
 
 /* Pauses the processor so many times, and from 1,024 on lets another thread run. */
@@ -460,6 +547,23 @@ NEKCHHAUL_INLINE uint32_t nekchhaul_abandon(nekchhaul_caller *caller)
     if (s == NEKCHHAUL_IRREVOCABLE)
         while (nekchhaul_commit(caller) == NEKCHHAUL_AGAIN) nekchhaul_back_off(&times);
     return s;
+}
+
+/* Puts back the handle of a thread that is no more, which nobody may do for one that still runs: ends what it left open. Its range is
+ * given back with what was written there, once the others' attempts have ended. An attempt that can only be committed is: with
+ * IRREVOCABLE what it wrote stands, and the handle is back, too. NO_CALLER, STRANGER. */
+NEKCHHAUL_INLINE uint32_t nekchhaul_part_for_dead(nekchhaul_table *table, nekchhaul_caller *caller)
+{
+    nekchhaul_pause_of pause;
+    uint32_t stood, s, times = 32;
+    if (!caller->tag_) return NEKCHHAUL_NO_CALLER;
+    stood = nekchhaul_leave(caller, NEKCHHAUL_STOP, &pause);
+    if (stood == NEKCHHAUL_NO_ATTEMPT) stood = nekchhaul_abandon(caller);
+    (void)nekchhaul_reopen(caller);
+    do s = nekchhaul_give_back(caller);
+    while (s == NEKCHHAUL_BUSY || s == NEKCHHAUL_GATE_CLOSED ? (nekchhaul_back_off(&times), 1) : 0);
+    s = nekchhaul_part(table, caller);
+    return s == NEKCHHAUL_OK && stood == NEKCHHAUL_IRREVOCABLE ? stood : s;
 }
 
 /* What a body inside a body came to: with 0 its mark is dropped; else all that was written since is rolled back, and the answer is

@@ -307,6 +307,17 @@ public:
         return loop<false>(body, committed, aborted);
     }
 
+    // One word outside attempts, as nekchhaul_peek has it; it waits where another is in the way.
+    uint64_t peek(size_t address)
+    {
+        uint64_t value = 0;
+        uint32_t s, times = 32;
+        while ((s = nekchhaul_peek(&handle_, address, &value)) == NEKCHHAUL_CONFLICT || s == NEKCHHAUL_GATE_CLOSED || s == NEKCHHAUL_HELD) nekchhaul_back_off(&times);
+        ask(s);
+        return value;
+    }
+    template <class T> T peek(word<T> at) { return word<T>::value_of(peek(at.address)); }
+
     // After an attempt of begin that committed, wrote nothing, and found that it has to wait: returns once it may be worth another.
     void wait() { ask(nekchhaul_wait(&handle_)); }
     // Wakes all who sleep by that or in a loop.
@@ -360,6 +371,50 @@ public:
         nekchhaul_counts_of counts;
         ask(nekchhaul_counts(&handle_, &counts));
         return counts;
+    }
+};
+
+// Callers of one memory for threads that come and go: any thread joins at any time, and has a caller to itself until it parts.
+class table {
+    std::vector<nekchhaul_caller> places_;
+    nekchhaul_table table_;
+
+public:
+    explicit table(std::vector<caller> &&callers)
+    {
+        if (callers.empty()) throw error(NEKCHHAUL_ROOM);
+        for (caller &c : callers) places_.push_back(nekchhaul_move(c.get()));
+        uint32_t s = nekchhaul_share(&table_, places_.data(), places_.size());
+        if (s == NEKCHHAUL_OK) return;
+        for (size_t i = 0; i < places_.size(); i++) *callers[i].get() = nekchhaul_move(&places_[i]);
+        throw error(s);
+    }
+    table(const table &) = delete;
+    table &operator=(const table &) = delete;
+    ~table() // no caller is used that has not parted
+    {
+        for (nekchhaul_caller &c : places_) caller(std::move(c));
+    }
+
+    // The error is NONE_FREE where each is with a thread.
+    caller join()
+    {
+        nekchhaul_caller mine = NEKCHHAUL_NO_CALLER_INIT;
+        uint32_t s = nekchhaul_join(&table_, &mine);
+        if (s) throw error(s);
+        return caller(std::move(mine));
+    }
+    // Where it is refused the caller stays with its thread.
+    void part(caller &c)
+    {
+        uint32_t s = nekchhaul_part(&table_, c.get());
+        if (s) throw error(s);
+    }
+    // For a thread that is no more.
+    void part_for_dead(caller &c)
+    {
+        uint32_t s = nekchhaul_part_for_dead(&table_, c.get());
+        if (s) throw error(s);
     }
 };
 

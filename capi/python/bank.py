@@ -166,6 +166,35 @@ def by_hand():
     assert other.close(3) == [4, 5, 3]
 
 
+def table():
+    """Callers for threads that come and go."""
+    lent = nekchhaul.Table(nekchhaul.open(2, callers=2))
+
+    def work():
+        while True:
+            try:
+                mine = lent.join()
+                break
+            except nekchhaul.Error as refused:
+                assert str(refused) == "NONE_FREE"
+        for _ in range(10):
+            mine.atomically(lambda t: t.write(0, t.read(0) + 1))
+        lent.part(mine)
+        assert is_refused("NO_CALLER", lent.part, mine)
+
+    threads = [threading.Thread(target=work) for _ in range(6)]
+    for thread in threads:
+        thread.start()
+    for thread in threads:
+        thread.join()
+    one, other = lent.join(), lent.join()
+    assert is_refused("NONE_FREE", lent.join) and one.peek(0) == 60 and is_refused("ADDRESS", one.peek, 2)
+    one.take_range(0, 1)
+    assert is_refused("FENCED", other.peek, 0) and is_refused("HOLDS_RANGE", lent.part, one)
+    lent.part_for_dead(one)
+    lent.part(other)
+
+
 def goes_with_a_range():
     """A caller that goes gives its range back."""
     caller, other = nekchhaul.open(1, callers=2)
@@ -182,3 +211,4 @@ hooks()
 goes_with_a_range()
 parts()
 by_hand()
+table()

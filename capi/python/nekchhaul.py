@@ -16,6 +16,9 @@ Algorithm = enum.IntEnum("Algorithm", "CGL TML OREC_LAZY OREC_EAGER RING_SW SERI
 BUSY, AGAIN, IRREVOCABLE, DEEP, NO_CALLER, IN_ATTEMPT, ADDRESS, FENCED, RETRY, RUN, PAUSE, STOP = 4, 5, 8, 9, 16, 18, 20, 25, 49, 51, 52, 256
 
 
+IN_THE_WAY = (1, 2, 3)  # CONFLICT, GATE_CLOSED, HELD: ask again
+
+
 def _word(value):
     """What a word can have: True is no number here, and 2^64 isn't 0."""
     number = operator.index(value)
@@ -76,7 +79,7 @@ _CALLS = {
     "begin": [], "commit": [], "abandon": [], "release": [], "reopen": [], "become_irrevocable": [], "reserve": [c_size_t, c_size_t],
     "read": [c_size_t, _VALUE], "write": [c_size_t, c_uint64], "read_many": _MANY, "write_many": [*_MANY, _DEPTH],
     "checkpoint": [_DEPTH], "roll_to": [c_size_t], "drop_marks": [c_size_t], "direct_read": [c_size_t, _VALUE], "direct_write": [c_size_t, c_uint64],
-    "enter": [POINTER(_Pause)], "leave": [c_uint32, POINTER(_Pause)], "wait": [], "wake": [],
+    "enter": [POINTER(_Pause)], "leave": [c_uint32, POINTER(_Pause)], "wait": [], "wake": [], "peek": [c_size_t, _VALUE],
     "install_within": [c_uint32, c_ulong], "take_range_within": [c_size_t, c_size_t, c_ulong], "return_range_within": [c_ulong],
     "end_within": [_VALUE, c_size_t, c_ulong], "learn": [POINTER(_Handle)], "state": [POINTER(State)], "why": [POINTER(Cause)], "counts": [POINTER(Counts)],
 }
@@ -300,6 +303,14 @@ class Caller:
         _ask(_lib.nekchhaul_begin(self._handle))
         return Begun(self._handle)
 
+    def peek(self, address):
+        """One word outside attempts, as it was at one moment; waits where another is in the way."""
+        value = c_uint64()
+        while (status := _lib.nekchhaul_peek(self._handle, _address(address), byref(value))) in IN_THE_WAY:
+            time.sleep(0)
+        _ask(status)
+        return value.value
+
     def wait(self):
         """After an attempt of `begin` that committed, wrote nothing, and found that it has to wait: returns soon, or once another caller
         has committed a write of a word that it read; then look again."""
@@ -353,6 +364,44 @@ class Caller:
 
     def counts(self):
         return self._shown(_lib.nekchhaul_counts, Counts)
+
+
+class _Table(Structure):
+    _fields_ = [("callers", POINTER(_Handle)), ("places", c_size_t), ("free", c_size_t), ("memory", c_void_p), ("lock", c_uint32)]
+
+
+class Table:
+    """Callers of one memory for threads that come and go: any thread joins at any time, and has a caller to itself until it parts. The
+    callers that it is made of are no callers from then on."""
+
+    def __init__(self, callers):
+        count = len(callers)
+        self._places, self._table = (_Handle * count)(*[caller._handle.contents for caller in callers]), _Table()
+        for caller in callers:
+            caller._handle.contents = _Handle()
+        status = _lib.nekchhaul_share(byref(self._table), self._places, count)
+        if status:
+            for place, caller in zip(self._places, callers):
+                caller._handle.contents = place
+        _ask(status)
+        self._callers = [Caller(self._places, ctypes.pointer(place)) for place in self._places]  # which are let go with the table
+
+    def join(self):
+        """A caller for this thread; the Error NONE_FREE where each is with another."""
+        handle = _Handle()
+        _ask(_lib.nekchhaul_join(byref(self._table), byref(handle)))
+        return Caller(self, ctypes.pointer(handle))
+
+    def part(self, caller):
+        _ask(_lib.nekchhaul_part(byref(self._table), caller._handle))
+
+    def part_for_dead(self, caller):
+        """For a thread that is no more: what it left open is ended."""
+        _ask(_lib.nekchhaul_part_for_dead(byref(self._table), caller._handle))
+
+
+for _name, _words in (("share", [c_size_t]), ("join", []), ("part", []), ("part_for_dead", [])):
+    getattr(_lib, f"nekchhaul_{_name}").argtypes = [POINTER(_Table), POINTER(_Handle), *_words]
 
 
 def version():

@@ -40,11 +40,13 @@
 mod attempt;
 mod raw;
 mod status;
+mod table;
 mod word;
 
 pub use attempt::{Attempt, Begun, Hooks};
 pub use raw::{Counts, Sizes};
 pub use status::Status;
+pub use table::Table;
 pub use word::{Layout, Value, Word, Words};
 
 use raw::Handle;
@@ -144,7 +146,7 @@ pub fn open(sizes: &Sizes, algorithm: Algorithm, count: usize) -> Result<Vec<Cal
     // SAFETY: the slice is the handles' own.
     let answer = unsafe { raw::nekchhaul_open(sizes, algorithm as u32, handles.as_mut_ptr(), count) };
     // made first, so that what a BUSY has opened goes with them
-    let callers = handles.into_iter().map(|handle| Caller { handle, is_open: false }).collect();
+    let callers = handles.into_iter().map(Caller::of).collect();
     told(answer)?;
     Ok(callers)
 }
@@ -174,12 +176,40 @@ impl Caller {
         Begun::new(&mut self.handle, &mut self.is_open)
     }
 
+    /// With that handle.
+    fn of(handle: Handle) -> Caller {
+        Caller { handle, is_open: false }
+    }
+
+    fn handle_mut(&mut self) -> &mut Handle {
+        &mut self.handle
+    }
+
+    /// Its handle, which isn't released with it.
+    fn into_handle(mut self) -> Handle {
+        self.let_go();
+        std::mem::replace(&mut self.handle, Handle::NONE)
+    }
+
     /// Ends an attempt whose [`Begun`] was forgotten, so that nothing joins it.
     fn let_go(&mut self) {
         if self.is_open {
             // SAFETY: the handle is this caller's alone.
             unsafe { raw::nekchhaul_abandon(&mut self.handle) };
             self.is_open = false;
+        }
+    }
+
+    /// One word outside attempts, as it was at one moment. It waits where another is in the way.
+    pub fn peek(&mut self, address: usize) -> Result<u64, Status> {
+        self.let_go();
+        let mut value = 0;
+        loop {
+            // SAFETY: both lead to objects of their own.
+            match told(unsafe { raw::nekchhaul_peek(&mut self.handle, address, &mut value) }) {
+                Err(Status::CONFLICT | Status::GATE_CLOSED | Status::HELD) => std::thread::yield_now(),
+                answer => return answer.map(|()| value),
+            }
         }
     }
 

@@ -78,6 +78,20 @@ pub(crate) struct Why {
     pub(crate) third: u64,
 }
 
+/// A table of handles.
+#[repr(C)]
+pub(crate) struct Table {
+    callers: *mut Handle,
+    places: usize,
+    free: usize,
+    memory: *const u64,
+    lock: u32,
+}
+
+impl Table {
+    pub(crate) const NONE: Table = Table { callers: std::ptr::null_mut(), places: 0, free: 0, memory: std::ptr::null(), lock: 0 };
+}
+
 /// How long to pause.
 #[repr(C)]
 pub(crate) struct Pause {
@@ -95,6 +109,7 @@ extern "C" {
     pub(crate) fn nekchhaul_open(sizes: *const Sizes, algorithm: u32, callers: *mut Handle, count: usize) -> u32;
     pub(crate) fn nekchhaul_begin(caller: *mut Handle) -> u32;
     pub(crate) fn nekchhaul_read(caller: *mut Handle, address: usize, value: *mut u64) -> u32;
+    pub(crate) fn nekchhaul_peek(caller: *mut Handle, address: usize, value: *mut u64) -> u32;
     pub(crate) fn nekchhaul_read_many(caller: *mut Handle, addresses: *const usize, count: usize, values: *mut u64, places: usize) -> u32;
     pub(crate) fn nekchhaul_write(caller: *mut Handle, address: usize, value: u64) -> u32;
     pub(crate) fn nekchhaul_write_many(caller: *mut Handle, addresses: *const usize, count: usize, values: *const u64, places: usize, taken: *mut usize) -> u32;
@@ -124,6 +139,10 @@ extern "C" {
     pub(crate) fn nekchhaul_pause(pause: *const Pause);
     pub(crate) fn nekchhaul_wait(caller: *mut Handle) -> u32;
     pub(crate) fn nekchhaul_wake(caller: *mut Handle) -> u32;
+    pub(crate) fn nekchhaul_share(table: *mut Table, callers: *mut Handle, count: usize) -> u32;
+    pub(crate) fn nekchhaul_join(table: *mut Table, caller: *mut Handle) -> u32;
+    pub(crate) fn nekchhaul_part(table: *mut Table, caller: *mut Handle) -> u32;
+    pub(crate) fn nekchhaul_part_for_dead(table: *mut Table, caller: *mut Handle) -> u32;
     pub(crate) fn nekchhaul_install_within(caller: *mut Handle, algorithm: u32, tries: c_ulong) -> u32;
     pub(crate) fn nekchhaul_take_range_within(caller: *mut Handle, from: usize, count: usize, tries: c_ulong) -> u32;
     pub(crate) fn nekchhaul_return_range_within(caller: *mut Handle, tries: c_ulong) -> u32;

@@ -63,6 +63,8 @@ statuses! {
     RETRY = 49;
     /// Of `learn`: the two handles are one.
     ONE_CALLER = 50;
+    /// Of `join`: each caller is with a thread.
+    NONE_FREE = 53;
 }
 
 /// The least number of a body's own.

@@ -282,3 +282,37 @@ fn retry_waits_for_others() {
         });
     }
 }
+
+/// Threads that come and go, more of them than callers.
+#[test]
+fn a_table_lends_callers() {
+    for callers in callers() {
+        let table = nekchhaul::Table::new(callers.into()).unwrap();
+        thread::scope(|scope| {
+            for _ in 0..8 {
+                scope.spawn(|| {
+                    let mut mine = loop {
+                        match table.join() {
+                            Err(Status::NONE_FREE) => thread::yield_now(),
+                            joined => break joined.unwrap(),
+                        }
+                    };
+                    for _ in 0..10 {
+                        mine.atomically(|t| t.read(0).and_then(|n| t.write(0, n + 1))).unwrap();
+                    }
+                    table.part(&mut mine).unwrap();
+                    assert_eq!(table.part(&mut mine).map_err(Status::number), Err(16));
+                });
+            }
+        });
+        let (mut one, mut other) = (table.join().unwrap(), table.join().unwrap());
+        assert_eq!(table.join().err(), Some(Status::NONE_FREE));
+        assert_eq!(one.peek(0), Ok(80));
+        assert_eq!(one.peek(4), Err(Status::ADDRESS));
+        one.take_range(0, 1).unwrap();
+        assert_eq!(other.peek(0), Err(Status::FENCED));
+        assert_eq!(table.part(&mut one), Err(Status::HOLDS_RANGE));
+        table.part_for_dead(&mut one).unwrap();
+        table.part(&mut other).unwrap();
+    }
+}

@@ -1,5 +1,6 @@
 //! The calls of an attempt, which each algorithm gives by a type of its own. A function that is generic in that type is
 //! compiled once for each algorithm, with direct calls.
+ghost use Rattle.alg_calls.specs.Buffers.{KeepsBuffered};
 ghost use Rattle.alg_calls.specs.Costs.{begin_steps, costs_under, roll_steps};
 ghost use Rattle.rule_base.specs.Encodings.{fenced};
 ghost use Rattle.std.specs.Prelude.{◌≡◌, ℕ, ◌<◌, ◌≤◌, ◌&&◌, false, true};
@@ -13,6 +14,7 @@ ghost use Rattle.tx_answers.specs.Answers.{Cancels, Commits, HasRead, HasWritten
 ghost use Rattle.tx_answers.specs.Counting.{AddsAtMost};
 ghost use Rattle.tx_answers.specs.CallerState.{IsRunning};
 
+use stm_model::alg::Alg;
 use stm_model::rule::MemRule;
 use stm_rule::desc::Desc;
 use stm_rule::stm::{Stm, Token};
@@ -26,6 +28,10 @@ pub trait Algorithm {
 
     // whose calls these are
     ghost alg: { Alg };
+
+    /// Its name.
+    fn which() -> Alg
+        ensures { result ≡ alg };
 
     /// Begins an attempt of a caller that found the gate open, and answers its start. A refusal leaves the caller where
     /// it was.
@@ -66,7 +72,7 @@ pub trait Algorithm {
         ensures steps { AddsAtMost (costs_under alg stm.now.config (known desc.old)).write
             (known desc.old) (known desc.new) };
 
-    /// Commits the attempt.
+    /// Commits the attempt. What lay in its write log lies there still after a commit that wrote.
     fn commit<K: MemRule>(desc: &mut Desc<K>, stm: &Stm<K>) -> Commit
         requires stm { IsOf desc.old stm.now }
         requires running { (known desc.old).running ≡ true }
@@ -76,6 +82,7 @@ pub trait Algorithm {
         ensures same { IsSameCaller desc.old desc.new }
         ensures commits { Commits (K.good stm.now.rule) stm.now.config (number desc.old) result
             (known desc.old) (known desc.new) }
+        ensures buffered { KeepsBuffered result desc.old desc.new }
         ensures steps { AddsAtMost (costs_under alg stm.now.config (known desc.old)).commit
             (known desc.old) (known desc.new) };
 

@@ -5,6 +5,7 @@ pub mod EagerTakingLaws
 pub mod EagerProving
 pub mod EagerCalls
 pub mod EagerLaws
+pub mod EagerHolding
 pub mod EagerReadLaws
 pub mod EagerWriteLaws
 pub mod EagerOpening

@@ -27,7 +27,7 @@ use stm_rule::stm::{Stm, Token};
 use tx_answers::answers::Commit;
 
 /// Commits what lies in place, or goes on with a commit that answered Again: those of a validation then, one step for
-/// the entry and one for each record.
+/// the entry and one for each record. What was written stays in its log, whatever the answer.
 #[inline(always)]
 pub(crate) fn commit_placed<K: MemRule>(
     seat: &mut Token<K>,
@@ -45,6 +45,7 @@ pub(crate) fn commit_placed<K: MemRule>(
     ensures commits { Commits (K.good stm.now.rule) stm.now.config caller result
         (known_of (view_of seat.old) (own_of local.old))
         (known_of (view_of seat.new) (own_of local.new)) }
+    ensures written { local.new.writes ≡ local.old.writes }
     ensures stands { Stands (K.good stm.now.rule) stm.now.config caller local.new
         (view_of seat.new) }
     ensures steps { TakesAtMost
@@ -100,7 +101,7 @@ fn revalidate<K: MemRule>(
 
 /// Commits what a promoted attempt stored, gives its records back at the time of the entry, stores it in BASE and in
 /// DONE, and reopens the gate. Five steps, and one for each record; two, and those of `give_above`, where nothing is
-/// written.
+/// written. Its write log stays.
 #[cold]
 #[inline(never)]
 pub(crate) fn commit_direct<K: MemRule>(desc: &mut Desc<K>, stm: &Stm<K>) -> Commit
@@ -113,6 +114,7 @@ pub(crate) fn commit_direct<K: MemRule>(desc: &mut Desc<K>, stm: &Stm<K>) -> Com
     ensures same { IsSameCaller desc.old desc.new }
     ensures commits { Commits (K.good stm.now.rule) stm.now.config (number desc.old) result
         (known desc.old) (known desc.new) }
+    ensures buffered { desc.new.own.buffered ≡ desc.old.own.buffered }
     ensures steps { AddsAtMost (5 + (known desc.old).writes_limit) (known desc.old)
         (known desc.new) }
 {

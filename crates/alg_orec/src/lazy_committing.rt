@@ -22,7 +22,7 @@ use stm_rule::stm::{Stm, Token};
 use tx_answers::answers::Commit;
 
 /// Commits what the attempt wrote, or goes on with a commit that answered Again. The steps of `prepare`, one for the
-/// entry, and one for each word and each record.
+/// entry, and one for each word and each record. What was written stays in its log, whatever the answer.
 #[inline(always)]
 pub(crate) fn commit_writes<K: MemRule>(
     seat: &mut Token<K>,
@@ -40,6 +40,7 @@ pub(crate) fn commit_writes<K: MemRule>(
     ensures commits { Commits (K.good stm.now.rule) stm.now.config caller result
         (known_of (view_of seat.old) (own_of local.old))
         (known_of (view_of seat.new) (own_of local.new)) }
+    ensures written { local.new.writes ≡ local.old.writes }
     ensures stands { Stands (K.good stm.now.rule) stm.now.config caller local.new
         (view_of seat.new) }
     ensures steps { TakesAtMost (5 + local.old.reads.len + 4 * local.old.writes.len)

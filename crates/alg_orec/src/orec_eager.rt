@@ -44,6 +44,10 @@ impl Algorithm for OrecEager {
 
     ghost alg = { OrecEager };
 
+    fn which() -> Alg {
+        Alg::OrecEager
+    }
+
     /// Loads the clock as the start, which it answers. One step.
     fn begin<K: MemRule>(seat: &mut Token<K>, stm: &Stm<K>, caller: usize) -> Result<u64, Begin> {
         Ok(reading::begin(stm, seat, caller))
@@ -54,14 +58,11 @@ impl Algorithm for OrecEager {
     /// where that ends the attempt.
     #[inline(always)]
     fn read<K: MemRule>(desc: &mut Desc<K>, stm: &Stm<K>, a: usize) -> Read {
-        if let Some(x) = desc.local.writes.find(a) {
-            return Read::Value(x);
+        // Who holds no record has written nothing.
+        if desc.local.locks.count() == 0 {
+            return read_unwritten(desc, stm, a);
         }
-        let place = read_place(desc, stm, a);
-        if let Some(x) = desc.local.reads.at(place, a) {
-            return Read::Value(x);
-        }
-        first_read(desc, stm, a, place)
+        read_holding(desc, stm, a)
     }
 
     /// Stores the word in place, under its record, which the attempt takes first where it doesn't hold it: one step
@@ -129,6 +130,53 @@ impl Algorithm for OrecEager {
         }
         roll_in_place(desc, stm, depth)
     }
+}
+
+/// Reads the word in an attempt that holds records, so that it may have written there. In line too: the two ways of a read are
+/// compiled apart, and an attempt that holds no record looks at none.
+#[inline(always)]
+fn read_holding<K: MemRule>(desc: &mut Desc<K>, stm: &Stm<K>, a: usize) -> Read
+    requires stm { IsOf desc.old stm.now }
+    requires running { IsRunning (known desc.old) }
+    requires algorithm { (known desc.old).alg ≡ Alg.OrecEager }
+    requires revocable { (known desc.old).granted ≡ false }
+    requires inside { a < stm.now.config.words }
+    requires spared { fenced (known desc.old).fence a ≡ false }
+    ensures same { IsSameCaller desc.old desc.new }
+    ensures read { HasRead (K.good stm.now.rule) stm.now.config (number desc.old) a result
+        (known desc.old) (known desc.new) }
+    ensures steps { AddsAtMost
+        (7 + (known desc.old).reads_limit + 2 * (known desc.old).writes_limit) (known desc.old)
+        (known desc.new) }
+{
+    if let Some(x) = desc.local.writes.find(a) {
+        return Read::Value(x);
+    }
+    read_unwritten(desc, stm, a)
+}
+
+/// Reads the word where the attempt has not written: answers what it has read there, else loads it.
+#[inline(always)]
+fn read_unwritten<K: MemRule>(desc: &mut Desc<K>, stm: &Stm<K>, a: usize) -> Read
+    requires stm { IsOf desc.old stm.now }
+    requires running { IsRunning (known desc.old) }
+    requires algorithm { (known desc.old).alg ≡ Alg.OrecEager }
+    requires revocable { (known desc.old).granted ≡ false }
+    requires unwritten { item_at a (known desc.old).log.writes ≡ None }
+    requires inside { a < stm.now.config.words }
+    requires spared { fenced (known desc.old).fence a ≡ false }
+    ensures same { IsSameCaller desc.old desc.new }
+    ensures read { HasRead (K.good stm.now.rule) stm.now.config (number desc.old) a result
+        (known desc.old) (known desc.new) }
+    ensures steps { AddsAtMost
+        (7 + (known desc.old).reads_limit + 2 * (known desc.old).writes_limit) (known desc.old)
+        (known desc.new) }
+{
+    let place = read_place(desc, stm, a);
+    if let Some(x) = desc.local.reads.at(place, a) {
+        return Read::Value(x);
+    }
+    first_read(desc, stm, a, place)
 }
 
 /// Loads the word, which was neither written nor read before, and logs it at its place.

@@ -46,6 +46,10 @@ impl Algorithm for OrecLazy {
 
     ghost alg = { OrecLazy };
 
+    fn which() -> Alg {
+        Alg::OrecLazy
+    }
+
     /// Loads the clock as the start, which it answers. One step.
     fn begin<K: MemRule>(seat: &mut Token<K>, stm: &Stm<K>, caller: usize) -> Result<u64, Begin> {
         Ok(reading::begin(stm, seat, caller))

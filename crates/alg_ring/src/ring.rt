@@ -47,6 +47,11 @@ impl Algorithm for RingSw {
 
     ghost alg = { RingSw };
 
+    #[inline(always)]
+    fn which() -> Alg {
+        Alg::RingSw
+    }
+
     /// Loads DONE, the start, which it answers. One step.
     fn begin<K: MemRule>(seat: &mut Token<K>, stm: &Stm<K>, caller: usize) -> Result<u64, Begin> {
         Ok(loads::begin(stm, seat, caller))
@@ -190,6 +195,7 @@ fn commit_writes<K: MemRule>(
     ensures commits { StandsTold (K.good stm.now.rule) stm.now.config caller
         (Commits (K.good stm.now.rule) stm.now.config caller result) local.old (view_of seat.old)
         local.new (view_of seat.new) }
+    ensures buffered { local.new.writes ≡ local.old.writes }
     ensures steps { TakesAtMost (26 + local.old.writes.len + 16 * (stm.now.config.ring - 1))
         (view_of seat.old) (view_of seat.new) }
 {
@@ -214,6 +220,7 @@ pub fn turn<K: MemRule>(
     ensures same { MovesView seat.old seat.new }
     ensures turns { Turns (K.good stm.now.rule) stm.now.config caller result local.old
         (view_of seat.old) local.new (view_of seat.new) }
+    ensures buffered { local.new.writes ≡ local.old.writes }
     ensures steps { TakesAtMost 1 (view_of seat.old) (view_of seat.new) }
 {
     let found = steps::lock(stm, seat, caller);
@@ -244,6 +251,7 @@ pub fn finish<K: MemRule>(
     ensures same { MovesView seat.old seat.new }
     ensures finishes { Finishes (K.good stm.now.rule) stm.now.config caller result local.old
         (view_of seat.old) local.new (view_of seat.new) }
+    ensures buffered { local.new.writes ≡ local.old.writes }
     ensures steps { TakesAtMost (25 + local.old.writes.len + 16 * (stm.now.config.ring - 1))
         (view_of seat.old) (view_of seat.new) }
 {

@@ -6,6 +6,7 @@
 
 use alg_calls::algorithm::Algorithm;
 use stm_gate::leave::leave;
+use stm_model::alg::Alg;
 use stm_model::config::CLOCK_LIMIT;
 use stm_model::rule::MemRule;
 use stm_rule::desc::Desc;
@@ -19,6 +20,11 @@ impl Algorithm for Cgl {
     ghost use Rattle.stm_model.specs.declared.alg.Alg.TheVariants.{Cgl};
 
     ghost alg = { Cgl };
+
+    #[inline(always)]
+    fn which() -> Alg {
+        Alg::Cgl
+    }
 
     /// Takes the lock and loads the start, which it answers, for a caller that found the gate open. Held and
     /// ClockFull leave the caller where it was, without the lock. Two steps, three where the clock is at its limit.

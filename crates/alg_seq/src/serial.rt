@@ -31,6 +31,11 @@ impl Algorithm for Serial {
 
     ghost alg = { Serial };
 
+    #[inline(always)]
+    fn which() -> Alg {
+        Alg::Serial
+    }
+
     /// Takes the lock and loads the start, which it answers, for a caller that found the gate open. Held leaves the
     /// caller where it was. Two steps.
     fn begin<K: MemRule>(seat: &mut Token<K>, stm: &Stm<K>, caller: usize) -> Result<u64, Begin> {

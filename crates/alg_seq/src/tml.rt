@@ -38,6 +38,11 @@ impl Algorithm for Tml {
 
     ghost alg = { Tml };
 
+    #[inline(always)]
+    fn which() -> Alg {
+        Alg::Tml
+    }
+
     /// Loads the clock, an even one as the start, which it answers. One step.
     fn begin<K: MemRule>(seat: &mut Token<K>, stm: &Stm<K>, caller: usize) -> Result<u64, Begin> {
         let clock = stm.tml_begin(seat, caller);

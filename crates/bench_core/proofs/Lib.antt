@@ -2,3 +2,4 @@ pub mod Limits
 pub mod Sayings
 pub mod ConfirmedLaws
 pub mod HeadlineLaws
+pub mod EndLaws

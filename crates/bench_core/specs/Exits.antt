@@ -1,8 +1,13 @@
 -- The exit status of the program, and what was read and written.
-use Rattle.std.specs.Prelude.{ℕ, ◌≡◌, List, Option, None}
+use Rattle.std.specs.Prelude.{ℕ, ◌≡◌, List, Option, Some, None}
 use Rattle.std.specs.Borrow.{Bor}
 use Rattle.stm_rule.specs.Closings.{Ended}
+use Rattle.stm_cli.specs.Asking.{Asks}
+use Rattle.stm_cli.specs.Helping.{help_of}
+use Rattle.stm_cli.specs.declared.command.Command.{Command}
+use Rattle.stm_cli.specs.declared.help.Topic.{Topic}
 use Rattle.bench_core.specs.declared.status.Status.{Status}
+use Rattle.bench_core.specs.declared.status.Status.TheVariants.{Help, Usage, WriteFault, Memory}
 use Rattle.bench_core.specs.Outcomes.{IsOutcome}
 use Rattle.bench_core.specs.Statuses.{exit_code_of}
 
@@ -12,3 +17,17 @@ module _ {S : Type 0} (left : S → Option (List ℕ)) (faults : S → ℕ) (sou
     pub last : Option Ended
     pub outcome : IsOutcome left faults source source' report report' words held broken sink sink' None last status
     pub is : exit ≡ exit_code_of status
+
+-- WHICH STATUS WORDS MAY COME TO: want of memory and of an output is free
+abbrev pub MayEnd : List (List ℕ) → Status → Type 0
+MayEnd words Help = (topic : Topic) × (help_of words ≡ Some topic)
+MayEnd words Usage = (help_of words ≡ None) × ((command : Command) → Asks words command → ⊥)
+MayEnd words WriteFault = Unit {0}
+MayEnd words Memory = Unit {0}
+MayEnd words status = (help_of words ≡ None) × ((command : Command) × Asks words command)
+
+-- the exit status is that of one
+pub record EndsBy (words : List (List ℕ)) (exit : ℕ) : Type 0 where
+  pub status : Status
+  pub is : exit ≡ exit_code_of status
+  pub may : MayEnd words status

@@ -19,7 +19,7 @@ use stm_cli::reading::read_words;
 use stm_cli::wrong::wrong_word;
 use stm_faults::fault::Fault;
 use stm_faults::laws::codes_are_faults;
-use stm_faults::workload::workload_fault_for;
+use stm_faults::workload::workload_fault;
 use stm_io::ends::{Failed, Sink, Source};
 use stm_io::whole::{ReadError, put_all, read_all};
 use stm_model::memory::Memory;
@@ -237,7 +237,7 @@ fn saying_of_text<R: Threads + Wait + Sync, G: Turnstile + Sync>(
         },
         Err(ParseError::Fault { line, code }) => {
             let fault = Fault::of(code);
-            let why = workload_fault_for(alloc, mode, text, line, fault).ok();
+            let why = workload_fault(alloc, mode, text, line, fault).ok();
             refused(alloc, line, fault, Why::of(Part::Workload, why))
         }
         Err(ParseError::Memory) => Err(Memory),

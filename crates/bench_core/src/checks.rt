@@ -16,7 +16,7 @@ use stm_check::wanted::Wanted;
 use stm_faults::fault::Fault;
 use stm_faults::laws::codes_are_faults;
 use stm_faults::report::{checked_fault, told_fault};
-use stm_faults::workload::workload_fault_for;
+use stm_faults::workload::workload_fault;
 use stm_faults::wrong::{wrong_line, wrong_line_of};
 use stm_model::memory::Memory;
 use stm_text::parse::{Mode, ParseError, parse};
@@ -79,7 +79,7 @@ pub(crate) fn judge_alone(alloc: Global, text: &[u8]) -> Result<Saying, Memory>
         Ok(_) => Ok(Saying::short(Status::Ok, messages::yes(alloc)?)),
         Err(ParseError::Fault { line, code }) => {
             let fault = Fault::of(code);
-            let why = workload_fault_for(alloc, Mode::Step, text, line, fault).ok();
+            let why = workload_fault(alloc, Mode::Step, text, line, fault).ok();
             refused(alloc, line, fault, Why::of(Part::Workload, why))
         }
         Err(ParseError::Memory) => Err(Memory),
@@ -136,7 +136,7 @@ fn why_refused(
     match part {
         Part::Workload => Why::of(
             part,
-            workload_fault_for(alloc, Mode::Step, text, line, fault).ok(),
+            workload_fault(alloc, Mode::Step, text, line, fault).ok(),
         ),
         Part::Report => Why::of(part, told_fault(alloc, told, line, fault).ok()),
     }

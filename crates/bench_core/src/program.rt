@@ -1,7 +1,8 @@
 //! The program: `bench` over a runtime's arguments, files, standard input and standard output.
-ghost use Rattle.std.specs.Prelude.{◌≡◌};
+ghost use Rattle.std.specs.Prelude.{◌≡◌, ℕ, List, map, string_bytes};
 ghost use Rattle.std.specs.Process.{exit_status};
-ghost use Rattle.bench_core.specs.Exits.{Exits};
+ghost use Rattle.stm_cli.specs.Asking.{texts_of};
+ghost use Rattle.bench_core.specs.Exits.{EndsBy, Exits};
 ghost use Rattle.bench_core.specs.Statuses.{exit_code_of};
 
 use crate::bench::bench;
@@ -10,7 +11,7 @@ use crate::status::Status;
 use crate::telling::told;
 use crate::why::Why;
 use std::alloc::{AllocGlobal, Global};
-use std::env::{self, Env};
+use std::env::Env;
 use std::fs;
 use std::io::{self, Eprint, ErrorKind, Input, Print};
 use std::process::ExitCode;
@@ -19,6 +20,7 @@ use std::sync::Wait;
 use std::thread::Threads;
 use stm_cli::reading::{Files as Names, read_files};
 use stm_io::adapters::{ReadSource, WriteSink};
+use stm_io::arguments::{arguments, words_in};
 use stm_io::ends::{Sink, Source};
 use stm_worker::turnstile::Open;
 
@@ -26,7 +28,9 @@ use stm_worker::turnstile::Open;
 /// written, standard error says why, where the status isn't `Ok`.
 pub fn program<R: Env + AllocGlobal + Files + Input + Print + Eprint + Threads + Wait + Sync>(
     rt: &R,
-) -> ExitCode {
+) -> ExitCode
+    ensures { (words : List (List ℕ)) × EndsBy words (exit_status result) }
+{
     match arguments(rt) {
         Ok(words) => answer(rt, words.as_slice()),
         // an argument that isn't UTF-8 is a word of no command
@@ -42,18 +46,10 @@ fn ending(status: Status) -> ExitCode
     ExitCode::from(status.exit_code())
 }
 
-/// The words of the command line, the program's name first.
-fn arguments<R: Env + AllocGlobal>(rt: &R) -> Result<Vec<String>, ErrorKind> {
-    match env::args(rt) {
-        Ok(words) => words
-            .collect(rt.alloc())
-            .map_err(|_| ErrorKind::OutOfMemory),
-        Err(error) => Err(error.kind()),
-    }
-}
-
 /// Ends where memory for the words was refused.
-fn refused<R: AllocGlobal + Eprint>(rt: &R) -> ExitCode {
+fn refused<R: AllocGlobal + Eprint>(rt: &R) -> ExitCode
+    ensures { (words : List (List ℕ)) → EndsBy words (exit_status result) }
+{
     tell(
         rt,
         Status::Memory,
@@ -81,13 +77,12 @@ fn text_of<R: Files + Input>(rt: &R, name: Option<&str>) -> Text<R::Reader, R::F
 fn answer<R: AllocGlobal + Files + Input + Print + Eprint + Threads + Wait + Sync>(
     rt: &R,
     arguments: &[String],
-) -> ExitCode {
-    let mut words = Vec::new(rt.alloc());
-    for argument in arguments {
-        if words.push(argument.as_str()).is_err() {
-            return refused(rt);
-        }
-    }
+) -> ExitCode
+    ensures { EndsBy (map string_bytes arguments.now) (exit_status result) }
+{
+    let Ok(words) = words_in(rt.alloc(), arguments) else {
+        return refused(rt);
+    };
     let Ok(names) = read_files(rt.alloc(), words.as_slice()) else {
         return refused(rt);
     };
@@ -98,7 +93,7 @@ fn answer<R: AllocGlobal + Files + Input + Print + Eprint + Threads + Wait + Syn
     });
     let mut sink = WriteSink::new(io::writer(rt));
     let mut why = None;
-    let (status, exit) = exits(
+    let (status, code) = exits(
         rt,
         rt.alloc(),
         words.as_slice(),
@@ -108,7 +103,7 @@ fn answer<R: AllocGlobal + Files + Input + Print + Eprint + Threads + Wait + Syn
         &mut why,
     );
     tell(rt, status, why, &names);
-    exit
+    code
 }
 
 /// Runs the command over two sources and a sink. The exit status is that of what was read and written.
@@ -121,8 +116,9 @@ fn exits<R: Threads + Wait + Sync, S: Source, K: Sink>(
     sink: &mut K,
     why: &mut Option<Why>,
 ) -> (Status, ExitCode)
-    ensures { Exits S.left S.faults source.old source.new report.old report.new words.now K.held
+    ensures is { Exits S.left S.faults source.old source.new report.old report.new words.now K.held
         K.faults sink.old sink.new result.0 (exit_status result.1) }
+    ensures ends { EndsBy (texts_of words.now) (exit_status result.1) }
 {
     let mut last = None;
     let status = bench(

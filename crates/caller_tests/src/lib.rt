@@ -6,6 +6,8 @@ mod observer_tests;
 #[cfg(test)]
 mod perf_core_tests;
 #[cfg(test)]
+mod sleeping_tests;
+#[cfg(test)]
 mod stm_worker_tests;
 #[cfg(test)]
 mod tx_atomic_tests;

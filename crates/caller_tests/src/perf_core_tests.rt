@@ -218,7 +218,7 @@ fn each_ending_is_told(rt: HostRuntime) -> Result<(), Fail> {
         ),
         (
             "bank TML 3 9 1 switchs 4",
-            "`switchs` isn't used so; here stands `SEED [READS] [switches N] [conflicts]`",
+            "`switchs` isn't used so; here stands `SEED [READS] [switches N] [conflicts] [--time]`",
         ),
     ];
     for (text, wanted) in &words {

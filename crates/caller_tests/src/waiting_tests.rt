@@ -15,9 +15,9 @@ const VALUES: u64 = 300;
 
 /// Puts a value into a word, once that is empty: 0.
 #[derive(Drop)]
-struct Put {
-    at: usize,
-    value: u64,
+pub(crate) struct Put {
+    pub(crate) at: usize,
+    pub(crate) value: u64,
 }
 
 impl Transaction<AnyMem> for Put {
@@ -120,67 +120,6 @@ fn each_value_is_handed_over_across_switches(rt: HostRuntime) -> Result<(), Fail
     assert_eq!(rt; came.words.first().copied(), Some(0));
     for answer in came.answers.iter() {
         assert!(rt; *answer);
-    }
-    Ok(())
-}
-
-/// How many values each sleeper gets.
-const ROUNDS: u64 = 20;
-
-/// Caller 0 puts values into the word of each other caller in turn, who takes them, and sleeps while it has none.
-struct Serve;
-
-impl<R: Wait> Job<R, AnyMem> for Serve {
-    ghost use Rattle.std.specs.Prelude.{◌≡◌};
-
-    type Output = ();
-
-    ghost precondition = { λ job rule words. words ≡ 32 };
-
-    ghost postcondition = { λ job rule words caller answer before after. Unit {0} };
-
-    fn work<C: Calls<R, AnyMem>>(&self, caller: &mut C) {
-        for value in 1..ROUNDS + 1 {
-            serve_one(caller, value);
-        }
-    }
-}
-
-/// Caller 0 puts the value into the word of each other, and each other takes one from its own.
-fn serve_one<R: Wait, C: Calls<R, AnyMem>>(caller: &mut C, value: u64)
-    requires words { (C.seat caller.old).words ≡ 32 }
-    ensures keeps { C.keeps caller.old caller.new }
-    ensures same { C.seat caller.new ≡ C.seat caller.old }
-{
-    let number = caller.number();
-    if number == 0 {
-        put_all(caller, value);
-    } else {
-        caller.until_some(&Take { at: number % 32 });
-    }
-}
-
-fn put_all<R: Wait, C: Calls<R, AnyMem>>(caller: &mut C, value: u64)
-    requires words { (C.seat caller.old).words ≡ 32 }
-    ensures keeps { C.keeps caller.old caller.new }
-    ensures same { C.seat caller.new ≡ C.seat caller.old }
-{
-    for at in 1..32 {
-        caller.until_some(&Put { at, value });
-    }
-}
-
-/// A value costs its taker some ten attempts before it sleeps, and one after: were each woken by each write, it would be thirty
-/// more.
-#[test]
-fn each_sleeper_is_woken_by_its_own_word(rt: HostRuntime) -> Result<(), Fail> {
-    for alg in [Alg::OrecLazy, Alg::OrecEager, Alg::RingSw] {
-        let came = with_memory(&rt, rt.alloc(), sizes(32, 32), alg, AnyMem, &Serve)?;
-        let mut attempts: u64 = 0;
-        for tally in came.past.tallies.iter() {
-            attempts = attempts.saturating_add(tally.commits);
-        }
-        assert!(rt; attempts < 31 * 26 * ROUNDS);
     }
     Ok(())
 }

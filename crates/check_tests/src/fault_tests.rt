@@ -6,7 +6,7 @@ use stm_check::checking::{Finding, MOST_CHECKED, Part, check};
 use stm_faults::fault::Fault;
 use stm_faults::report::checked_fault;
 use stm_faults::trace::trace_fault;
-use stm_faults::workload::{workload_fault, workload_fault_for};
+use stm_faults::workload::workload_fault;
 use stm_faults::wrong::wrong_line;
 use stm_text::parse::{Mode, ParseError, parse};
 
@@ -108,7 +108,7 @@ const FAULTS_ONE: [(usize, &str, &str); 23] = [
     (
         12,
         "add 3 1\r",
-        "line 12, `add 3 1<13>`: its byte 8 is 13, a carriage return, and a line has those from 32 to 126; here stands `add A V`, A from 0 to 7, V below 2^64",
+        "line 12, `add 3 1<13>`: its byte 8 is 13, a carriage return, none from 32 to 126; here stands `add A V`, A from 0 to 7, V below 2^64",
     ),
     (
         12,
@@ -191,7 +191,7 @@ const FAULTS_REPORT: [(usize, &str, &str); 6] = [
     (
         2,
         "W 1 0 0 : 1\r",
-        "line 16 (2 of the report), `W 1 0 0 : 1<13>`: its byte 12 is 13, a carriage return, and a line has those from 32 to 126; here stands `W PLACE CALLER SEQ : REPLIES`, with emits ` ! EMITS` too",
+        "line 16 (2 of the report), `W 1 0 0 : 1<13>`: its byte 12 is 13, a carriage return, none from 32 to 126; here stands `W PLACE CALLER SEQ : REPLIES`, with emits ` ! EMITS` too",
     ),
     (
         2,
@@ -311,7 +311,7 @@ fn said_of(alloc: Global, text: &str) -> Result<String, Fail> {
     let Err(ParseError::Fault { line, code }) = parse(alloc, text.as_bytes(), Mode::Step) else {
         return Err(Fail::new("a text without a fault"));
     };
-    Ok(workload_fault(alloc, text.as_bytes(), line, code)?)
+    Ok(workload_fault(alloc, Mode::Step, text.as_bytes(), line, Fault::of(code))?)
 }
 
 /// What is said of a workload and a report.
@@ -387,15 +387,15 @@ fn the_other_faults_are_told(rt: HostRuntime) -> Result<(), Fail> {
     let alloc = rt.alloc();
     let text = changed(alloc, ONE, 14, "schedule / done")?;
     assert_eq!(rt;
-        workload_fault_for(alloc, Mode::Run, text.as_bytes(), 14, Fault::Word)?.as_str(),
+        workload_fault(alloc, Mode::Run, text.as_bytes(), 14, Fault::Word)?.as_str(),
         "line 14, `schedule`: `run` takes no schedule, `step` does; here stands `done`, `switch C ALG`, `tx C`"
     );
     assert_eq!(rt;
-        workload_fault(alloc, b"stm 1\nwords 8", 2, 3)?.as_str(),
+        workload_fault(alloc, Mode::Step, b"stm 1\nwords 8", 2, Fault::Unended)?.as_str(),
         "line 2, `words 8`: the line has no LF at its end; here stands `words N`, N from 1 to 65536"
     );
     assert_eq!(rt;
-        workload_fault(alloc, b"", 0, 1)?.as_str(),
+        workload_fault(alloc, Mode::Step, b"", 0, Fault::Long)?.as_str(),
         "the text has more than 16777216 bytes; here stands a workload of at most so many"
     );
     assert_eq!(rt;

@@ -14,3 +14,5 @@ pub mod PageLaws
 pub mod WalkLaws
 pub mod PageDrawn
 pub mod Saids
+pub mod EndLaws
+pub mod Misfitting

@@ -1,6 +1,7 @@
 -- A page, row by row.
 use Rattle.std.proofs.Common.{ℕ, zero, suc, ◌≡◌, ◌<◌, ◌≤◌, ◌+◌, ◌-◌, List, [], ◌∷◌, ◌++◌, length, take, drop, refl, sym, ap, ◌∙◌, arith, append_assoc, length-append}
 use Rattle.std.specs.Prelude.{map, if◌then◌else◌, Option, Some, None}
+use Rattle.draw_core.specs.declared.misfit.Unfit.{Unfit}
 use Rattle.draw_core.specs.declared.row.Row.{Row}
 use Rattle.std.proofs.lemmas.List.{take_all, take-append-le, drop-append-le}
 use Rattle.draw_core.specs.Shapes.{Box, box_of, boxes_of}
@@ -48,6 +49,6 @@ pub none-is : (o : Option Row) → ((row : Row) → o ≡ Some row → ⊥) → 
 none-is None h = refl
 none-is (Some row) h = absurd (h row refl)
 
-pub none-by : (o : Option ℕ) → ((n : ℕ) → o ≡ Some n → ⊥) → o ≡ None
+pub none-by : (o : Option Unfit) → ((u : Unfit) → o ≡ Some u → ⊥) → o ≡ None
 none-by None h = refl
-none-by (Some n) h = absurd (h n refl)
+none-by (Some u) h = absurd (h u refl)

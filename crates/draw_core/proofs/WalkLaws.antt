@@ -5,6 +5,7 @@ use Rattle.stm_script.specs.declared.workload.Item.{Item}
 use Rattle.stm_script.specs.declared.workload.Workload.{Workload}
 use Rattle.stm_trace.specs.declared.line.Line.{Line}
 use Rattle.draw_core.specs.declared.cursor.Cursor.{Cursor}
+use Rattle.draw_core.specs.declared.misfit.Unfit.{Unfit}
 use Rattle.draw_core.specs.declared.step.Step.{Step}
 use Rattle.draw_core.specs.declared.walk.Walk.{Walk}
 use Rattle.draw_core.specs.Shapes.{Box, line_box, line_boxes}
@@ -13,13 +14,13 @@ use Rattle.draw_core.specs.Turns.{Stand}
 use Rattle.draw_core.specs.Pages.{IsPageOf}
 use Rattle.draw_core.specs.Walks.{callers_in, first_stands, go_on, goes, goes_along, next_step, AreWithin, AreWithinOf, stands_in, stands_of, told_steps, walked, workload_in, HasWalked, IsWalk, IsWalkBy}
 
-number-in : Option ℕ → ℕ → ℕ
-number-in None d = d
-number-in (Some n) d = n
+line-in : Option Unfit → ℕ → ℕ
+line-in None d = d
+line-in (Some u) d = u.line
 
-some-same : (j k : ℕ) → Some j ≡ Some k → j ≡ k
-unfolding number-in
-some-same j k e = ap (λ o. number-in o j) e
+same-line : (v u : Unfit) → Some v ≡ Some u → v.line ≡ u.line
+unfolding line-in
+same-line v u e = ap (λ o. line-in o v.line) e
 
 step-in : Option (Step × List Stand) → Step → Step
 step-in None d = d
@@ -54,11 +55,7 @@ line-boxes-more k (t ∷ steps) s =
 
 -- by whether a line didn't fit
 
-pub misfit-more : (m : Option ℕ) (walk : Walk) (lines : List Line) (line : Line) → is_some m ≡ true → IsWalkBy m walk lines → IsWalkBy m walk (lines ++ line ∷ [])
-misfit-more None walk lines line e h = absurd cc
-misfit-more (Some k) walk lines line e h = λ more. ap (told_steps (workload_in walk) walk.above) (append_assoc lines (line ∷ []) more) ∙ h (line ∷ more)
-
-pub walked-so-far : (m : Option ℕ) (walk : Walk) (lines : List Line) → is_some m ≡ false → IsWalkBy m walk lines → HasWalked walk lines
+pub walked-so-far : (m : Option Unfit) (walk : Walk) (lines : List Line) → is_some m ≡ false → IsWalkBy m walk lines → HasWalked walk lines
 walked-so-far None walk lines e h = h
 walked-so-far (Some k) walk lines e h = absurd cc
 
@@ -94,10 +91,10 @@ walked-all walk lines h =
     ap (told_steps (workload_in walk) walk.above) (sym (append-nil lines))
     ∙ (h.along [] ∙ along-end (workload_in walk) h.steps (walk.above + length h.steps + 1) walk.cursors.items)
 
-pub unfit-all : (m : Option ℕ) (k : ℕ) (walk : Walk) (lines : List Line) → m ≡ Some k → IsWalkBy m walk lines → told_steps (workload_in walk) walk.above lines ≡ Err k
-unfit-all None k walk lines e h = absurd cc
-unfit-all (Some j) k walk lines e h =
-    let same : j ≡ k = some-same j k e in
+pub unfit-all : (m : Option Unfit) (u : Unfit) (walk : Walk) (lines : List Line) → m ≡ Some u → IsWalkBy m walk lines → told_steps (workload_in walk) walk.above lines ≡ Err u.line
+unfit-all None u walk lines e h = absurd cc
+unfit-all (Some v) u walk lines e h =
+    let same = same-line v u e in
     ap (told_steps (workload_in walk) walk.above) (sym (append-nil lines)) ∙ (h [] ∙ ap (λ n. (let r : Result (List Step) ℕ = Err n in r)) same)
 
 -- one line more
@@ -149,10 +146,10 @@ pub first-walk-of : (walk : Walk) (callers : ℕ) → IsPageOf walk.page [] → 
     → ((items : List Item) → stands_of items 0 walk.cursors.items ≡ first_stands items callers) → ((items : List Item) → AreWithin items walk.cursors.items) → HasWalked walk []
 first-walk-of walk callers page same are within = first-walk walk page (λ items. are items ∙ ap (first_stands items) same) within
 
-pub walked-by : (m : Option ℕ) (walk : Walk) (lines : List Line) → m ≡ None → IsWalkBy m walk lines → HasWalked walk lines
+pub walked-by : (m : Option Unfit) (walk : Walk) (lines : List Line) → m ≡ None → IsWalkBy m walk lines → HasWalked walk lines
 walked-by None walk lines e h = h
 walked-by (Some k) walk lines e h = absurd cc
 
-pub walk-by : (m : Option ℕ) (walk : Walk) (lines : List Line) → is_some m ≡ false → HasWalked walk lines → IsWalkBy m walk lines
+pub walk-by : (m : Option Unfit) (walk : Walk) (lines : List Line) → is_some m ≡ false → HasWalked walk lines → IsWalkBy m walk lines
 walk-by None walk lines e h = h
 walk-by (Some k) walk lines e h = absurd cc

@@ -103,9 +103,6 @@ pub step-same : (l : Line) (d e : Option Deed) (xs ys : List Stand) → d ≡ e 
     → (let p : Option (Step × List Stand) = Some (record { line = l; deed = d }, xs) in p) ≡ Some (record { line = l; deed = e }, ys)
 step-same l d e xs ys q r = cc
 
-pub walked-same : (version : Version) (told more : List Step) (k j : ℕ) (xs ys : List Stand) (lines : List Line) → told ≡ more → k ≡ j → xs ≡ ys → walked version told k xs lines ≡ walked version more j ys lines
-walked-same version told more k j xs ys lines p q r = cc
-
 pub none-goes : (o : Option Step) (version : Version) (stands new : List Stand) (line : Line) → o ≡ None → goes version stands line ≡ None
     → MatchOption o (goes version stands line ≡ None) (λ s. goes version stands line ≡ Some (s, new))
 none-goes o version stands new line e none = subst (λ (x : Option Step). MatchOption x (goes version stands line ≡ None) (λ s. goes version stands line ≡ Some (s, new))) (sym e) none

@@ -3,6 +3,7 @@ pub mod Kinds
 pub mod Steps
 pub mod Turns
 pub mod Walks
+pub mod Misfits
 pub mod Whole
 pub mod Labels
 pub mod Shapes

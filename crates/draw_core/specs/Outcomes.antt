@@ -161,3 +161,17 @@ module _ {S : Type 0} (left : S → Option (List ℕ)) (faults : S → ℕ) (sou
     pub record Exits (status : Status) (exit : ℕ) : Type 0 where
       pub outcome : IsOutcome status
       pub is : exit ≡ exit_code_of status
+
+-- WHICH STATUS WORDS MAY COME TO: want of memory and of an output is free
+abbrev pub MayEnd : List (List ℕ) → Status → Type 0
+MayEnd words Help = (topic : Topic) × (help_of words ≡ Some topic)
+MayEnd words Usage = (help_of words ≡ None) × (asked words ≡ None)
+MayEnd words WriteFault = Unit {0}
+MayEnd words Memory = Unit {0}
+MayEnd words status = (help_of words ≡ None) × ((a : Asked) × (asked words ≡ Some a))
+
+-- the exit status is that of one
+pub record EndsBy (words : List (List ℕ)) (exit : ℕ) : Type 0 where
+  pub status : Status
+  pub is : exit ≡ exit_code_of status
+  pub may : MayEnd words status

@@ -9,6 +9,7 @@ use Rattle.stm_trace.specs.declared.line.Line.{Line}
 use Rattle.stm_trace.specs.declared.line.Line.TheVariants.{Of, Finish}
 use Rattle.stm_trace.specs.declared.said.Said.{Said}
 use Rattle.draw_core.specs.declared.cursor.Cursor.{Cursor}
+use Rattle.draw_core.specs.declared.misfit.Unfit.{Unfit}
 use Rattle.draw_core.specs.declared.step.Deed.{Deed}
 use Rattle.draw_core.specs.declared.step.Step.{Step}
 use Rattle.draw_core.specs.declared.walk.Walk.{Walk}
@@ -109,9 +110,9 @@ pub record HasWalked (walk : Walk) (lines : List Line) : Type 0 where
   pub page : IsPageOf walk.page (line_boxes 1 steps)
 
 -- it has seen them, or one of them that may not come where its caller stands
-abbrev pub IsWalkBy : Option ℕ → Walk → List Line → Type 0
+abbrev pub IsWalkBy : Option Unfit → Walk → List Line → Type 0
 IsWalkBy None walk lines = HasWalked walk lines
-IsWalkBy (Some k) walk lines = (more : List Line) → told_steps (workload_in walk) walk.above (lines ++ more) ≡ Err k
+IsWalkBy (Some u) walk lines = (more : List Line) → told_steps (workload_in walk) walk.above (lines ++ more) ≡ Err u.line
 
 abbrev pub IsWalk : Walk → List Line → Type 0
 IsWalk walk lines = IsWalkBy walk.misfit walk lines

@@ -38,9 +38,9 @@ steps_of text =
 
 -- an error names the first line at fault; want of memory is free
 abbrev pub IsStepsFault : StepsError → Result (List Step) ℕ → Type 0
-IsStepsFault (InWorkload line code) r = r ≡ Err line
+IsStepsFault (InWorkload line fault) r = r ≡ Err line
 IsStepsFault (Trace line) r = r ≡ Err line
-IsStepsFault (Unfit line) r = r ≡ Err line
+IsStepsFault (Unfit unfit) r = r ≡ Err unfit.line
 IsStepsFault Memory r = Unit {0}
 
 -- the page of a text's steps

@@ -19,7 +19,7 @@ pub struct Cursor {
 }
 
 /// The caller's next operation, and where it stands once that one is done.
-fn next_op(items: &[Item], caller: usize, cursor: Cursor) -> Option<(Op, Cursor)>
+pub fn next_op(items: &[Item], caller: usize, cursor: Cursor) -> Option<(Op, Cursor)>
     requires { cursor.item ≤ length items.now }
     ensures op { MatchOption result (next_of (stand_of items.now caller cursor).attempt ≡ None)
         (λ r. next_of (stand_of items.now caller cursor).attempt ≡ Some r.0) }
@@ -101,7 +101,7 @@ fn is_done(items: &[Item], caller: usize, cursor: Cursor) -> bool
 }
 
 /// Whether no transaction is left to the caller.
-fn is_over(items: &[Item], caller: usize, cursor: Cursor) -> bool
+pub fn is_over(items: &[Item], caller: usize, cursor: Cursor) -> bool
     requires { cursor.item ≤ length items.now }
     ensures { result ≡ is_over (stand_of items.now caller cursor).scripts }
 {

@@ -8,6 +8,7 @@ ghost use Rattle.draw_core.specs.declared.status.Status.TheVariants.{Refused};
 ghost use Rattle.stm_io.specs.Ends.{TookSome};
 
 use crate::asking::{Topic, asked, help_of, page_in};
+use crate::misfit::Unfit;
 use crate::page::{Page, pages_of, rows_before};
 use crate::picture::{Leaf, picture};
 use crate::reading::MOST_DRAWN;
@@ -21,6 +22,7 @@ use stm_faults::workload::workload_fault;
 use stm_io::ends::{Failed, Sink, Source};
 use stm_io::whole::{ReadError as TakeError, put_all, read_all};
 use stm_model::memory::Memory;
+use stm_text::parse::Mode;
 use stm_text::parting::part_at_done;
 
 /// How many bytes are read: one more than a text may have.
@@ -133,14 +135,22 @@ pub fn drawn(alloc: Global, text: &[u8], page: usize) -> Result<Saying, Memory>
 {
     match read_page(alloc, text, rows_before(page)) {
         Ok(made) => drawn_page(alloc, page, &made),
-        Err(StepsError::Workload { line, code }) => {
+        Err(StepsError::Workload { line, fault }) => {
             let (head, _) = part_at_done(text);
-            refused(alloc, line, workload_fault(alloc, head, line, code).ok())
+            refused(
+                alloc,
+                line,
+                workload_fault(alloc, Mode::Step, head, line, fault).ok(),
+            )
         }
         Err(StepsError::Trace { line }) => {
             refused(alloc, line, told_trace_fault(alloc, text, line))
         }
-        Err(StepsError::Unfit { line }) => refused(alloc, line, unfit_line(alloc, text, line).ok()),
+        Err(StepsError::Unfit(unfit)) => refused(
+            alloc,
+            unfit.line,
+            told_unfit(alloc, text, unfit).ok(),
+        ),
         Err(StepsError::Memory) => Err(Memory),
     }
 }
@@ -168,6 +178,12 @@ fn drawn_page(alloc: Global, page: usize, made: &Page) -> Result<Saying, Memory>
         text: picture(alloc, leaf, rows.as_slice())?,
         why: None,
     })
+}
+
+/// Why a line of the trace may not come.
+fn told_unfit(alloc: Global, text: &[u8], unfit: Unfit) -> Result<String, Memory> {
+    let (why, may) = unfit.told(alloc)?;
+    unfit_line(alloc, text, unfit.line, why.as_str(), may.as_str())
 }
 
 /// What is wrong with the trace's text, which a workload may stand above.

@@ -63,7 +63,7 @@ fn put_operands(text: &mut String, op: Op) -> Result<(), AllocError>
 }
 
 /// A space, and an operation as its workload writes it.
-fn put_deed(text: &mut String, deed: Deed) -> Result<(), AllocError>
+pub(crate) fn put_deed(text: &mut String, deed: Deed) -> Result<(), AllocError>
     ensures { OnOk result (string_bytes text.new ≡ string_bytes text.old ++ deed_bytes deed) }
 {
     text.push_str(" ")?;

@@ -8,6 +8,7 @@ mod input;
 pub mod kind;
 pub mod label;
 pub mod laws;
+pub mod misfit;
 pub mod page;
 pub mod picture;
 pub mod program;

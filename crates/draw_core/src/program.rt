@@ -1,8 +1,8 @@
 //! The program: `draw` over a runtime's arguments, files, standard input and output.
-ghost use Rattle.std.specs.Prelude.{◌≡◌};
+ghost use Rattle.std.specs.Prelude.{◌≡◌, ℕ, List, map, string_bytes};
 ghost use Rattle.std.specs.Process.{exit_status};
 ghost use Rattle.draw_core.specs.Asking.{texts_of};
-ghost use Rattle.draw_core.specs.Outcomes.{Exits, exit_code_of};
+ghost use Rattle.draw_core.specs.Outcomes.{EndsBy, Exits, exit_code_of};
 
 use crate::asking::{Ask, asked};
 use crate::draw::draw;
@@ -10,17 +10,20 @@ use crate::input::Text;
 use crate::status::Status;
 use crate::telling::told;
 use std::alloc::{AllocGlobal, Global};
-use std::env::{self, Env};
+use std::env::Env;
 use std::fs;
 use std::io::{self, Eprint, ErrorKind, Input, Print};
 use std::process::ExitCode;
 use std::rt::Files;
 use stm_io::adapters::{ReadSource, WriteSink};
+use stm_io::arguments::{arguments, words_in};
 use stm_io::ends::{Sink, Source};
 
 /// Draws what the files have that the arguments name, or else standard input, to standard output, and answers the status
 /// as exit status. Once all is written, standard error says why, where the status isn't `Ok`.
-pub fn program<R: Env + AllocGlobal + Files + Input + Print + Eprint>(rt: &R) -> ExitCode {
+pub fn program<R: Env + AllocGlobal + Files + Input + Print + Eprint>(rt: &R) -> ExitCode
+    ensures { (words : List (List ℕ)) × EndsBy words (exit_status result) }
+{
     match arguments(rt) {
         Ok(arguments) => answer(rt, arguments.as_slice()),
         // an argument that isn't UTF-8 is a word of no form
@@ -36,18 +39,10 @@ fn ending(status: Status) -> ExitCode
     ExitCode::from(status.exit_code())
 }
 
-/// The words of the command line, the program's name first.
-fn arguments<R: Env + AllocGlobal>(rt: &R) -> Result<Vec<String>, ErrorKind> {
-    match env::args(rt) {
-        Ok(words) => words
-            .collect(rt.alloc())
-            .map_err(|_| ErrorKind::OutOfMemory),
-        Err(error) => Err(error.kind()),
-    }
-}
-
 /// Ends where memory for the words was refused.
-fn refused<R: AllocGlobal + Eprint>(rt: &R) -> ExitCode {
+fn refused<R: AllocGlobal + Eprint>(rt: &R) -> ExitCode
+    ensures { (words : List (List ℕ)) → EndsBy words (exit_status result) }
+{
     tell(rt, Status::Memory, &[], None);
     ending(Status::Memory)
 }
@@ -73,20 +68,16 @@ fn text_of<R: Files + Input>(rt: &R, ask: Option<Ask<'_>>) -> Text<R::Reader, R:
 }
 
 /// Draws what the words ask for.
-fn answer<R: AllocGlobal + Files + Input + Print + Eprint>(
-    rt: &R,
-    arguments: &[String],
-) -> ExitCode {
-    let mut words = Vec::new(rt.alloc());
-    for argument in arguments {
-        if words.push(argument.as_str()).is_err() {
-            return refused(rt);
-        }
-    }
+fn answer<R: AllocGlobal + Files + Input + Print + Eprint>(rt: &R, arguments: &[String]) -> ExitCode
+    ensures { EndsBy (map string_bytes arguments.now) (exit_status result) }
+{
+    let Ok(words) = words_in(rt.alloc(), arguments) else {
+        return refused(rt);
+    };
     let mut source = ReadSource::new(text_of(rt, asked(words.as_slice())));
     let mut sink = WriteSink::new(io::writer(rt));
     let mut why = None;
-    let (status, exit) = exits(
+    let (status, code) = exits(
         rt.alloc(),
         words.as_slice(),
         &mut source,
@@ -94,7 +85,7 @@ fn answer<R: AllocGlobal + Files + Input + Print + Eprint>(
         &mut why,
     );
     tell(rt, status, words.as_slice(), why);
-    exit
+    code
 }
 
 /// Draws over a source and a sink. The exit status is that of what was read and written.
@@ -105,8 +96,9 @@ fn exits<S: Source, K: Sink>(
     sink: &mut K,
     why: &mut Option<String>,
 ) -> (Status, ExitCode)
-    ensures { Exits S.left S.faults source.old source.new (texts_of words.now) K.held K.faults
+    ensures is { Exits S.left S.faults source.old source.new (texts_of words.now) K.held K.faults
         sink.old sink.new result.0 (exit_status result.1) }
+    ensures ends { EndsBy (texts_of words.now) (exit_status result.1) }
 {
     let status = draw(alloc, words, source, sink, why);
     (status, ending(status))

@@ -3,10 +3,7 @@ use crate::asking::Ask;
 use crate::page::MOST_PAGES;
 use crate::status::Status;
 use std::alloc::{AllocError, Global};
-use strsim::levenshtein;
-
-/// How many bytes of a word are shown.
-const MOST_SHOWN: usize = 24;
+use stm_nearest::{put_nearest, put_word};
 
 /// The options that there are.
 const OPTIONS: [&str; 3] = ["--page", "--help", "--version"];
@@ -71,7 +68,7 @@ fn put_wrong(alloc: Global, said: &mut String, ask: Ask<'_>, word: &str) -> Resu
     }
     if word.starts_with("-") {
         said.push_str(" is no option; here stands ")?;
-        return put_nearest(alloc, said, word);
+        return put_nearest(alloc, said, word, &OPTIONS);
     }
     said.push_str(" is a word too many; here stand two files' names at most")
 }
@@ -82,44 +79,4 @@ fn put_pages(said: &mut String, why: &str) -> Result<(), AllocError> {
         said,
         "{why}; here stands `--page P`, P from 1 to {MOST_PAGES}"
     )
-}
-
-/// Appends the options, those that are most like a word first.
-fn put_nearest(alloc: Global, said: &mut String, word: &str) -> Result<(), AllocError> {
-    let mut cut = String::new(alloc);
-    push_cut(&mut cut, word)?;
-    let mut is_first = true;
-    for wanted in 0..=MOST_SHOWN {
-        for option in OPTIONS {
-            if levenshtein(alloc, option, cut.as_str())?.min(MOST_SHOWN) != wanted {
-                continue;
-            }
-            if !is_first {
-                said.push_str(", ")?;
-            }
-            write!(said, "`{option}`")?;
-            is_first = false;
-        }
-    }
-    Ok(())
-}
-
-/// Appends a word, cut.
-fn put_word(said: &mut String, word: &str) -> Result<(), AllocError> {
-    said.push_str("`")?;
-    push_cut(said, word)?;
-    said.push_str("`")
-}
-
-/// Appends the first bytes of a word; what isn't shown in a line is a question mark.
-fn push_cut(said: &mut String, word: &str) -> Result<(), AllocError> {
-    let mut length = 0usize;
-    for c in word.chars() {
-        length = length.saturating_add(c.len_utf8());
-        if MOST_SHOWN < length {
-            return said.push_str(" ..");
-        }
-        said.push(if c.is_control() { '?' } else { c })?;
-    }
-    Ok(())
 }

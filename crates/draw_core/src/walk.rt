@@ -4,10 +4,12 @@ ghost use Rattle.stm_script.specs.declared.workload.Item.{Item};
 ghost use Rattle.draw_core.specs.Walks.{callers_in, deed_of, first_stands, goes, stands_of, AreWithin};
 
 use crate::cursor::{Cursor, after};
+use crate::misfit::{Misfit, Unfit, misfit_in};
 use crate::page::Page;
 use crate::step::{Deed, Step};
 use crate::turn::turn_of;
 use std::alloc::{AllocError, AllocFailed, Global};
+use stm_faults::fault::Fault;
 use stm_script::op::Op;
 use stm_script::workload::{Item, Version, Workload};
 use stm_trace::line::Line;
@@ -16,15 +18,15 @@ use thiserror::Error;
 /// Why a text has no steps. A line counts from 1, and is 0 for a text that is too long.
 #[derive(Clone, Copy, Drop, Debug, PartialEq, Eq, Error)]
 pub enum StepsError {
-    /// The workload has a fault of this code.
-    #[error("refused {line} {code}")]
-    Workload { line: usize, code: u32 },
+    /// The workload has this fault.
+    #[error("refused {line}")]
+    Workload { line: usize, fault: Fault },
     /// What stands after it, or alone, isn't a text that `step` writes.
     #[error("refused {line}")]
     Trace { line: usize },
     /// A line of the trace may not come where its caller stands in the workload.
-    #[error("refused {line}")]
-    Unfit { line: usize },
+    #[error("refused {}", .0.line)]
+    Unfit(Unfit),
     #[error("out of memory")]
     Memory,
 }
@@ -117,13 +119,15 @@ pub struct Walk<'a> {
     cursors: Vec<Cursor>,
     page: Page,
     /// The first line that may not come where its caller stands.
-    misfit: Option<usize>,
+    misfit: Option<Unfit>,
 }
 
 impl<'a> Walk<'a> {
     ghost use Rattle.std.specs.Prelude.{◌≡◌, ◌<◌, ◌≤◌, ◌+◌, ◌^◌, [], ◌∷◌, ◌++◌, List, Some, None, MatchOption, IfOk, IfErr, OnOk};
     ghost use Rattle.stm_trace.specs.declared.line.Line.{Line};
     ghost use Rattle.draw_core.specs.Walks.{next_step, stands_in, told_steps, workload_in, AreWithinOf, IsWalk};
+    ghost use Rattle.draw_core.specs.Misfits.{misfit_of};
+    ghost use Rattle.draw_core.specs.Shapes.{lane_of};
     ghost use Rattle.draw_core.specs.Whole.{IsPageFor, IsStepsFault};
 
     /// Before the first line: the page has so many rows before it.
@@ -168,6 +172,34 @@ impl<'a> Walk<'a> {
         }
     }
 
+    /// A line that may not come, with where its caller stands.
+    fn unfit(&self, line: Line) -> Unfit
+        requires few { self.now.above + self.now.page.lines < 2 ^ 62 }
+        requires within { AreWithinOf (workload_in self.now) self.now.cursors.items }
+        ensures line { result.line ≡ self.now.above + self.now.page.lines + 1 }
+        ensures misfit { result.misfit ≡ misfit_of (workload_in self.now) self.now.cursors.items result.caller }
+        ensures caller { result.caller ≡ lane_of line }
+    {
+        let caller = match line {
+            Line::Of { caller, .. } => caller,
+            Line::Finish => 0,
+        };
+        let misfit = match self.workload {
+            Some(workload) => misfit_in(
+                workload.header.version,
+                workload.items.as_slice(),
+                self.cursors.as_slice(),
+                caller,
+            ),
+            None => Misfit::Over,
+        };
+        Unfit {
+            line: self.above + self.page.lines() + 1,
+            caller,
+            misfit,
+        }
+    }
+
     /// One line more. Memory may be refused.
     pub fn step(&mut self, line: Line) -> Result<(), AllocError>
         requires is { (lines : List Line) × IsWalk self.old lines }
@@ -182,7 +214,7 @@ impl<'a> Walk<'a> {
             return Ok(());
         }
         let Some(step) = self.next(line) else {
-            self.misfit = Some(self.above + self.page.lines() + 1);
+            self.misfit = Some(self.unfit(line));
             return Ok(());
         };
         self.page.add(step)
@@ -191,7 +223,7 @@ impl<'a> Walk<'a> {
     /// The page, once all lines were read.
     ///
     /// # Errors
-    /// `Unfit` with the first line that may not come where its caller stands, `Memory` where it is refused.
+    /// `Unfit` with the first line that may not come, and where its caller stands, `Memory` where it is refused.
     pub fn into_page(self) -> Result<Page, StepsError>
         requires few { self.page.lines < 2 ^ 61 }
         requires is { (lines : List Line) × IsWalk self lines }
@@ -207,8 +239,8 @@ impl<'a> Walk<'a> {
             misfit,
             ..
         } = self;
-        if let Some(line) = misfit {
-            return Err(StepsError::Unfit { line });
+        if let Some(unfit) = misfit {
+            return Err(StepsError::Unfit(unfit));
         }
         page.end()?;
         Ok(page)

@@ -10,6 +10,7 @@ use crate::page::Page;
 use crate::reading::{MOST_DRAWN, ReadError, walk_trace};
 use crate::walk::{StepsError, Walk};
 use std::alloc::Global;
+use stm_faults::fault::Fault;
 use stm_script::workload::Workload;
 use stm_text::parse::{Mode, ParseError, parse};
 use stm_text::parting::{count_lines, part_at_done};
@@ -54,7 +55,10 @@ fn read_both(alloc: Global, head: &[u8], behind: &[u8], from: usize) -> Result<P
 {
     match parse(alloc, head, Mode::Step) {
         Ok(workload) => follow(alloc, Some(&workload), count_lines(head), behind, from),
-        Err(ParseError::Fault { line, code }) => Err(StepsError::Workload { line, code }),
+        Err(ParseError::Fault { line, code }) => Err(StepsError::Workload {
+            line,
+            fault: Fault::of(code),
+        }),
         Err(ParseError::Memory) => Err(StepsError::Memory),
     }
 }

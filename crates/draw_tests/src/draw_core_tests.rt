@@ -36,7 +36,7 @@ const WORKLOAD: &str =
 /// The line of the trace that its workload forbids, where there is one.
 fn unfit(read: Result<Page, StepsError>) -> Option<usize> {
     match read {
-        Err(StepsError::Unfit { line }) => Some(line),
+        Err(StepsError::Unfit(unfit)) => Some(unfit.line),
         _ => None,
     }
 }
@@ -219,6 +219,40 @@ fn traces_follow_their_scripts(rt: HostRuntime) -> Result<(), Fail> {
             *line,
             "{trace}"
         );
+    }
+    Ok(())
+}
+
+/// A line that may not come is told by where its caller stands.
+#[test]
+fn misfits_tell_where_a_caller_stands(rt: HostRuntime) -> Result<(), Fail> {
+    let alloc = rt.alloc();
+    let table = [
+        ("2 begin TML\n", "the workload has 2 callers"),
+        (
+            "0 ladd 1\n",
+            "caller 0 is in no attempt, and has a transaction left",
+        ),
+        (
+            "1 begin TML\n1 idle\n",
+            "caller 1 is in an attempt, whose script has read 3 next",
+        ),
+        (
+            "1 begin TML\n1 read 9\n1 move 1\n1 total 0\n1 idle\n",
+            "caller 1 is in an attempt, whose script is done",
+        ),
+        (
+            "1 begin TML\n1 read 9\n1 move 1\n1 total 0\n1 commit committed 1\n1 begin TML\n",
+            "caller 1 is in no attempt, and has no transaction left",
+        ),
+    ];
+    for (trace, wanted) in &table {
+        let mut text = WORKLOAD.to_string(alloc)?;
+        text.push_str(trace)?;
+        text.push_str("report 1\nend\n")?;
+        let said = drawn(alloc, text.as_bytes(), 1)?;
+        let why = said.why.unwrap_or(String::new(alloc));
+        assert!(rt; why.contains(wanted), "{why}");
     }
     Ok(())
 }

@@ -27,6 +27,7 @@ fn run<R: Threads + Wait + Sync>(
 ) -> Result<ClosedMemory<Share, Evidence>, NewError>
     ensures mailbox { IfOk result (λ came. IsMailbox MAILBOX came.words.items) }
     ensures count { IfOk result (λ came. length came.words.items ≡ 20) }
+    ensures each { IfOk result (λ came. length came.answers.items ≡ 4) }
     ensures day { IfOk result (λ came.
         IsDay came.words.items came.answers.items came.past.closed.history) }
 {
@@ -45,7 +46,7 @@ fn main(rt: HostRuntime) -> ExitCode {
         let line = if each_came_once(&came) {
             println!(rt; "{name}: {MESSAGES} messages, each received once")
         } else {
-            println!(rt; "{name}: a message was lost, or came twice")
+            println!(rt; "{name}: not all messages were posted and received")
         };
         if line.is_err() {
             return ExitCode::from(6);

@@ -2,16 +2,12 @@
 //! It stands on no engine: `example_hotel` runs it.
 #![tactic(auto)]
 
-ghost use Rattle.std.specs.Prelude.{◌≡◌, length, slice_index};
-ghost use Rattle.hotel_jobs.specs.Hotels.{IsOrderly};
-
 pub mod hotel;
 
 use crate::hotel::{Audit, CheckIn, CheckOut, HandKey, Hotel, Move};
 use std::sync::Wait;
 use tx_jobs::calls::Calls;
 use tx_jobs::rounds::Round;
-use tx_transaction::words::sum_of;
 
 /// A guest's stay, one a round: each caller is a guest. It waits until the first room is free, and takes a second if that is
 /// free too; then it leaves. Caller 0 audits.
@@ -40,13 +36,4 @@ impl<R: Wait> Round<R, Hotel> for Stay {
         caller.run(&CheckOut { room })?;
         Some(())
     }
-}
-
-/// The keys that are out, added up room by room: as many as are counted.
-pub fn keys_out(words: &[u64]) -> u64
-    requires orderly { IsOrderly words.now }
-    requires count { length words.now ≡ 18 }
-    ensures { result ≡ slice_index words.now 17 }
-{
-    sum_of(&words[8..16])
 }

@@ -1,6 +1,5 @@
 -- What a caller did, from what its transactions tell.
-use Rattle.std.proofs.Common.{ℕ, ◌≡◌, List, [], ◌∷◌, ◌++◌, true, false, refl, sym, ap, subst, inl, inr}
-use Rattle.std.specs.Prelude.{◌⊎◌}
+use Rattle.std.proofs.Common.{ℕ, ◌≡◌, List, [], ◌∷◌, true, false, refl, sym, subst, inl, inr}
 use Rattle.stm_model.specs.Logs.{Log}
 use Rattle.stm_model.specs.Memories.{is_empty, overlay}
 use Rattle.tx_effects.specs.FreshLaws.{nothing}
@@ -8,7 +7,7 @@ use Rattle.tx_parts.specs.ToldLaws.{Told}
 use Rattle.tx_jobs.specs.Known.{Known}
 use Rattle.tx_jobs.specs.Moments.{Took}
 use Rattle.tx_jobs.specs.MomentLaws.{stood}
-use Rattle.tx_jobs.specs.Repeats.{MadeOne, log_of}
+use Rattle.tx_jobs.specs.Repeats.{MadeOne}
 use Rattle.mailbox.specs.declared.mail.Mailbox.{Mailbox}
 use Rattle.mailbox.specs.Mail.{IsMailbox}
 use Rattle.mailbox.specs.Deeds.{Deed, Step, HasDone}

@@ -1,5 +1,5 @@
 -- How often a message is posted.
-use Rattle.std.proofs.Common.{ℕ, zero, suc, ◌≡◌, ◌<◌, ◌≤◌, ◌+◌, ◌∙◌, List, [], ◌∷◌, ◌++◌, Bool, true, false, refl, sym, ap, arith, inl, inr}
+use Rattle.std.proofs.Common.{ℕ, zero, suc, ◌≡◌, ◌≢◌, ◌<◌, ◌≤◌, ◌+◌, ◌∙◌, List, [], ◌∷◌, ◌++◌, Bool, true, false, refl, sym, arith, inl, inr}
 use Rattle.std.specs.Prelude.{◌⊎◌, ◌==◌, ◌%◌, ltb, if◌then◌else◌}
 use Rattle.std.proofs.lemmas.Bool.Decides.{nat_tests}
 use Rattle.stm_model.specs.Histories.{Entry, made_by}
@@ -44,9 +44,27 @@ once-posted x first (suc n) = let last = posted-last x first n in let le = by (f
     by true is le = let same : first + n ≡ x = grind (arith, nat_tests) in let none = none-posted x first n (inr (omega (arith, same))) in omega (arith, none)
     by false is le = omega (arith, le)
 
+pub every-posted : (x first n : ℕ) → first ≤ x → x < first + n → 1 ≤ posted_in x (posts first n)
+every-posted x first zero le lt = absurd (omega (arith, le, lt))
+every-posted x first (suc n) le lt = let last = posted-last x first n in let some = by (first + n == x) refl (λ lower. every-posted x first n le lower) in omega (arith, last, some)
+  where
+    by : (b : Bool) → (first + n == x) ≡ b → (x < first + n → 1 ≤ posted_in x (posts first n)) → 1 ≤ posted_in x (posts first n) + (if b then 1 else 0)
+    by true is more = omega arith
+    by false is more = let other : first + n ≢ x = grind (arith, nat_tests) in let some = more (omega (arith, lt, other)) in omega (arith, some)
+
 -- ALL CALLERS, four of them
 posted-one : (x : ℕ) (d : Deed) (ds : List Deed) → posted_in x (d ∷ ds) ≡ posted_in x (d ∷ []) + posted_in x ds
 posted-one x d ds = posted-append x (d ∷ []) ds
+
+-- what one of them posted was posted
+pub part-posted : (x n : ℕ) (es : List Entry) (ds : List Deed) → posted_in x (deeds_by n es ds) ≤ posted_in x ds
+part-posted x n [] ds = omega arith
+part-posted x n (e ∷ es) [] = omega arith
+part-posted x n (e ∷ es) (d ∷ ds) = by (e.caller == n) (part-posted x n es ds)
+  where
+    by : (b : Bool) → posted_in x (deeds_by n es ds) ≤ posted_in x ds → posted_in x (if b then d ∷ deeds_by n es ds else deeds_by n es ds) ≤ posted_in x (d ∷ ds)
+    by true more = let one = posted-one x d ds in let part = posted-one x d (deeds_by n es ds) in omega (arith, more, one, part)
+    by false more = let one = posted-one x d ds in omega (arith, more, one)
 
 first-deed : (x k : ℕ) → k < 4 → (d : Deed) (p q r s : List Deed)
     → posted_in x (if k == 0 then d ∷ p else p) + posted_in x (if k == 1 then d ∷ q else q) + posted_in x (if k == 2 then d ∷ r else r) + posted_in x (if k == 3 then d ∷ s else s)

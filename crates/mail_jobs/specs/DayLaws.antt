@@ -3,11 +3,14 @@ use Rattle.std.proofs.Common.{ℕ, zero, suc, ◌≡◌, ◌<◌, ◌≤◌, ◌
 use Rattle.std.specs.Prelude.{ltb, replicate}
 use Rattle.std.proofs.lemmas.Bool.Decides.{nat_tests}
 use Rattle.std.proofs.Math.ListN.{get_or-eq_default}
+use Rattle.std.proofs.lemmas.List.{get_or_default}
 use Rattle.stm_model.specs.declared.alg.Alg.{Alg}
 use Rattle.stm_model.specs.declared.config.Config.{Config}
-use Rattle.stm_model.specs.Histories.{IsLegal, made_by, memory_at, memory_after}
+use Rattle.stm_model.specs.Histories.{Entry, IsLegal, made_by, memory_at, memory_after}
 use Rattle.stm_model.specs.HistoryLaws.{Within, memory_at-all}
 use Rattle.tx_jobs.specs.Known.{Known}
+use Rattle.tx_queue.specs.declared.queue.Queue.{Queue}
+use Rattle.tx_queue.specs.Queues.{contents, count, front, values_from}
 use Rattle.tx_queue.specs.Statements.{ZerosAreEmpty}
 use Rattle.tx_jobs.specs.Stories.{Came, IsStory, Past}
 use Rattle.mailbox.specs.Mail.{IsMailbox, queue_of, mail_in}
@@ -15,8 +18,8 @@ use Rattle.mailbox.specs.Deeds.{Deed, AreDeeds, EachDid, HasDone, RunsFromNone, 
 use Rattle.mail_jobs.specs.declared.clerks.Share.{Share}
 use Rattle.mail_jobs.specs.declared.day.TheConstants.{MAILBOX}
 use Rattle.mail_jobs.specs.Shares.{posts, quota, done_by}
-use Rattle.mail_jobs.specs.Days.{IsDay, left_in}
-use Rattle.mail_jobs.specs.CountLaws.{posted-append, posted-receipts, none-posted, once-posted, posted-by-all}
+use Rattle.mail_jobs.specs.Days.{IsDay, IsThrough, left_in}
+use Rattle.mail_jobs.specs.CountLaws.{posted-append, posted-receipts, none-posted, once-posted, every-posted, part-posted, posted-by-all}
 
 -- what a caller is told in a memory of so many words
 abbrev pub TellsIn : ℕ → ℕ → Share → Known → Known → Type 0
@@ -139,6 +142,49 @@ module _ (alg : Alg) (words : List ℕ) (shares : List Share) (past : Past) wher
         all = λ x. (let same = once x runs.0 [] [] (left_in true words) (left_in false words) order in let none : times x [] ≡ 0 = refl in omega (arith, same, none));
         once = λ x. posted-once x runs.0 four stories nobody runs.1 runs.2;
       }
+
+-- where none waits the count is 0
+pub none-counted : (q : Queue) (m : List ℕ) → contents q m ≡ [] → count q m ≡ 0
+none-counted q m none = by (count q m) (front q m) none
+  where
+    by : (n i : ℕ) → values_from q m i n ≡ [] → n ≡ 0
+    by zero i none = refl
+    by (suc n) i none = absurd cc
+
+pub through-by : (words : List ℕ) (shares : List Share) (p q : Share) → length shares ≡ 4 → p ≡ get_or shares 0 p → q ≡ get_or shares 1 q → p.posted ≡ 300 → q.posted ≡ 300
+    → get_or words 1 0 ≡ 0 → get_or words 11 0 ≡ 0 → IsThrough words shares
+through-by words shares p q four is_p is_q posted_p posted_q none_urgent none_other = (posted, waiting)
+  where
+    posted : (n : ℕ) (a : Share) → n < 2 → (get_or shares n a).posted ≡ 300
+    posted zero a lt = ap (λ (s : Share). s.posted) (get_or_default shares 0 a p (omega (arith, four)) ∙ sym is_p) ∙ posted_p
+    posted (suc zero) a lt = ap (λ (s : Share). s.posted) (get_or_default shares 1 a q (omega (arith, four)) ∙ sym is_q) ∙ posted_q
+    posted (suc (suc n)) a lt = absurd (omega (arith, lt))
+
+    waiting : (urgent : Bool) → left_in urgent words ≡ []
+    waiting true = ap (λ (n : ℕ). values_from (queue_of MAILBOX true) words (get_or words 0 0) n) none_urgent
+    waiting false = ap (λ (n : ℕ). values_from (queue_of MAILBOX false) words (get_or words 10 0) n) none_other
+
+-- where all were posted and none waits, each message was received once
+pub all-received : (words : List ℕ) (shares : List Share) (history : List Entry) (a : Share) → IsThrough words shares → (day : IsDay words shares history) → (x : ℕ) → x < 600 → received_in x day.deeds ≡ 1
+all-received words shares history a through day x low = by (ltb x 300) refl
+  where
+    posted : (n : ℕ) → n < 2 → n * 300 ≤ x → x < n * 300 + 300 → received_in x day.deeds ≡ 1
+    posted n lt from to =
+        let share = get_or shares n a in
+        let part = part-posted x n history day.deeds in
+        let own : posted_in x (deeds_by n history day.deeds) ≡ posted_in x (done_by n share) = ap (posted_in x) (day.own n a (omega (arith, lt))) in
+        let both = posted-append x (posts (n * 300) share.posted) (receipts share.received.items) in
+        let all : posted_in x (posts (n * 300) share.posted) ≡ posted_in x (posts (n * 300) 300) = ap (λ k. posted_in x (posts (n * 300) k)) (through.0 n a lt) in
+        let one = every-posted x (n * 300) 300 from to in
+        let once = day.once x in
+        let sum = day.all x in
+        let none_urgent : times x (left_in true words) ≡ 0 = ap (times x) (through.1 true) in
+        let none_other : times x (left_in false words) ≡ 0 = ap (times x) (through.1 false) in
+        omega (arith, part, own, both, all, one, once, sum, none_urgent, none_other)
+
+    by : (b : Bool) → ltb x 300 ≡ b → received_in x day.deeds ≡ 1
+    by true is = let few : x < 300 = grind (arith, nat_tests, is) in posted 0 (omega arith) (omega arith) (omega (arith, few))
+    by false is = let many : 300 ≤ x = grind (arith, nat_tests, is) in posted 1 (omega arith) (omega (arith, many)) (omega (arith, low))
 
 -- in a memory of 20 words for four callers
 pub closed-day : (alg : Alg) (config : Config) → config.words ≡ 20 → config.callers ≡ 4 → ZerosAreEmpty → ComeInHistory → ComeOnce

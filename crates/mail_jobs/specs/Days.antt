@@ -11,6 +11,10 @@ use Rattle.mail_jobs.specs.Shares.{done_by}
 abbrev pub left_in : Bool → List ℕ → List ℕ
 left_in urgent words = mail_in MAILBOX urgent words
 
+-- each producer posted all of its messages, and none waits
+abbrev pub IsThrough : List ℕ → List Share → Type 0
+IsThrough words shares = ((n : ℕ) (a : Share) → n < 2 → (slice_index_or shares n a).posted ≡ 300) × ((urgent : Bool) → left_in urgent words ≡ [])
+
 -- The history is one of posts and receipts, and those of each caller are what it answers, in its order. They lead from no message to those
 -- that wait: so at each moment an urgent one was received before the others, and each kind in its order. A message that was posted was
 -- received or waits, and none was posted twice.

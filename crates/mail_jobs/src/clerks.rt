@@ -14,7 +14,7 @@ use tx_parts::or_else::OrElse;
 use tx_parts::whole::{Awaited, Whole};
 
 /// How many messages each producer posts, and each consumer receives.
-const EACH: u32 = 300;
+pub const EACH: u32 = 300;
 
 /// They are numbered from 0 on, those of producer 0 first.
 pub const MESSAGES: u32 = 2 * EACH;

@@ -1,38 +1,34 @@
 //! What came of a day of mail: each message once, and nothing else.
-ghost use Rattle.std.specs.Prelude.{◌≡◌, length};
+ghost use Rattle.std.specs.Prelude.{◌≡◌, ◌<◌, ℕ, true, false, List, length};
+ghost use Rattle.stm_model.specs.Histories.{Entry};
+ghost use Rattle.mailbox.specs.Deeds.{received_in};
+ghost use Rattle.mail_jobs.specs.Days.{IsDay, IsThrough};
 
-use crate::clerks::{MESSAGES, Share};
+use crate::clerks::{EACH, Share};
 use mailbox::mail::Mailbox;
 use tx_jobs::closed::ClosedMemory;
 
 /// Two queues with eight cells each, in 20 words.
 pub const MAILBOX: Mailbox = Mailbox { cells: 8 };
 
-/// Whether each message that was posted was received once, and nothing else.
-pub fn each_came_once<P>(came: &ClosedMemory<Share, P>) -> bool {
-    let mut seen = [false; MESSAGES as usize];
-    for share in &came.answers {
-        if !mark(&mut seen, &share.received) {
-            return false;
-        }
-    }
-    seen.iter().all(|flag| *flag)
-}
-
-/// Marks these messages. Answers false where one is no message of the day, or was marked before.
-fn mark(seen: &mut [bool], messages: &[u32]) -> bool
-    ensures { length seen.new ≡ length seen.old }
+/// Whether all messages were posted, and none waits any more: then each was received once.
+pub fn each_came_once<P>(came: &ClosedMemory<Share, P>) -> bool
+    requires words { length came.now.words.items ≡ 20 }
+    requires callers { length came.now.answers.items ≡ 4 }
+    ensures through { result ≡ true → IsThrough came.now.words.items came.now.answers.items }
+    ensures only { result ≡ false
+        → IsThrough came.now.words.items came.now.answers.items → ⊥ }
+    ensures once { result ≡ true
+        → (history : List Entry)
+        (day : IsDay came.now.words.items came.now.answers.items history) (message : ℕ)
+        → message < 600 → received_in message day.deeds ≡ 1 }
 {
-    for message in messages {
-        match seen.get_mut(*message as usize) {
-            Some(flag) => {
-                if *flag {
-                    return false;
-                }
-                *flag = true;
-            }
-            None => return false,
-        }
+    if came.answers[0].posted != EACH || came.answers[1].posted != EACH {
+        return false;
+    }
+    // words 1 and 11 count the messages that wait
+    if came.words[1] != 0 || came.words[11] != 0 {
+        return false;
     }
     true
 }

@@ -6,6 +6,7 @@ pub use Rattle.stm_model.specs.Memories
 pub use Rattle.stm_model.specs.Overlays
 pub use Rattle.stm_model.specs.declared.alg.Alg
 pub use Rattle.stm_model.specs.declared.config.Config
+pub use Rattle.stm_model.specs.declared.config.TheConstants as Limits
 pub use Rattle.stm_rule.specs.Callers as Handles
 pub use Rattle.stm_rule.specs.Closings
 pub use Rattle.stm_rule.specs.Refusals

@@ -30,6 +30,8 @@ use Rattle.tx_checked.specs.declared.misuse.Misuse.{Misuse}
 use Rattle.tx_checked.specs.declared.misuse.Misuse.TheVariants as wrong
 use Rattle.tx_checked.specs.declared.opening.OpenError.{OpenError}
 use Rattle.tx_checked.specs.declared.opening.OpenError.TheVariants as opens
+use Rattle.tx_checked.specs.declared.peeking.Peek.{Peek}
+use Rattle.tx_checked.specs.declared.peeking.Peek.TheVariants as peeks
 use Rattle.tx_checked.specs.declared.refusal.Refusal.{Refusal}
 use Rattle.tx_checked.specs.declared.refusal.Refusal.TheVariants as refusals
 
@@ -89,6 +91,22 @@ read_value (Ok (reads.Value x)) old = x
 read_value (Ok (reads.Conflict cause)) old = old
 read_value (Ok (reads.Full limit)) old = old
 read_value (Err e) old = old
+
+-- of a look at one word
+abbrev pub peek_code : Result Peek Misuse → ℕ
+peek_code (Ok (peeks.Value x)) = 0
+peek_code (Ok peeks.Fenced) = 25
+peek_code (Ok peeks.Closed) = 2
+peek_code (Ok peeks.Held) = 3
+peek_code (Ok peeks.ClockFull) = 7
+peek_code (Ok peeks.Conflict) = 1
+peek_code (Ok peeks.Full) = 6
+peek_code (Err e) = misuse_code e
+
+abbrev pub peek_value : Result Peek Misuse → ℕ → ℕ
+peek_value (Ok (peeks.Value x)) old = x
+peek_value (Ok r) old = old
+peek_value (Err e) old = old
 
 abbrev pub write_code : Result Write Misuse → ℕ
 write_code (Ok writes.Done) = 0

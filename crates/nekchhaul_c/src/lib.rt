@@ -10,6 +10,7 @@ mod loops;
 mod marks;
 mod opening;
 mod pause;
+mod peeking;
 mod ranges;
 mod raw_box;
 mod reading;

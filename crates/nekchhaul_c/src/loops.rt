@@ -9,10 +9,12 @@ use crate::handle::Handle;
 use crate::pause::Pause;
 use crate::status;
 use std::alloc::Global;
+use stm_model::alg::Alg;
 use stm_tx::serving::{Calls, Under};
-use stm_tx::under;
+use stm_tx::{Cgl, OrecEager, OrecLazy, RingSw, Serial, Tml};
 use tx_checked::misuse::Misuse;
 use tx_loops::looping_caller::LoopingCaller;
+use tx_loops::stage::Stage;
 use tx_loops::turn::Turn;
 
 /// Says whether a body may run. `pause` is written only where the answer is PAUSE.
@@ -79,10 +81,14 @@ fn leave_with_all(looping_caller: &mut LoopingCaller, how: u32, pause: &mut Paus
         looping_caller.old looping_caller.new }
 {
     let _ = how;
-    under!(
-        looping_caller.algorithm(),
-        leave_done(Under::<A>::new(), looping_caller, pause)
-    )
+    match looping_caller.algorithm() {
+        Alg::Cgl => commit_apart(Under::<Cgl>::new(), looping_caller, pause),
+        Alg::Tml => leave_done(Under::<Tml>::new(), looping_caller, pause),
+        Alg::OrecLazy => leave_done(Under::<OrecLazy>::new(), looping_caller, pause),
+        Alg::OrecEager => leave_done(Under::<OrecEager>::new(), looping_caller, pause),
+        Alg::RingSw => leave_done(Under::<RingSw>::new(), looping_caller, pause),
+        Alg::Serial => commit_apart(Under::<Serial>::new(), looping_caller, pause),
+    }
 }
 
 #[cold]
@@ -95,13 +101,51 @@ fn leave_undone(looping_caller: &mut LoopingCaller, how: u32, pause: &mut Pause)
     told(turn, how, looping_caller, pause)
 }
 
-/// Apart, so that each saves the registers that it needs.
+/// Commits what was only read, or leaves it to `commit_apart`. These are tests one by one: so the commit of writes isn't compiled in.
 #[inline(never)]
 fn leave_done<C: Calls + Drop>(
     calls: C,
     looping_caller: &mut LoopingCaller,
     pause: &mut Pause,
 ) -> u32
+    requires served { IsServed C.acts_as (known_to looping_caller.old.caller) }
+    ensures { TurnSays 0 pause.old pause.new (LeaveTells (how_numbered 0)) result
+        looping_caller.old looping_caller.new }
+{
+    if looping_caller.caller.desc.local.wrote {
+        return commit_apart(calls, looping_caller, pause);
+    }
+    if looping_caller.caller.desc.local.granted {
+        return commit_apart(calls, looping_caller, pause);
+    }
+    match looping_caller.stage {
+        Stage::Direct => commit(calls, looping_caller, pause),
+        Stage::Buffered => {
+            if looping_caller.buffer.count() != 0 {
+                return commit_apart(calls, looping_caller, pause);
+            }
+            commit(calls, looping_caller, pause)
+        }
+        _ => commit_apart(calls, looping_caller, pause),
+    }
+}
+
+/// The same of all, which saves more registers.
+#[inline(never)]
+fn commit_apart<C: Calls + Drop>(
+    calls: C,
+    looping_caller: &mut LoopingCaller,
+    pause: &mut Pause,
+) -> u32
+    requires served { IsServed C.acts_as (known_to looping_caller.old.caller) }
+    ensures { TurnSays 0 pause.old pause.new (LeaveTells (how_numbered 0)) result
+        looping_caller.old looping_caller.new }
+{
+    commit(calls, looping_caller, pause)
+}
+
+#[inline(always)]
+fn commit<C: Calls + Drop>(calls: C, looping_caller: &mut LoopingCaller, pause: &mut Pause) -> u32
     requires served { IsServed C.acts_as (known_to looping_caller.old.caller) }
     ensures { TurnSays 0 pause.old pause.new (LeaveTells (how_numbered 0)) result
         looping_caller.old looping_caller.new }

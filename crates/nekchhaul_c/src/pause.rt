@@ -30,6 +30,24 @@ impl Pause {
         }
     }
 
+    /// With a bed's word, to be woken.
+    fn at_bed(looping_caller: &LoopingCaller, bed: u32) -> Pause
+        ensures times { result.times ≡ 0 }
+        ensures seen { result.seen ≡ 0 }
+    {
+        let bell = &looping_caller.caller.stm.bell;
+        let at = if bed == RUNG {
+            bell.rung_ptr()
+        } else {
+            bell.bed_ptr(bed as usize)
+        };
+        Pause {
+            times: 0,
+            seen: 0,
+            at,
+        }
+    }
+
     /// By the wait that was announced.
     pub(crate) fn by_watch(looping_caller: &LoopingCaller) -> Pause
         ensures { PutsSleep looping_caller.now.plan.watch result }
@@ -76,5 +94,22 @@ pub extern "C" fn nekchhaul_ring(caller: &mut Handle) -> u32
         return status::NO_CALLER;
     }
     caller.looping_caller().wake();
+    status::OK
+}
+
+/// The bed that is the word of the beds which were rung for, a bit each.
+const RUNG: u32 = 32;
+
+/// Where a bed lies, for who wakes: `bell` is written only where the answer is 0.
+#[unsafe(no_mangle)]
+pub extern "C" fn nekchhaul_bell(caller: &mut Handle, bed: u32, bell: &mut Pause) -> u32
+    ensures { Holds ((result ≡ 16) × (bell.new ≡ bell.old))
+        (Shows result (λ m. (bell.new.times ≡ 0) × (bell.new.seen ≡ 0))) caller.old.inside
+        caller.new.inside }
+{
+    if !caller.is_held() {
+        return status::NO_CALLER;
+    }
+    *bell = Pause::at_bed(caller.looping_caller(), bed);
     status::OK
 }

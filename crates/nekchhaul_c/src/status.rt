@@ -1,13 +1,14 @@
 //! The numbers by which C learns what a call came to. They are never given another meaning: `capi/include/nekchhaul.h`
 //! has them too.
 ghost use Rattle.std.specs.Prelude.{◌≡◌};
-ghost use Rattle.nekchhaul_c.specs.Codes.{misuse_code, refusal_code, begin_code, begin_value, read_code, read_value, write_code, commit_code, cancel_code, grant_code, mark_code, mark_value, roll_code, done_code, word_code, word_value, taken_code, given_code, reserved_code, open_code, turn_code, how_numbered};
+ghost use Rattle.nekchhaul_c.specs.Codes.{misuse_code, refusal_code, begin_code, begin_value, read_code, read_value, peek_code, write_code, commit_code, cancel_code, grant_code, mark_code, mark_value, roll_code, done_code, word_code, word_value, taken_code, given_code, reserved_code, open_code, turn_code, how_numbered};
 
 use stm_model::memory::Memory;
 use stm_rule::refusal::NewError;
 use tx_answers::answers::{Begin, Cancel, Check, Commit, Give, Irrev, Read, Roll, Write};
 use tx_checked::misuse::Misuse;
 use tx_checked::opening::OpenError;
+use tx_checked::peeking::Peek;
 use tx_checked::refusal::Refusal;
 use tx_loops::turn::{How, Turn};
 
@@ -205,6 +206,21 @@ pub(crate) fn put_value(answer: Result<Read, Misuse>, value: &mut u64)
 {
     if let Ok(Read::Value(word)) = answer {
         *value = word;
+    }
+}
+
+pub(crate) fn of_peek(answer: Result<Peek, Misuse>) -> u32
+    ensures { result ≡ peek_code answer }
+{
+    match answer {
+        Ok(Peek::Value(_)) => OK,
+        Ok(Peek::Fenced) => FENCED,
+        Ok(Peek::Closed) => GATE_CLOSED,
+        Ok(Peek::Held) => HELD,
+        Ok(Peek::ClockFull) => CLOCK_FULL,
+        Ok(Peek::Conflict) => CONFLICT,
+        Ok(Peek::Full) => LOG_FULL,
+        Err(misuse) => of_misuse(misuse),
     }
 }
 

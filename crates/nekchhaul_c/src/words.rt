@@ -12,7 +12,7 @@ use crate::status;
 use stm_model::alg::Alg;
 use stm_tx::serving::{Calls, Under};
 use stm_tx::{Cgl, OrecEager, OrecLazy, RingSw, Serial, Tml};
-use tx_answers::answers::Read;
+use tx_answers::answers::{Read, Write};
 use tx_loops::looping_caller::LoopingCaller;
 
 /// Reads a word. `value` is written only where the answer is 0.
@@ -88,17 +88,30 @@ pub extern "C" fn nekchhaul_write(caller: &mut Handle, address: usize, value: u6
         return write_into(looping_caller, address, value);
     }
     match looping_caller.algorithm() {
-        Alg::Cgl => write(looping_caller, address, value),
-        _ => write_apart(looping_caller, address, value),
+        Alg::Cgl => write(Under::<Cgl>::new(), looping_caller, address, value),
+        Alg::Tml => write_apart(Under::<Tml>::new(), looping_caller, address, value),
+        Alg::OrecLazy => write_apart(Under::<OrecLazy>::new(), looping_caller, address, value),
+        Alg::OrecEager => write_apart(Under::<OrecEager>::new(), looping_caller, address, value),
+        Alg::RingSw => write_apart(Under::<RingSw>::new(), looping_caller, address, value),
+        Alg::Serial => write_apart(Under::<Serial>::new(), looping_caller, address, value),
     }
 }
 
 #[inline(always)]
-fn write(looping_caller: &mut LoopingCaller, address: usize, value: u64) -> u32
+fn write<C: Calls + Drop>(
+    calls: C,
+    looping_caller: &mut LoopingCaller,
+    address: usize,
+    value: u64,
+) -> u32
+    requires served { IsServed C.acts_as (known_to looping_caller.old.caller) }
     ensures { Says write_code (WriteSays address value) result
         looping_caller.old looping_caller.new }
 {
-    status::of_write(looping_caller.write(address, value))
+    match looping_caller.write_by(&calls, address, value) {
+        Ok(Write::Done) => status::OK,
+        refused => status::of_write(refused),
+    }
 }
 
 #[inline(never)]
@@ -111,9 +124,15 @@ fn write_into(looping_caller: &mut LoopingCaller, address: usize, value: u64) ->
 }
 
 #[inline(never)]
-fn write_apart(looping_caller: &mut LoopingCaller, address: usize, value: u64) -> u32
+fn write_apart<C: Calls + Drop>(
+    calls: C,
+    looping_caller: &mut LoopingCaller,
+    address: usize,
+    value: u64,
+) -> u32
+    requires served { IsServed C.acts_as (known_to looping_caller.old.caller) }
     ensures { Says write_code (WriteSays address value) result
         looping_caller.old looping_caller.new }
 {
-    write(looping_caller, address, value)
+    write(calls, looping_caller, address, value)
 }

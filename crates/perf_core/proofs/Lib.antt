@@ -1,1 +1,2 @@
 mod CallerLaws
+pub mod EndLaws

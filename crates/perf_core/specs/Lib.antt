@@ -1,5 +1,6 @@
 pub mod Jobs
 pub mod WorkRegions
 pub mod Callers
+pub mod Verdicts
 pub mod Endings
 pub mod Helping

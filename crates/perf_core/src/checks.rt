@@ -1,11 +1,15 @@
 //! Whether a memory is what its transactions leave.
-ghost use Rattle.std.specs.Prelude.{◌<◌, ◌≤◌};
+ghost use Rattle.std.specs.Prelude.{◌≡◌, ◌==◌, ◌<◌, ◌≤◌, ◌*◌, true, take, get_or};
+ghost use Rattle.std.specs.List.{sum};
+ghost use Rattle.perf_core.specs.Verdicts.{IsLeft};
 
 use crate::plan::{ACCOUNTS, BALANCE, CELLS, KEYS, Plan, Workload};
 use crate::work_counts::WorkCounts;
 
 /// Whether the words are what a run's transactions leave, by what they came to, and each of them committed.
-pub fn is_right(words: &[u64], plan: &Plan, commits: u64, work_counts: &WorkCounts) -> bool {
+pub fn is_right(words: &[u64], plan: &Plan, commits: u64, work_counts: &WorkCounts) -> bool
+    ensures { result ≡ true → IsLeft plan.now words.now commits work_counts.now }
+{
     if commits != u64::from(plan.count) {
         return false;
     }
@@ -13,17 +17,29 @@ pub fn is_right(words: &[u64], plan: &Plan, commits: u64, work_counts: &WorkCoun
         Workload::Bank | Workload::Sum => work_counts.wrong == 0 && has_all_money(words),
         Workload::Hash => has_keys(words, 16, work_counts),
         Workload::List => has_keys(words, 1, work_counts),
-        Workload::Count => words.first() == Some(&commits),
+        Workload::Count => first(words) == commits,
     }
 }
 
 /// Whether the accounts have together what they began with.
-fn has_all_money(words: &[u64]) -> bool {
-    let mut sum: u64 = 0;
-    for balance in words.iter().take(ACCOUNTS) {
-        sum = sum.wrapping_add(*balance);
+fn has_all_money(words: &[u64]) -> bool
+    ensures { result ≡ (sum (take ACCOUNTS words.now) == ACCOUNTS * BALANCE) }
+{
+    let mut sum: u128 = 0;
+    for i in 0..ACCOUNTS.min(words.len()) {
+        sum += u128::from(words[i]);
     }
-    sum == ACCOUNTS as u64 * BALANCE
+    sum == ACCOUNTS as u128 * u128::from(BALANCE)
+}
+
+/// The first word.
+fn first(words: &[u64]) -> u64
+    ensures { result ≡ get_or words.now 0 0 }
+{
+    match words.first() {
+        Some(word) => *word,
+        None => 0,
+    }
 }
 
 /// Whether a set in so many chains is sorted, and has as many keys as were put in and not taken out.

@@ -1,58 +1,67 @@
 //! The program: the command line's words, a run, and what it came to.
-ghost use Rattle.std.specs.Prelude.{◌≡◌};
+ghost use Rattle.std.specs.Prelude.{◌≡◌, ℕ, List, map, string_bytes};
 ghost use Rattle.std.specs.Process.{exit_status};
-ghost use Rattle.perf_core.specs.Endings.{exit_code_of};
+ghost use Rattle.perf_core.specs.Endings.{exit_code_of, EndsBy, Exits};
+ghost use Rattle.perf_core.specs.Helping.{texts_of};
 
 use crate::ending::Ending;
 use crate::help::help_of;
 use crate::plan::plan_of;
+use crate::report::{Rate, Report};
 use crate::run::run;
 use crate::wrong::wrong_word;
 use std::alloc::{AllocError, AllocGlobal, Global};
-use std::env::{self, Env};
-use std::io::{Eprint, ErrorKind, Print};
+use std::env::Env;
+use std::io::{self, Eprint, ErrorKind, Print};
 use std::process::ExitCode;
 use std::sync::Wait;
 use std::thread::Threads;
+use std::time::Clock;
+use stm_io::arguments::{arguments, words_in};
 
 /// Runs what the arguments ask for, and answers how it ended as exit status; see [`Ending`]. Standard error says why it
 /// isn't 0.
-pub fn program<R: Env + AllocGlobal + Print + Eprint + Threads + Wait + Sync>(rt: &R) -> ExitCode {
+pub fn program<R: Env + AllocGlobal + Print + Eprint + Threads + Wait + Sync + Clock>(
+    rt: &R,
+) -> ExitCode
+    ensures { (words : List (List ℕ)) × Exits words (exit_status result) }
+{
     match arguments(rt) {
         Ok(arguments) => answer(rt, arguments.as_slice()),
         // an argument that isn't UTF-8 is a word of no form
         Err(ErrorKind::InvalidData) => answer(rt, &[]),
-        Err(_) => told(rt, Ending::Memory, &[]),
+        Err(_) => refused(rt),
     }
 }
 
-/// The words of the command line, the program's name first.
-fn arguments<R: Env + AllocGlobal>(rt: &R) -> Result<Vec<String>, ErrorKind> {
-    match env::args(rt) {
-        Ok(words) => words
-            .collect(rt.alloc())
-            .map_err(|_| ErrorKind::OutOfMemory),
-        Err(error) => Err(error.kind()),
-    }
+/// Ends where memory for the words was refused.
+fn refused<R: AllocGlobal + Eprint>(rt: &R) -> ExitCode
+    ensures { (words : List (List ℕ)) → Exits words (exit_status result) }
+{
+    told(rt, Ending::Memory, &[])
 }
 
 /// Runs what these arguments ask for.
-fn answer<R: AllocGlobal + Print + Eprint + Threads + Wait + Sync>(
+fn answer<R: AllocGlobal + Print + Eprint + Threads + Wait + Sync + Clock>(
     rt: &R,
     arguments: &[String],
-) -> ExitCode {
-    let mut words = Vec::new(rt.alloc());
-    for argument in arguments {
-        if words.push(argument.as_str()).is_err() {
-            return told(rt, Ending::Memory, &[]);
-        }
-    }
+) -> ExitCode
+    ensures { Exits (map string_bytes arguments.now) (exit_status result) }
+{
+    let Ok(words) = words_in(rt.alloc(), arguments) else {
+        return refused(rt);
+    };
     let ending = run_of_words(rt, words.as_slice());
     told(rt, ending, words.as_slice())
 }
 
 /// How a run of these words ended.
-fn run_of_words<R: AllocGlobal + Print + Threads + Wait + Sync>(rt: &R, words: &[&str]) -> Ending {
+fn run_of_words<R: AllocGlobal + Print + Threads + Wait + Sync + Clock>(
+    rt: &R,
+    words: &[&str],
+) -> Ending
+    ensures { EndsBy (texts_of words.now) result }
+{
     if let Some(topic) = help_of(words) {
         let text = topic.text();
         if println!(rt; "{text}").is_err() {
@@ -60,16 +69,34 @@ fn run_of_words<R: AllocGlobal + Print + Threads + Wait + Sync>(rt: &R, words: &
         }
         return Ending::Help;
     }
+    let (words, is_timed) = timed(words);
     let Some(plan) = plan_of(words) else {
         return Ending::Usage;
     };
     let Ok(report) = run(rt, rt.alloc(), &plan) else {
         return Ending::Memory;
     };
-    if println!(rt; "{report}").is_err() {
+    if print(rt, &report, is_timed).is_err() {
         return Ending::WriteFault;
     }
     Ending::of(report.right)
+}
+
+/// The words before a last one `--time`, and whether that is there.
+fn timed<'a, 'b>(words: &'a [&'b str]) -> (&'a [&'b str], bool) {
+    match words {
+        [words @ .., "--time"] => (words, true),
+        _ => (words, false),
+    }
+}
+
+/// Writes what a run came to, and its time where that is asked for.
+fn print<R: Print>(rt: &R, report: &Report, is_timed: bool) -> io::Result<()> {
+    if is_timed {
+        let rate = Rate(report);
+        return println!(rt; "{report}\n{rate}");
+    }
+    println!(rt; "{report}")
 }
 
 /// The exit status. Tells on standard error what the ending means, where there is something to tell and memory to say it.

@@ -3,6 +3,7 @@
 use crate::conflicts::Conflicts;
 use crate::looks::Looks;
 use crate::plan::Plan;
+use crate::work_counts::WorkCounts;
 use std::fmt::{self, Display, Formatter, Write};
 use tx_atomic::tally::Tally;
 
@@ -13,6 +14,11 @@ pub struct Report {
     pub tally: Tally,
     /// Whether the memory was what the transactions leave.
     pub right: bool,
+    /// The memory's words, and what the transactions that left them counted.
+    pub words: Vec<u64>,
+    pub work_counts: WorkCounts,
+    /// How many nanoseconds the transactions took; None where the clock couldn't be read.
+    pub took: Option<u64>,
     /// What the switches took that the plan asks for.
     pub looks: Looks,
     /// What the callers met, word by word; nothing where the plan doesn't ask for it.
@@ -67,5 +73,21 @@ impl Report {
             f,
             "full {full} taken {taken} waited busy {busy} again {again}"
         )
+    }
+}
+
+/// How long a run's transactions took, and how many of them a second that makes.
+#[derive(Clone, Copy, Drop)]
+pub struct Rate<'a>(pub &'a Report);
+
+impl Display for Rate<'_> {
+    fn fmt<W: Write>(&self, f: &mut Formatter<W>) -> fmt::Result {
+        let Some(took) = self.0.took else {
+            return f.write_str("microseconds unknown");
+        };
+        let commits = u128::from(self.0.tally.commits);
+        let rate = commits * 1_000_000_000 / u128::from(took.max(1));
+        let micros = took / 1_000;
+        write!(f, "microseconds {micros} transactions a second {rate}")
     }
 }

@@ -4,6 +4,7 @@ ghost use Rattle.crossbeam_utils.specs.declared.cache_padded.CachePadded.{CacheP
 ghost use Rattle.tx_atomic.specs.Callers.{IsReady, IsThrough};
 ghost use Rattle.perf_core.specs.declared.caller.Caller.{Caller};
 ghost use Rattle.perf_core.specs.Callers.{desc_in, descs_in};
+ghost use Rattle.perf_core.specs.Verdicts.{IsTrue};
 ghost use Rattle.perf_core.specs.WorkRegions.{FitsWorkRegion};
 
 use crate::caller::Caller;
@@ -20,6 +21,7 @@ use std::alloc::Global;
 use std::sync::Wait;
 use std::thread;
 use std::thread::Threads;
+use std::time::{Clock, Instant};
 use stm_tx::{Desc, Memory, NewError, Stm, close};
 use tx_atomic::tally::Tally;
 
@@ -27,16 +29,21 @@ use tx_atomic::tally::Tally;
 ///
 /// # Errors
 /// Memory, where it is refused.
-pub fn run<R: Threads + Wait + Sync>(
+pub fn run<R: Threads + Wait + Sync + Clock>(
     rt: &R,
     alloc: Global,
     plan: &Plan,
-) -> Result<Report, NewError> {
+) -> Result<Report, NewError>
+    ensures plan { IfOk result (λ r. r.plan ≡ plan.now) }
+    ensures is { IfOk result IsTrue }
+{
     let (stm, descs) = open(rt, alloc, plan)?;
     let room = Vec::with_capacity(alloc, descs.len())?;
     let none_met = Conflicts::new(alloc, plan.conflicts)?;
     let mut callers = hire(alloc, descs, plan)?;
+    let start = Instant::now(rt).ok();
     work_all(rt, callers.as_mut_slice(), &stm, plan);
+    let took = since(rt, start);
     let (tally, work_counts, looks) = told_by(callers.as_slice());
     let conflicts = met_by(callers.as_slice(), none_met);
     let descs = dismiss(callers, room);
@@ -47,12 +54,21 @@ pub fn run<R: Threads + Wait + Sync>(
                 plan: *plan,
                 tally,
                 right,
+                words,
+                work_counts,
+                took,
                 looks,
                 conflicts,
             })
         }
         Err((_stm, _descs, _memory)) => Err(NewError::Memory),
     }
+}
+
+/// How many nanoseconds ago that was, where the clock can be read.
+fn since<R: Clock>(rt: &R, start: Option<Instant>) -> Option<u64> {
+    let took = start?.elapsed(rt).ok()?;
+    Some(u64::try_from(took.as_nanos()).unwrap_or(u64::MAX))
 }
 
 /// A caller for each descriptor, in their order. The first have one transaction more where they can't be dealt

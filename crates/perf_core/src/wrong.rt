@@ -2,11 +2,8 @@
 use crate::plan::WORKLOADS;
 use std::alloc::{AllocError, Global};
 use stm_model::alg::ALGORITHMS;
+use stm_nearest::{put_nearest, put_word};
 use stm_profile::numbers::number;
-use strsim::levenshtein;
-
-/// How many bytes of a word are shown.
-const MOST_SHOWN: usize = 24;
 
 /// The numbers that follow the algorithm, with their ranges.
 const NUMBERS: [(&str, u64, u64); 3] = [
@@ -124,54 +121,12 @@ fn put_rest(said: &mut String, words: &[&str]) -> Result<(), AllocError> {
     if words.get(at) == Some(&"conflicts") {
         at += 1;
     }
+    if words.get(at) == Some(&"--time") {
+        at += 1;
+    }
     match words.get(at) {
         Some(word) => put_word(said, word)?,
         None => said.push_str("the last word")?,
     }
-    said.push_str(" isn't used so; here stands `SEED [READS] [switches N] [conflicts]`")
-}
-
-/// Appends these names, those that are most like a word first.
-fn put_nearest(
-    alloc: Global,
-    said: &mut String,
-    word: &str,
-    names: &[&str],
-) -> Result<(), AllocError> {
-    let mut cut = String::new(alloc);
-    push_cut(&mut cut, word)?;
-    let mut is_first = true;
-    for wanted in 0..=MOST_SHOWN {
-        for name in names {
-            if levenshtein(alloc, name, cut.as_str())?.min(MOST_SHOWN) != wanted {
-                continue;
-            }
-            if !is_first {
-                said.push_str(", ")?;
-            }
-            write!(said, "`{name}`")?;
-            is_first = false;
-        }
-    }
-    Ok(())
-}
-
-/// Appends a word, cut.
-fn put_word(said: &mut String, word: &str) -> Result<(), AllocError> {
-    said.push_str("`")?;
-    push_cut(said, word)?;
-    said.push_str("`")
-}
-
-/// Appends the first bytes of a word; what isn't shown in a line is a question mark.
-fn push_cut(said: &mut String, word: &str) -> Result<(), AllocError> {
-    let mut length = 0usize;
-    for c in word.chars() {
-        length = length.saturating_add(c.len_utf8());
-        if MOST_SHOWN < length {
-            return said.push_str(" ..");
-        }
-        said.push(if c.is_control() { '?' } else { c })?;
-    }
-    Ok(())
+    said.push_str(" isn't used so; here stands `SEED [READS] [switches N] [conflicts] [--time]`")
 }

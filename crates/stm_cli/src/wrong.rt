@@ -2,12 +2,9 @@
 use crate::command::MOST_TRANSACTIONS;
 use std::alloc::{AllocError, Global};
 use stm_model::config::MAX_CALLERS;
+use stm_nearest::{put_nearest, put_word};
 use stm_profile::numbers::number;
 use stm_profile::policy::{MOST_ROUND, MOST_STATE, Policy};
-use strsim::levenshtein;
-
-/// How many bytes of a word are shown.
-const MOST_SHOWN: usize = 24;
 
 /// The first words that a command line may have.
 const COMMANDS: [&str; 6] = ["run", "step", "gen", "check", "--help", "--version"];
@@ -20,7 +17,7 @@ pub fn wrong_word(alloc: Global, words: &[&str]) -> Result<String, AllocError> {
     let mut said = String::new(alloc);
     let (Some(command), others) = (words.get(1), &words[words.len().min(2)..]) else {
         said.push_str("no command is named; here stands one of ")?;
-        put_nearest(alloc, &mut said, "")?;
+        put_nearest(alloc, &mut said, "", &COMMANDS)?;
         return Ok(said);
     };
     match *command {
@@ -31,50 +28,10 @@ pub fn wrong_word(alloc: Global, words: &[&str]) -> Result<String, AllocError> {
         _ => {
             put_word(&mut said, command)?;
             said.push_str(" is no command; here stands ")?;
-            put_nearest(alloc, &mut said, command)?;
+            put_nearest(alloc, &mut said, command, &COMMANDS)?;
         }
     }
     Ok(said)
-}
-
-/// Appends the commands, those that are most like a word first.
-fn put_nearest(alloc: Global, said: &mut String, word: &str) -> Result<(), AllocError> {
-    let mut cut = String::new(alloc);
-    push_cut(&mut cut, word)?;
-    let mut is_first = true;
-    for wanted in 0..=MOST_SHOWN {
-        for command in COMMANDS {
-            if levenshtein(alloc, command, cut.as_str())?.min(MOST_SHOWN) != wanted {
-                continue;
-            }
-            if !is_first {
-                said.push_str(", ")?;
-            }
-            write!(said, "`{command}`")?;
-            is_first = false;
-        }
-    }
-    Ok(())
-}
-
-/// Appends a word, cut.
-fn put_word(said: &mut String, word: &str) -> Result<(), AllocError> {
-    said.push_str("`")?;
-    push_cut(said, word)?;
-    said.push_str("`")
-}
-
-/// Appends the first bytes of a word; what isn't shown in a line is a question mark.
-fn push_cut(said: &mut String, word: &str) -> Result<(), AllocError> {
-    let mut length = 0usize;
-    for c in word.chars() {
-        length = length.saturating_add(c.len_utf8());
-        if MOST_SHOWN < length {
-            return said.push_str(" ..");
-        }
-        said.push(if c.is_control() { '?' } else { c })?;
-    }
-    Ok(())
 }
 
 /// Whether a word calls for an option.

@@ -217,10 +217,7 @@ fn put_wrong_byte(said: &mut String, at: usize, byte: u8) -> Result<(), AllocErr
         b'\r' => ", a carriage return",
         _ => "",
     };
-    write!(
-        said,
-        "its byte {at} is {byte}{name}, and a line has those from 32 to 126"
-    )
+    write!(said, "its byte {at} is {byte}{name}, none from 32 to 126")
 }
 
 /// The first byte of a line that no line may have, and its number from 1.

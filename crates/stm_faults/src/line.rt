@@ -58,13 +58,22 @@ impl FaultyLine<'_> {
     fn put_may(&self, may: &mut String, room: usize) -> Result<(), AllocError> {
         match self.offers.as_slice() {
             [] => may.push_str(self.nothing),
-            [one] => may.push_str(one.form.as_str()),
+            [one] => put_form(may, one, room),
             all => match likest_of(all) {
-                Some(offer) => may.push_str(offer.form.as_str()),
+                Some(offer) => put_form(may, offer, room),
                 None => put_names(may, all, room),
             },
         }
     }
+}
+
+/// Appends a form, or its name alone where there is no room for the ranges.
+fn put_form(may: &mut String, offer: &Offer, room: usize) -> Result<(), AllocError> {
+    if offer.form.len() <= room {
+        return may.push_str(offer.form.as_str());
+    }
+    let name = offer.name();
+    write!(may, "`{name}`")
 }
 
 /// The only one of some forms that has the line's first two words.

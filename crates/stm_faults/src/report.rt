@@ -12,7 +12,7 @@ use crate::place::{Place, Reader};
 use crate::sentence::too_long;
 use crate::shown::{first_line, is_ended};
 use crate::words::{is_spaced, words_of};
-use crate::workload::workload_fault_for;
+use crate::workload::workload_fault;
 use std::alloc::{AllocError, Global};
 use stm_check::apart::report_in;
 use stm_check::checking::Part;
@@ -51,7 +51,7 @@ pub fn checked_fault(
 {
     let (head, behind) = part_at_done(text);
     match part {
-        Part::Workload => workload_fault_for(alloc, Mode::Step, head, line, fault),
+        Part::Workload => workload_fault(alloc, Mode::Step, head, line, fault),
         Part::Report => told_below(alloc, behind, count_lines(head), line, fault),
     }
 }

@@ -53,6 +53,8 @@ pub(crate) struct Parts {
     pub(crate) why: String,
     /// What may stand there.
     pub(crate) may: String,
+    /// Whether the line is shown also where there is little room.
+    pub(crate) must_show: bool,
 }
 
 impl Parts {
@@ -64,6 +66,7 @@ impl Parts {
             place,
             why: String::new(alloc),
             may: String::new(alloc),
+            must_show: true,
         })
     }
 
@@ -92,11 +95,24 @@ pub(crate) fn told(
     let mut said = String::new(alloc);
     said.push_str(parts.place.as_str())?;
     if let Some(bytes) = bytes {
-        let room = parts.room(24).saturating_sub(parts.may.len());
-        put_line(&mut said, bytes, focus, room.clamp(LEAST_SHOWN, MOST_SHOWN))?;
+        put_shown(&mut said, parts, bytes, focus)?;
     }
     write!(said, ": {}; here stands {}", parts.why, parts.may)?;
     bounded(alloc, said)
+}
+
+/// Appends a line's bytes, where they are to be shown.
+fn put_shown(
+    said: &mut String,
+    parts: &Parts,
+    bytes: &[u8],
+    focus: usize,
+) -> Result<(), AllocError> {
+    let room = parts.room(24).saturating_sub(parts.may.len());
+    if room < LEAST_SHOWN && !parts.must_show {
+        return Ok(());
+    }
+    put_line(said, bytes, focus, room.clamp(LEAST_SHOWN, MOST_SHOWN))
 }
 
 /// Appends a line's bytes, as many as there is room for.

@@ -52,21 +52,25 @@ pub fn traced_fault(alloc: Global, text: &[u8], line: usize, most: usize) -> Res
     fault_below(alloc, behind, above, line - above, most)
 }
 
-/// What is wrong with a line of a trace that may not come there in the workload above it.
+/// What is wrong with a line of a trace that may not come where its caller stands in the workload above it, by what its
+/// reader knows: why, and what may stand there.
 ///
 /// # Errors
 /// Memory, where it is refused.
-pub fn unfit_line(alloc: Global, text: &[u8], line: usize) -> Result<String, Memory>
+pub fn unfit_line(
+    alloc: Global,
+    text: &[u8],
+    line: usize,
+    why: &str,
+    may: &str,
+) -> Result<String, Memory>
     ensures { IfOk result (λ s. string_len s ≤ 200) }
 {
     let (head, behind) = part_at_done(text);
     let above = count_lines(head);
     let number = line.saturating_sub(above);
     let mut parts = Parts::of(alloc, line_at(above, number))?;
-    parts.put(
-        "this isn't next in the workload",
-        "a begin where none is open and a transaction is left, the script's next operation, or after the last a commit",
-    )?;
+    parts.put(why, may)?;
     let bytes = first_line(from_line(behind, number));
     Ok(told(alloc, &parts, Some(bytes), 0)?)
 }

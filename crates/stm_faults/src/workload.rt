@@ -23,22 +23,12 @@ use stm_script::workload::Version;
 use stm_text::lines;
 use stm_text::parse::{MAX_TEXT, Mode};
 
-/// What is wrong with a text for `step` that `parse` refuses with this line and this code, in a sentence: the line, what
-/// stands on it, why that is wrong, and what may stand there.
+/// What is wrong with a text for `run` or for `step` that `parse` refuses with this line and this fault, in a sentence: the
+/// line, what stands on it, why that is wrong, and what may stand there.
 ///
 /// # Errors
 /// Memory, where it is refused.
-pub fn workload_fault(alloc: Global, text: &[u8], line: usize, code: u32) -> Result<String, Memory>
-    ensures { IfOk result (λ s. string_len s ≤ 200) }
-{
-    workload_fault_for(alloc, Mode::Step, text, line, Fault::of(code))
-}
-
-/// The same of a text for `run` or for `step`.
-///
-/// # Errors
-/// Memory, where it is refused.
-pub fn workload_fault_for(
+pub fn workload_fault(
     alloc: Global,
     mode: Mode,
     text: &[u8],

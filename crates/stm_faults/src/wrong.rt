@@ -209,6 +209,8 @@ fn put_rows(
     let (what, at) = difference(words, wants.as_slice());
     put_difference(&mut parts.why, text, transaction, what)?;
     put_both(&mut parts.why, words.get(at), wants.get(at))?;
+    // what stands there is told
+    parts.must_show = false;
     put_whole(parts, line)?;
     Ok(at)
 }
@@ -247,7 +249,7 @@ fn put_both(
 /// Appends the row wanted, where there is room for it.
 fn put_whole(parts: &mut Parts, line: &[u8]) -> Result<(), AllocError> {
     if parts.room(56) < line.len() {
-        return parts.may.push_str("the row with what is wanted");
+        return parts.may.push_str("what is wanted");
     }
     parts.may.push_str("`")?;
     put_cut(&mut parts.may, line, 0, line.len())?;

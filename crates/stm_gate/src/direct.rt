@@ -51,7 +51,8 @@ pub fn direct_store<K: MemRule>(desc: &mut Desc<K>, stm: &Stm<K>, a: usize, x: u
 }
 
 /// Raises the clock where the attempt wrote, stores the time in BASE and in DONE, and reopens the gate. Five
-/// steps; two where it wrote nothing. One of OrecEager holds records, which it gives back by its own call.
+/// steps; two where it wrote nothing. Its write log stays. One of OrecEager holds records, which it gives back by its own
+/// call.
 #[inline(always)]
 pub fn direct_commit<K: MemRule>(desc: &mut Desc<K>, stm: &Stm<K>) -> Commit
     requires stm { IsOf desc.old stm.now }
@@ -64,6 +65,7 @@ pub fn direct_commit<K: MemRule>(desc: &mut Desc<K>, stm: &Stm<K>) -> Commit
     ensures same { IsSameCaller desc.old desc.new }
     ensures commits { Commits (K.good stm.now.rule) stm.now.config (number desc.old) result
         (known desc.old) (known desc.new) }
+    ensures buffered { desc.new.own.buffered ≡ desc.old.own.buffered }
     ensures steps { AddsAtMost 5 (known desc.old) (known desc.new) }
 {
     let caller = desc.number;

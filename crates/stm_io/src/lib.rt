@@ -2,6 +2,7 @@
 #![tactic(auto)]
 
 pub mod adapters;
+pub mod arguments;
 pub mod ends;
 pub mod memory;
 pub mod whole;

@@ -4,3 +4,4 @@ pub mod CostLaws
 pub mod MarkLaws
 pub mod FixedLaws
 pub mod StripeLaws
+pub mod LogLaws

@@ -15,9 +15,10 @@ ghost use Rattle.rule_base.specs.Encodings.{fenced};
 ghost use Rattle.stm_tx.specs.Descs.{Reserves, known, number};
 ghost use Rattle.stm_tx.specs.Rings.{HasRung};
 
-use crate::finish::{Finish, finish_with};
+use crate::finish::{Finish, commit_by};
 use crate::under;
 use alg_calls::algorithm::Algorithm;
+use alg_seq::cgl::Cgl;
 use rule_base::words::{alg_of, fence_of, holder_of};
 use std::alloc::Global;
 use stm_gate::direct::{direct_load, direct_store};
@@ -45,6 +46,19 @@ pub fn try_begin<K: MemRule>(desc: &mut Desc<K>, stm: &Stm<K>) -> Begin
         (known desc.old) (known desc.new) }
     ensures steps { AddsAtMost 6 (known desc.old) (known desc.new) }
 {
+    try_begin_as::<Cgl, K>(desc, stm)
+}
+
+/// The same, for who expects this algorithm: where the gate names it, its begin stands in line.
+#[inline(always)]
+pub fn try_begin_as<A: Algorithm, K: MemRule>(desc: &mut Desc<K>, stm: &Stm<K>) -> Begin
+    requires stm { IsOf desc.old stm.now }
+    requires idle { IsIdle (known desc.old) }
+    ensures same { IsSameCaller desc.old desc.new }
+    ensures begins { Begins (K.good stm.now.rule) stm.now.config (number desc.old) result
+        (known desc.old) (known desc.new) }
+    ensures steps { AddsAtMost 6 (known desc.old) (known desc.new) }
+{
     let caller = desc.number;
     stm.announce(&mut desc.seat, caller);
     let gate = stm.load_gate(&mut desc.seat, caller);
@@ -53,7 +67,7 @@ pub fn try_begin<K: MemRule>(desc: &mut Desc<K>, stm: &Stm<K>) -> Begin
         return Begin::Closed { gate };
     }
     let algorithm = alg_of(gate);
-    match begin_under(&mut desc.seat, stm, caller, algorithm) {
+    match begin_as::<A, K>(&mut desc.seat, stm, caller, algorithm) {
         Ok(start) => {
             desc.local.fence = fence_of(gate);
             desc.local.begin(algorithm, start);
@@ -66,7 +80,31 @@ pub fn try_begin<K: MemRule>(desc: &mut Desc<K>, stm: &Stm<K>) -> Begin
     }
 }
 
-/// The algorithm's part of a begin.
+/// The algorithm's part of a begin, in line where it is this one.
+#[inline(always)]
+fn begin_as<A: Algorithm, K: MemRule>(
+    seat: &mut Token<K>,
+    stm: &Stm<K>,
+    caller: usize,
+    algorithm: Alg,
+) -> Result<u64, Begin>
+    requires seat { IsSeatOf stm.now caller seat.old }
+    requires caller { caller < stm.now.config.callers }
+    requires view { CanBegin algorithm (view_of seat.old) }
+    ensures same { MovesView seat.old seat.new }
+    ensures begins { Starts (K.good stm.now.rule) stm.now.config caller algorithm result
+        (view_of seat.old) (view_of seat.new) }
+    ensures steps { TakesAtMost 3 (view_of seat.old) (view_of seat.new) }
+{
+    if algorithm == A::which() {
+        A::begin(seat, stm, caller)
+    } else {
+        begin_under(seat, stm, caller, algorithm)
+    }
+}
+
+#[cold]
+#[inline(never)]
 fn begin_under<K: MemRule>(
     seat: &mut Token<K>,
     stm: &Stm<K>,
@@ -136,7 +174,8 @@ pub fn write<K: MemRule>(desc: &mut Desc<K>, stm: &Stm<K>, a: usize, x: u64) -> 
 }
 
 /// Commits the attempt. An attempt that wrote asks that it keeps the memory rule. Where it has written it rings the memory's
-/// bell at last: one load while nobody waits, beside the steps. Where that was `heard`, who has a handle is to wake (`Bell::wake`).
+/// bell at last, for each word that it wrote: one load while nobody waits, beside the steps. Where that was `heard`, who has
+/// a handle is to wake (`Bell::wake`).
 ///
 /// `Committed` comes only where the attempt wrote, `ReadOnly` only where it did not. All answers but `Again` leave
 /// the descriptor idle; after `Again` the attempt is to be committed again or cancelled. Under OrecLazy and OrecEager the
@@ -156,12 +195,12 @@ pub fn commit<K: MemRule>(desc: &mut Desc<K>, stm: &Stm<K>) -> Finish<K>
     ensures same { IsSameCaller desc.old desc.new }
     ensures commits { Commits (K.good stm.now.rule) stm.now.config (number desc.old) result.answer
         (known desc.old) (known desc.new) }
-    ensures rung { HasRung result.answer result.rung desc.new }
+    ensures rung { HasRung result.answer result.rung desc.old desc.new }
     ensures steps { AddsAtMost (costs stm.now.config (known desc.old)).commit (known desc.old)
         (known desc.new) }
 {
-    let answer = under!(desc.local.algorithm, A::commit(desc, stm));
-    finish_with(desc, stm, answer)
+    let granted = desc.local.granted;
+    under!(desc.local.algorithm, commit_by::<A>(desc, stm, granted))
 }
 
 /// Ends the attempt without a trace, or answers `Irrevocable` and changes nothing: exactly where `is_irrevocable`.

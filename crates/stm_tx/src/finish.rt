@@ -12,18 +12,24 @@
 //!
 //! An announcement whose exchange fails announces nothing, and that sleep ends at once. Where somebody `heard` the ring, who has
 //! a handle wakes it (`Bell::wake`), as tx_atomic does: else it looks again after ten milliseconds.
-ghost use Rattle.std.specs.Prelude.{◌≡◌, ℕ, true};
-ghost use Rattle.stm_rule.specs.Callers.{IsOf};
-ghost use Rattle.rule_base.specs.History.{touches};
-ghost use Rattle.stm_tx.specs.Rings.{HasRung, Rings};
-ghost use Rattle.tx_bell.specs.Stripes.{Has};
+ghost use Rattle.std.specs.Prelude.{◌≡◌, ℕ, ◌&&◌, true, false};
+ghost use Rattle.stm_model.specs.Algorithms.{closes_gate};
+ghost use Rattle.stm_rule.specs.Callers.{IsOf, IsSameCaller};
+ghost use Rattle.stm_tx.specs.Costs.{costs};
+ghost use Rattle.stm_tx.specs.Descs.{known, number};
+ghost use Rattle.stm_tx.specs.Rings.{HasRung, HasRungAs, IsLogged, RingsAs};
+ghost use Rattle.tx_answers.specs.Answers.{Commits, KeepsRule};
+ghost use Rattle.tx_answers.specs.Counting.{AddsAtMost};
 
 use crate::stripes::written;
+use alg_calls::algorithm::Algorithm;
+use stm_model::alg::Alg;
 use stm_model::rule::MemRule;
 use stm_rule::desc::Desc;
 use stm_rule::rung::Rung;
 use stm_rule::stm::Stm;
 use tx_answers::answers::Commit;
+use tx_bell::stripes::Stripes;
 
 /// What a commit came to; and where it wrote, that the caller has rung.
 #[derive(Drop)]
@@ -33,15 +39,57 @@ pub struct Finish<K: MemRule> {
     pub rung: Option<Rung<K>>,
 }
 
+/// Commits an attempt of this algorithm and rings, as `calls::commit` says. `granted` may be false only where it was not
+/// promoted.
+#[inline(always)]
+pub(crate) fn commit_by<A: Algorithm, K: MemRule>(
+    desc: &mut Desc<K>,
+    stm: &Stm<K>,
+    granted: bool,
+) -> Finish<K>
+    requires stm { IsOf desc.old stm.now }
+    requires running { (known desc.old).running ≡ true }
+    requires algorithm { (known desc.old).alg ≡ A.alg }
+    requires unpromoted { granted ≡ false → (closes_gate A.alg && (known desc.old).granted) ≡ false }
+    requires keeps { KeepsRule (K.good stm.now.rule) stm.now.config (number desc.old)
+        (known desc.old) }
+    ensures same { IsSameCaller desc.old desc.new }
+    ensures commits { Commits (K.good stm.now.rule) stm.now.config (number desc.old) result.answer
+        (known desc.old) (known desc.new) }
+    ensures rung { HasRung result.answer result.rung desc.old desc.new }
+    ensures steps { AddsAtMost (costs stm.now.config (known desc.old)).commit (known desc.old)
+        (known desc.new) }
+{
+    let logged = logs_all::<A, K>(desc, granted);
+    let answer = A::commit(desc, stm);
+    finish_with(desc, stm, answer, logged)
+}
+
+/// Whether the write log has all that the attempt has written. It is asked before the commit: afterwards nothing tells. A
+/// constant where `granted` is one.
+#[inline(always)]
+fn logs_all<A: Algorithm, K: MemRule>(desc: &Desc<K>, granted: bool) -> bool
+    requires running { (known desc.now).running ≡ true }
+    requires algorithm { (known desc.now).alg ≡ A.alg }
+    requires unpromoted { granted ≡ false → (closes_gate A.alg && (known desc.now).granted) ≡ false }
+    ensures { result ≡ true → IsLogged desc.now }
+{
+    let _algorithm = desc.local.algorithm;
+    match A::which() {
+        Alg::OrecLazy | Alg::OrecEager | Alg::RingSw => !granted,
+        Alg::Cgl | Alg::Tml | Alg::Serial => false,
+    }
+}
+
 /// The finish of a commit that came to this, and took its last step.
 #[inline(always)]
-pub(crate) fn finish_with<K: MemRule>(desc: &Desc<K>, stm: &Stm<K>, answer: Commit) -> Finish<K>
+fn finish_with<K: MemRule>(desc: &Desc<K>, stm: &Stm<K>, answer: Commit, logged: bool) -> Finish<K>
     requires stm { IsOf desc.now stm.now }
     ensures answer { result.answer ≡ answer }
-    ensures rung { HasRung answer result.rung desc.now }
+    ensures rung { HasRungAs logged answer result.rung desc.now }
 {
     if let Commit::Committed { .. } = answer {
-        let rung = Some(ring(desc, stm));
+        let rung = Some(ring(desc, stm, logged));
         return Finish { answer, rung };
     }
     Finish { answer, rung: None }
@@ -49,21 +97,26 @@ pub(crate) fn finish_with<K: MemRule>(desc: &Desc<K>, stm: &Stm<K>, answer: Comm
 
 /// Rings for the words that the last attempt wrote: one load while nobody waits.
 #[inline(always)]
-fn ring<K: MemRule>(desc: &Desc<K>, stm: &Stm<K>) -> Rung<K>
+fn ring<K: MemRule>(desc: &Desc<K>, stm: &Stm<K>, logged: bool) -> Rung<K>
     requires stm { IsOf desc.now stm.now }
-    ensures { Rings result desc.now }
+    ensures { RingsAs logged result desc.now }
 {
     match Rung::in_silence(desc, stm) {
         Some(rung) => rung,
-        None => ring_aloud(desc, stm),
+        None => ring_aloud(desc, stm, logged),
     }
 }
 
 #[cold]
 #[inline(never)]
-fn ring_aloud<K: MemRule>(desc: &Desc<K>, stm: &Stm<K>) -> Rung<K>
+fn ring_aloud<K: MemRule>(desc: &Desc<K>, stm: &Stm<K>, logged: bool) -> Rung<K>
     requires stm { IsOf desc.now stm.now }
-    ensures { Rings result desc.now }
+    ensures { RingsAs logged result desc.now }
 {
-    Rung::ring(desc, stm, written(desc))
+    let stripes = if logged {
+        written(desc)
+    } else {
+        Stripes::all()
+    };
+    Rung::ring(desc, stm, stripes)
 }

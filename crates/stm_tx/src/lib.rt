@@ -13,6 +13,7 @@ pub mod serving;
 pub mod stripes;
 mod under;
 
+pub use alg_calls::algorithm::Algorithm;
 pub use alg_orec::orec_eager::OrecEager;
 pub use alg_orec::orec_lazy::OrecLazy;
 pub use alg_ring::ring::RingSw;

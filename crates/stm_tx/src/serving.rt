@@ -11,7 +11,7 @@ ghost use Rattle.stm_tx.specs.Descs.{known, number, Serves};
 ghost use Rattle.stm_tx.specs.Rings.{HasRung};
 
 use crate::calls;
-use crate::finish::{Finish, finish_with};
+use crate::finish::{Finish, commit_by};
 use alg_calls::algorithm::Algorithm;
 use alg_seq::cgl::Cgl;
 use std::marker::PhantomData;
@@ -63,7 +63,7 @@ pub trait Calls {
         ensures same { IsSameCaller desc.old desc.new }
         ensures commits { Commits (K.good stm.now.rule) stm.now.config (number desc.old) result.answer
             (known desc.old) (known desc.new) }
-        ensures rung { HasRung result.answer result.rung desc.new }
+        ensures rung { HasRung result.answer result.rung desc.old desc.new }
         ensures steps { AddsAtMost (costs stm.now.config (known desc.old)).commit (known desc.old)
             (known desc.new) };
 
@@ -139,8 +139,8 @@ impl<A: Algorithm> Calls for Under<A> {
 
     #[inline(always)]
     fn commit<K: MemRule>(&self, desc: &mut Desc<K>, stm: &Stm<K>) -> Finish<K> {
-        let answer = A::commit(desc, stm);
-        finish_with(desc, stm, answer)
+        let granted = desc.local.granted;
+        commit_by::<A, K>(desc, stm, granted)
     }
 }
 
@@ -172,7 +172,6 @@ impl<A: Algorithm> Calls for Only<A> {
 
     #[inline(always)]
     fn commit<K: MemRule>(&self, desc: &mut Desc<K>, stm: &Stm<K>) -> Finish<K> {
-        let answer = A::commit(desc, stm);
-        finish_with(desc, stm, answer)
+        commit_by::<A, K>(desc, stm, false)
     }
 }

@@ -63,6 +63,19 @@ took-since good c n tells late early u v w made grows le t = record {
   commits = t.commits;
 }
 
+-- and less may be said of it
+pub took-weaker : (good : List ℕ → Type 0) (c : Config) (n : ℕ) (tells told : Log → Type 0) (from : ℕ) (u w : CallerState)
+    → ((log : Log) → tells log → told log) → TookEffect good c n tells from u w → TookEffect good c n told from u w
+took-weaker good c n tells told from u w weaker t = record {
+  before = t.before;
+  told = weaker t.before.log t.told;
+  made = t.made;
+  grows = t.grows;
+  later = t.later;
+  time = t.time;
+  commits = t.commits;
+}
+
 -- what took effect and had written nothing left no entry
 pub took-nothing : (good : List ℕ → Type 0) (c : Config) (n : ℕ) (tells : Log → Type 0) (from : ℕ) (u w : CallerState) → ((log : Log) → tells log → log.writes ≡ []) → TookEffect good c n tells from u w → w.made ≡ u.made
 took-nothing good c n tells from u w nothing t = by t.commits

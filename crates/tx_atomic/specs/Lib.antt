@@ -5,6 +5,7 @@ pub mod CallerLaws
 pub mod Tallies
 pub mod Tries
 pub mod TryLaws
+pub mod Waits
 pub mod Moments
 pub mod MomentLaws
 pub mod Switches

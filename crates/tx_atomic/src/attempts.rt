@@ -18,12 +18,12 @@ use std::sync::Wait;
 use stm_model::rule::MemRule;
 use stm_rule::desc::Desc;
 use stm_rule::stm::Stm;
-use stm_tx::calls::{algorithm, cancel, commit, try_begin, try_irrevocable};
+use stm_tx::calls::{algorithm, cancel, commit, try_begin_as, try_irrevocable};
 use stm_tx::fencing::fence_seen;
 use stm_tx::finish::Finish;
 use stm_tx::live::Live;
 use stm_tx::serving::{AnyAlgorithm, Calls, Only};
-use stm_tx::under;
+use stm_tx::{Algorithm, Cgl, under};
 use tx_answers::answers::{Begin, Commit, Irrev};
 use tx_transaction::transaction::Transaction;
 
@@ -60,18 +60,83 @@ pub fn attempt<R: Wait, K: MemRule, T: Transaction<K>, O: Observer>(
         Tried (K.good stm.now.rule) stm.now.config (number desc.old) irrevocable
         (Some pace.new.last) (known desc.old) (known desc.new) pace.old.tally pace.new.tally) }
 {
-    open(rt, desc, stm, pace, irrevocable)?;
-    run(rt, desc, stm, pace, transaction, irrevocable)
+    if irrevocable {
+        return attempt_irrevocable(rt, desc, stm, pace, transaction);
+    }
+    // most attempts run under the algorithm of the caller's last one
+    under!(
+        desc.local.algorithm,
+        attempt_by(Only::<A>::new(), rt, desc, stm, pace, transaction)
+    )
 }
 
-/// Begins, and asks to be irrevocable where `irrevocable` says so.
-#[inline(always)]
+/// The same of an attempt that isn't asked to be irrevocable, by a function of its own for each algorithm: where the attempt runs
+/// under it, its calls stand in line.
+#[inline(never)]
+fn attempt_by<R: Wait, K: MemRule, T: Transaction<K>, A: Algorithm, O: Observer>(
+    calls: Only<A>,
+    rt: &R,
+    desc: &mut Desc<K>,
+    stm: &Stm<K>,
+    pace: &mut Pacing<O>,
+    transaction: &T,
+) -> Result<T::Output, Refused>
+    requires ready { IsReady stm.now desc.old }
+    requires precondition { T.precondition transaction.now stm.now.rule stm.now.config.words }
+    ensures through { IsThrough desc.old desc.new }
+    ensures grew { Grows (known desc.old) (known desc.new) }
+    ensures uncounted { CommitsStay pace.old.tally pace.new.tally }
+    ensures took { IfOk result (λ r.
+        Took K.good (T.postcondition transaction.now) stm.now desc.old r desc.new) }
+    ensures none { OnErr result ((known desc.new).made ≡ (known desc.old).made) }
+    ensures installs { (known desc.new).installs ≡ (known desc.old).installs }
+    ensures tried { MatchResult result
+        (λ r.
+        Tried (K.good stm.now.rule) stm.now.config (number desc.old) false None
+        (known desc.old) (known desc.new) pace.old.tally pace.new.tally) (λ e.
+        Tried (K.good stm.now.rule) stm.now.config (number desc.old) false
+        (Some pace.new.last) (known desc.old) (known desc.new) pace.old.tally pace.new.tally) }
+{
+    begin::<A, K, O>(desc, stm, pace)?;
+    run(calls, rt, desc, stm, pace, transaction)
+}
+
+/// The same of one that is asked to be irrevocable before it does anything.
+#[cold]
+#[inline(never)]
+fn attempt_irrevocable<R: Wait, K: MemRule, T: Transaction<K>, O: Observer>(
+    rt: &R,
+    desc: &mut Desc<K>,
+    stm: &Stm<K>,
+    pace: &mut Pacing<O>,
+    transaction: &T,
+) -> Result<T::Output, Refused>
+    requires ready { IsReady stm.now desc.old }
+    requires precondition { T.precondition transaction.now stm.now.rule stm.now.config.words }
+    ensures through { IsThrough desc.old desc.new }
+    ensures grew { Grows (known desc.old) (known desc.new) }
+    ensures uncounted { CommitsStay pace.old.tally pace.new.tally }
+    ensures took { IfOk result (λ r.
+        Took K.good (T.postcondition transaction.now) stm.now desc.old r desc.new) }
+    ensures none { OnErr result ((known desc.new).made ≡ (known desc.old).made) }
+    ensures installs { (known desc.new).installs ≡ (known desc.old).installs }
+    ensures tried { MatchResult result
+        (λ r.
+        Tried (K.good stm.now.rule) stm.now.config (number desc.old) true None
+        (known desc.old) (known desc.new) pace.old.tally pace.new.tally) (λ e.
+        Tried (K.good stm.now.rule) stm.now.config (number desc.old) true
+        (Some pace.new.last) (known desc.old) (known desc.new) pace.old.tally pace.new.tally) }
+{
+    open(rt, desc, stm, pace)?;
+    run_looking_up(rt, desc, stm, pace, transaction)
+}
+
+/// Begins, and asks to be irrevocable.
 fn open<R: Wait, K: MemRule, O: Observer>(
     rt: &R,
     desc: &mut Desc<K>,
     stm: &Stm<K>,
     pace: &mut Pacing<O>,
-    irrevocable: bool,
 ) -> Result<(), Refused>
     requires stm { IsOf desc.old stm.now }
     requires idle { IsIdle (known desc.old) }
@@ -81,27 +146,24 @@ fn open<R: Wait, K: MemRule, O: Observer>(
     ensures uncounted { CommitsStay pace.old.tally pace.new.tally }
     ensures fresh { OnOk result (IsFresh (known desc.new)) }
     ensures later { OnOk result ((known desc.old).front ≤ (known desc.new).start) }
-    ensures irrevocable { OnOk result
-        (irrevocable ≡ true → is_irrevocable (known desc.new) ≡ true) }
-    ensures ungranted { OnOk result (irrevocable ≡ false → (known desc.new).granted ≡ false) }
+    ensures irrevocable { OnOk result (is_irrevocable (known desc.new) ≡ true) }
     ensures over { OnErr result (IsIdle (known desc.new)) }
     ensures installs { (known desc.new).installs ≡ (known desc.old).installs }
     ensures opens { OnOk result
-        (Opens (K.good stm.now.rule) stm.now.config (number desc.old) irrevocable (known desc.old)
+        (Opens (K.good stm.now.rule) stm.now.config (number desc.old) true (known desc.old)
         (known desc.new) pace.old.tally pace.new.tally) }
     ensures tried { OnErr result
-        (Tried (K.good stm.now.rule) stm.now.config (number desc.old) irrevocable
-        (Some pace.new.last) (known desc.old) (known desc.new) pace.old.tally pace.new.tally) }
+        (Tried (K.good stm.now.rule) stm.now.config (number desc.old) true (Some pace.new.last)
+        (known desc.old) (known desc.new) pace.old.tally pace.new.tally) }
 {
-    begin(desc, stm, pace)?;
-    if irrevocable {
-        promote(rt, desc, stm, pace)?;
-    }
+    begin::<Cgl, K, O>(desc, stm, pace)?;
+    promote(rt, desc, stm, pace)?;
     Ok(())
 }
 
-/// Begins. While a range of words is out of the transactions no attempt goes on.
-fn begin<K: MemRule, O: Observer>(
+/// Begins, soonest where the gate names this algorithm. While a range of words is out of the transactions no attempt goes on.
+#[inline(always)]
+fn begin<A: Algorithm, K: MemRule, O: Observer>(
     desc: &mut Desc<K>,
     stm: &Stm<K>,
     pace: &mut Pacing<O>,
@@ -123,7 +185,7 @@ fn begin<K: MemRule, O: Observer>(
         (EndsBegin (K.good stm.now.rule) stm.now.config (number desc.old) pace.new.last
         (known desc.old) (known desc.new)) }
 {
-    match try_begin(desc, stm) {
+    match try_begin_as::<A, K>(desc, stm) {
         Begin::Begun(_) => {
             if fence_seen(desc).is_some() {
                 return Err(turn_back(desc, stm, pace));
@@ -209,20 +271,19 @@ fn promote<R: Wait, K: MemRule, O: Observer>(
     unreachable!()
 }
 
-/// Does the transaction in a running attempt, and commits it. It is compiled once for each algorithm, so that the algorithm
-/// is looked up once an attempt, and not at each call, nor whether the attempt was made irrevocable.
+/// Does the transaction in a running attempt, and commits it: in line where it runs under this algorithm.
 #[inline(always)]
-fn run<R: Wait, K: MemRule, T: Transaction<K>, O: Observer>(
+fn run<R: Wait, K: MemRule, T: Transaction<K>, A: Algorithm, O: Observer>(
+    calls: Only<A>,
     rt: &R,
     desc: &mut Desc<K>,
     stm: &Stm<K>,
     pace: &mut Pacing<O>,
     transaction: &T,
-    irrevocable: bool,
 ) -> Result<T::Output, Refused>
     requires stm { IsOf desc.old stm.now }
     requires fresh { IsFresh (known desc.old) }
-    requires ungranted { irrevocable ≡ false → (known desc.old).granted ≡ false }
+    requires ungranted { (known desc.old).granted ≡ false }
     requires precondition { T.precondition transaction.now stm.now.rule stm.now.config.words }
     ensures same { IsSameCaller desc.old desc.new }
     ensures idle { IsIdle (known desc.new) }
@@ -242,20 +303,17 @@ fn run<R: Wait, K: MemRule, T: Transaction<K>, O: Observer>(
         (known desc.old) (known desc.new) pace.old.tally pace.new.tally) }
     ensures unrefused { OnErr result (is_irrevocable (known desc.old) ≡ false) }
 {
-    if irrevocable {
-        return run_irrevocable(rt, desc, stm, pace, transaction);
+    if algorithm(desc) == A::which() {
+        return run_by(calls, rt, desc, stm, pace, transaction);
     }
-    under!(
-        algorithm(desc),
-        run_by(Only::<A>::new(), rt, desc, stm, pace, transaction)
-    )
+    run_looking_up(rt, desc, stm, pace, transaction)
 }
 
-/// The same of an attempt that was asked to be irrevocable. Apart, since it seldom runs and has the code of all algorithms at
-/// each access: with that `run` would grow too large to stand in line.
+/// The same by calls that look the algorithm up each time: for an attempt that was made irrevocable, or runs under another
+/// algorithm than the caller's last.
 #[cold]
 #[inline(never)]
-fn run_irrevocable<R: Wait, K: MemRule, T: Transaction<K>, O: Observer>(
+fn run_looking_up<R: Wait, K: MemRule, T: Transaction<K>, O: Observer>(
     rt: &R,
     desc: &mut Desc<K>,
     stm: &Stm<K>,

@@ -6,7 +6,7 @@ ghost use Rattle.tx_answers.specs.Answers.{HoldsClosed, SeesQuiet};
 ghost use Rattle.tx_answers.specs.CallerState.{Grows};
 ghost use Rattle.stm_tx.specs.Descs.{known, number};
 ghost use Rattle.tx_atomic.specs.Callers.{IsReady, IsThrough};
-ghost use Rattle.tx_atomic.specs.Switches.{IsHindered};
+ghost use Rattle.tx_atomic.specs.Switches.{ComesAlone, IsHindered, SeesLeave, Switches};
 
 use crate::napping::nap;
 use crate::waking::wake_for;
@@ -41,6 +41,8 @@ pub fn close_alone<R: Wait, K: MemRule>(rt: &R, desc: &mut Desc<K>, stm: &Stm<K>
     ensures made { (known desc.new).made ≡ (known desc.old).made }
     ensures rises { (known desc.new).rises ≡ (known desc.old).rises }
     ensures installs { (known desc.new).installs ≡ (known desc.old).installs }
+    ensures looks { ComesAlone (K.good stm.now.rule) stm.now.config (number desc.old) result
+        (known desc.old) (known desc.new) }
 {
     let mut backoff = Backoff::new();
     for _ in rt.forever() {
@@ -64,6 +66,8 @@ fn see_others_leave<R: Wait, K: MemRule>(rt: &R, desc: &mut Desc<K>, stm: &Stm<K
     ensures made { (known desc.new).made ≡ (known desc.old).made }
     ensures rises { (known desc.new).rises ≡ (known desc.old).rises }
     ensures installs { (known desc.new).installs ≡ (known desc.old).installs }
+    ensures looks { SeesLeave (K.good stm.now.rule) stm.now.config (number desc.old) result
+        (known desc.old) (known desc.new) }
 {
     let mut backoff = Backoff::new();
     let mut looks: u64 = 0;
@@ -87,6 +91,8 @@ pub fn switch_to<R: Wait, K: MemRule>(rt: &R, desc: &mut Desc<K>, stm: &Stm<K>, 
     ensures rises { ((known desc.old).rises ≤ (known desc.new).rises)
         × ((known desc.new).rises ≤ (known desc.old).rises + install_rise alg) }
     ensures installs { (known desc.new).installs ≡ (known desc.old).installs ++ alg ∷ [] }
+    ensures switches { Switches (K.good stm.now.rule) stm.now.config (number desc.old) alg result
+        (known desc.old) (known desc.new) }
 {
     let looks = close_alone(rt, desc, stm);
     install(desc, stm, alg);

@@ -7,7 +7,8 @@
 //!
 //! Who has paused for a while sleeps, until another caller has committed a write. No wake-up is lost, since the wait is
 //! announced before the attempt on whose answer the caller sleeps, and rung for after the commit: a commit whose ring
-//! finds no announcement stands before that attempt reads. Of this the logic can say the waiter's half (`sleep`).
+//! finds no announcement stands before that attempt reads. Each half is a clause: who sleeps has announced each word that
+//! it read since (`sleep`), and who has written rings (`commit` of stm_tx).
 ghost use Rattle.std.specs.Prelude.{◌≡◌, ℕ, [], IfSome, IfNone, Some, None};
 ghost use Rattle.stm_model.specs.Logs.{Log};
 ghost use Rattle.tx_answers.specs.Causes.{FindsFull};
@@ -16,6 +17,7 @@ ghost use Rattle.stm_tx.specs.Descs.{known, number};
 ghost use Rattle.tx_atomic.specs.Callers.{IsReady, IsThrough, Took};
 ghost use Rattle.tx_atomic.specs.declared.tally.Ended.TheVariants.{ClockFull};
 ghost use Rattle.tx_atomic.specs.Tries.{RanAgain};
+ghost use Rattle.tx_atomic.specs.Waits.{HasLooked};
 
 use crate::atomically::atomically;
 use crate::observer::Observer;
@@ -25,11 +27,11 @@ use std::sync::Wait;
 use stm_model::rule::MemRule;
 use stm_rule::desc::Desc;
 use stm_rule::stm::Stm;
-use stm_tx::stripes;
 use tx_backoff::{Backoff, Patience};
 use tx_bell::bell::Announced;
 use tx_bell::stripes::Stripes;
 use tx_transaction::transaction::Transaction;
+use tx_watching::watched::Watched;
 
 /// Runs a transaction until it commits with an answer, and answers that. It took effect once, as in [`atomically`]; the
 /// attempts that answered None before left no entry. The pauses between these grow, and then the caller sleeps until
@@ -61,24 +63,23 @@ pub fn until_some<R: Wait, K: MemRule, V: Drop, T: Transaction<K, Output = Optio
     ensures gave_up { IfNone result (RanAgain (K.good stm.now.rule) stm.now.config (number desc.old)
         (Some ClockFull) (known desc.old) (known desc.new) pace.old.tally pace.new.tally) }
 {
+    let watched = Watched { transaction };
     let mut backoff = Backoff::new();
     let mut stripes = Stripes::none();
     for _ in rt.forever() {
         // before the attempt: what is committed after that has read ends the sleep
         let waiting = announce_late(desc, stm, stripes, &backoff);
-        match atomically(rt, desc, stm, pace, transaction) {
+        match atomically(rt, desc, stm, pace, &watched) {
             None => {
                 withdraw(stm, waiting);
                 return None;
             }
-            Some(Some(answer)) => {
+            Some((Some(answer), _)) => {
                 withdraw(stm, waiting);
                 pace.patience.learn(&backoff);
                 return Some(answer);
             }
-            Some(None) => {
-                let read = stripes::read(desc);
-                let announced = stripes.covers(read);
+            Some((None, read)) => {
                 rest(
                     rt,
                     desc,
@@ -87,7 +88,7 @@ pub fn until_some<R: Wait, K: MemRule, V: Drop, T: Transaction<K, Output = Optio
                     &mut backoff,
                     &pace.patience,
                     waiting,
-                    announced,
+                    read,
                 );
                 stripes = stripes.with(read);
             }
@@ -100,24 +101,28 @@ pub fn until_some<R: Wait, K: MemRule, V: Drop, T: Transaction<K, Output = Optio
 #[derive(Drop)]
 pub struct Waiting<K: MemRule> {
     announced: Announced,
+    /// Of the words that it is for.
+    pub stripes: Stripes,
     /// The caller as it announced it, for proofs alone.
     pub since: Snapshot<Desc<K>>,
 }
 
 /// Announces that the caller will wait for words of these stripes, before it looks whether it has to.
 pub fn announce<K: MemRule>(desc: &Desc<K>, stm: &Stm<K>, stripes: Stripes) -> Waiting<K>
-    ensures { result.since.value ≡ desc.now }
+    ensures since { result.since.value ≡ desc.now }
+    ensures stripes { result.stripes ≡ stripes }
 {
     Waiting {
         announced: stm.bell.announce(desc.number, stripes),
+        stripes,
         since: Snapshot::of(desc),
     }
 }
 
 /// Sleeps until another caller has committed a write to a word of the stripes, or reopened the gate, since the wait was
 /// announced; it may also end for no reason, and ends after some milliseconds, for commits of who can't wake. Only who has
-/// looked since then may sleep: by a transaction that began after the announcement, and answered None as the last thing
-/// that the caller did.
+/// looked since then may sleep: by a transaction that began after the announcement, read words of the stripes alone, and
+/// answered None as the last thing that the caller did.
 pub fn sleep<R: Wait, K: MemRule, V: Drop, T: Transaction<K, Output = Option<V>>>(
     rt: &R,
     desc: &Desc<K>,
@@ -125,8 +130,8 @@ pub fn sleep<R: Wait, K: MemRule, V: Drop, T: Transaction<K, Output = Option<V>>
     transaction: &T,
     waiting: Waiting<K>,
 )
-    requires looked { Took K.good (T.postcondition transaction.now) stm.now waiting.since.value None
-        desc.now }
+    requires looked { HasLooked K.good (T.postcondition transaction.now) stm.now waiting.stripes
+        waiting.since.value desc.now }
 {
     let _ = desc;
     let _ = transaction;
@@ -165,14 +170,14 @@ fn rest<R: Wait, K: MemRule, V: Drop, T: Transaction<K, Output = Option<V>>>(
     backoff: &mut Backoff,
     patience: &Patience,
     waiting: Option<Waiting<K>>,
-    announced: bool,
+    read: Stripes,
 )
     requires looked { IfSome waiting (λ w.
-        Took K.good (T.postcondition transaction.now) stm.now w.since.value None desc.now) }
+        HasLooked K.good (T.postcondition transaction.now) stm.now read w.since.value desc.now) }
 {
     match waiting {
         Some(waiting) => {
-            if announced {
+            if waiting.stripes.covers(read) {
                 sleep(rt, desc, stm, transaction, waiting);
             } else {
                 stm.bell.withdraw(waiting.announced);

@@ -7,3 +7,5 @@ pub mod NoteExchanges
 pub mod OneHistoryLaws
 pub mod Newcomers
 pub mod Refused
+pub mod BeginLaws
+pub mod PeekLaws

@@ -7,6 +7,8 @@ pub mod Learning
 pub mod CheckedCallers
 pub mod Misuses
 pub mod Tells
+pub mod Opens
+pub mod Peeking
 pub mod Ranges
 pub mod OneHistory
 pub mod Endings

@@ -84,6 +84,13 @@ running m = running_at m.phase
 abbrev pub access : ℕ → CheckedCaller → Option Misuse
 access a m = access_at a (config_of m).words (known_to m).fence m.phase
 
+-- of a look at the word at a
+abbrev pub within : ℕ → ℕ → Option Misuse
+within a words = if ltb a words then None else Some wrong.Address
+
+abbrev pub looking : ℕ → CheckedCaller → Option Misuse
+looking a m = or_else (outside m) (within a (config_of m).words)
+
 -- of a call at mark d
 abbrev pub at_mark : ℕ → CheckedCaller → Option Misuse
 at_mark d m = or_else (running m) (if nat_le 1 d then (if nat_le d (live_marks (known_to m)) then None else Some wrong.Depth) else Some wrong.Depth)

@@ -8,7 +8,6 @@ use crate::checked_caller::CheckedCaller;
 use crate::misuse::Misuse;
 use crate::phase::CallerPhase;
 use crate::refusal::Refusal;
-use stm_tx::calls;
 use stm_tx::serving::{AnyAlgorithm, Calls};
 use tx_answers::answers::{Read, Write};
 
@@ -55,8 +54,18 @@ impl CheckedCaller {
         ensures { Tells (access a self.old) (HasWrittenWord a x self.old self.new) self.old self.new
             result }
     {
+        self.write_by(&AnyAlgorithm, a, x)
+    }
+
+    /// The same by calls that serve the attempt's algorithm.
+    #[inline(always)]
+    pub fn write_by<C: Calls>(&mut self, calls: &C, a: usize, x: u64) -> Result<Write, Misuse>
+        requires served { IsServed C.acts_as (known_to self.old) }
+        ensures { Tells (access a self.old) (HasWrittenWord a x self.old self.new) self.old self.new
+            result }
+    {
         self.may_access(a)?;
-        match calls::write(&mut self.desc, &self.stm, a, x) {
+        match calls.write(&mut self.desc, &self.stm, a, x) {
             Write::Done => Ok(Write::Done),
             Write::Conflict(cause) => {
                 self.phase = CallerPhase::Idle;

@@ -1,5 +1,5 @@
 //! The calls of an attempt, for a caller with its memory.
-ghost use Rattle.std.specs.Prelude.{◌≡◌, true, false, OnOk, OnErr, IfErr};
+ghost use Rattle.std.specs.Prelude.{◌≡◌, true, false, None, OnOk, OnErr, IfErr};
 ghost use Rattle.stm_rule.specs.Callers.{IsOf, IsSameCaller};
 ghost use Rattle.stm_tx.specs.Descs.{known, number};
 ghost use Rattle.tx_answers.specs.Answers.{HoldsClosed};
@@ -9,8 +9,10 @@ ghost use Rattle.tx_checked.specs.declared.errand.Errand.TheVariants.{Switch};
 ghost use Rattle.tx_checked.specs.CheckedCallers.{IsServed, known_to};
 ghost use Rattle.tx_checked.specs.Misuses.{outside, doing, reopening, inside, running};
 ghost use Rattle.tx_checked.specs.Tells.{Tells, HasBegun, HasCommitted, HasCancelled, IsIrrevocable, Switches, HasSwitched, HasReopened};
+ghost use Rattle.tx_checked.specs.Opens.{HasOpened, number_found, with_number};
 
 use crate::alone::close_alone;
+use crate::beginning::try_begin;
 use crate::checked_caller::CheckedCaller;
 use crate::errand::Errand;
 use crate::misuse::Misuse;
@@ -26,14 +28,68 @@ use stm_tx::gate::{install, reopen};
 use stm_tx::serving::{AnyAlgorithm, Calls};
 use tx_answers::answers::{Begin, Cancel, Commit, Irrev};
 
+/// What a begin came to, without what it found.
+#[derive(Clone, Copy, Drop)]
+pub(crate) enum Opened {
+    Begun(Alg),
+    Closed,
+    Held,
+    ClockFull,
+}
+
 impl CheckedCaller {
     /// Tries to begin an attempt, as `stm_tx::calls::try_begin` does.
+    #[inline(always)]
+    #[tactic(auto, using(crate::proofs::BeginLaws::begun_anew))]
     pub fn begin(&mut self) -> Result<Begin, Misuse>
         ensures { Tells (outside self.old) (HasBegun self.old self.new) self.old self.new result }
     {
         self.is_outside()?;
+        let opened = self.open();
+        Ok(self.with_number(opened))
+    }
+
+    /// What a begin came to, with the number that it found.
+    #[inline(always)]
+    fn with_number(&self, opened: Opened) -> Begin
+        ensures { result ≡ with_number opened (number_found self.now.refusal) }
+    {
+        match opened {
+            Opened::Begun(alg) => Begin::Begun(alg),
+            Opened::Closed => Begin::Closed {
+                gate: self.number_found(),
+            },
+            Opened::Held => Begin::Held {
+                word: self.number_found(),
+            },
+            Opened::ClockFull => Begin::ClockFull {
+                clock: self.number_found(),
+            },
+        }
+    }
+
+    #[cold]
+    #[inline(never)]
+    fn number_found(&self) -> u64
+        ensures { result ≡ number_found self.now.refusal }
+    {
+        match self.refusal {
+            Some(Refusal::GateClosed { gate }) => gate,
+            Some(Refusal::Held { word }) => word,
+            Some(Refusal::ClockFull { clock }) => clock,
+            _ => 0,
+        }
+    }
+
+    /// Tries to begin an attempt, for a caller in none. The number that it finds is written down alone, so that the answer goes by
+    /// registers.
+    #[inline(never)]
+    pub(crate) fn open(&mut self) -> Opened
+        requires idle { outside self.old ≡ None }
+        ensures { HasOpened self.old self.new result }
+    {
         let stm: &Stm<AnyMem> = &self.stm;
-        match calls::try_begin(&mut self.desc, stm) {
+        match try_begin(&mut self.desc, stm) {
             Begin::Begun(alg) => {
                 self.counts.begun = self.counts.begun.wrapping_add(1);
                 match fence_seen(&self.desc) {
@@ -46,21 +102,21 @@ impl CheckedCaller {
                         self.reach = 0;
                     }
                 }
-                Ok(Begin::Begun(alg))
+                Opened::Begun(alg)
             }
             Begin::Closed { gate } => {
                 self.refusal = Some(Refusal::GateClosed { gate });
                 self.counts.refuse(Refusal::GateClosed { gate });
-                Ok(Begin::Closed { gate })
+                Opened::Closed
             }
             Begin::Held { word } => {
                 self.refusal = Some(Refusal::Held { word });
                 self.counts.refuse(Refusal::Held { word });
-                Ok(Begin::Held { word })
+                Opened::Held
             }
             Begin::ClockFull { clock } => {
                 self.refusal = Some(Refusal::ClockFull { clock });
-                Ok(Begin::ClockFull { clock })
+                Opened::ClockFull
             }
         }
     }

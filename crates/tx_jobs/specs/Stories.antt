@@ -20,7 +20,8 @@ first_installs alg zero = alg ∷ []
 first_installs alg (suc n) = []
 
 -- caller n answered this, and so it is told; it had made nothing before, and installed nothing but the memory's first algorithm; after it,
--- what it made is what the history has of it, what it had seen begins the history, and what it installed and counted is what is told of it
+-- what it made is what the history has of it, what it had seen begins the history, and what it installed and counted is what is told of it, and it found
+-- no clock beyond the last
 pub record IsStory {V : Type 0} (alg : Alg) (tells : V → Known → Known → Type 0) (past : Past) (n : ℕ) (value : V) : Type 0 where
   pub before : Known
   pub after : Known
@@ -31,6 +32,7 @@ pub record IsStory {V : Type 0} (alg : Alg) (tells : V → Known → Known → T
   pub seen : BeginsHistory after.seen after.front past.history
   pub installed : get_or past.installs n [] ≡ after.installs
   pub counted : get_or past.commits n 0 ≡ after.commits
+  pub found : after.top ≤ past.clock
 
 -- the words are good, and those at the end of a legal history, in which each caller has its story, and nobody else has made anything
 pub record Came {V : Type 0} (good : List ℕ → Type 0) (c : Config) (alg : Alg) (tells : ℕ → V → Known → Known → Type 0) (words : List ℕ) (answers : List V) (past : Past) : Type 0 where

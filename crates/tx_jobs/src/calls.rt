@@ -13,7 +13,7 @@ use tx_transaction::transaction::Transaction;
 pub trait Calls<R: Wait, K: MemRule> {
     ghost use Rattle.std.specs.Prelude.{ℕ};
     ghost use Rattle.stm_model.specs.Logs.{Log};
-    ghost use Rattle.tx_jobs.specs.Known.{Seat, Known, Grows};
+    ghost use Rattle.tx_jobs.specs.Known.{Seat, Known, Grows, IsFull};
     ghost use Rattle.tx_jobs.specs.Moments.{Took};
     ghost use Rattle.tx_jobs.specs.Repeats.{risen};
 
@@ -83,6 +83,9 @@ pub trait Calls<R: Wait, K: MemRule> {
     ghost keeps_trans: { (x y z : Self) → keeps x y → keeps y z → keeps x z };
 
     ghost full_earlier: { (x y z : Self) → keeps x y → full y z → full x z };
+
+    ghost full_found: { (x y : Self) → full x y → IsFull (known y) };
+
     // it never sees less
     ghost grows: { (x y : Self) → keeps x y → Grows (known x) (known y) };
 }

@@ -1,5 +1,5 @@
 //! Rounds: in each of them any of a caller's calls.
-ghost use Rattle.std.specs.Prelude.{◌≡◌, ◌≤◌};
+ghost use Rattle.std.specs.Prelude.{◌≡◌, ◌<◌, ◌≤◌};
 ghost use Rattle.tx_jobs.specs.Rounds.{Went};
 
 use crate::calls::Calls;
@@ -8,7 +8,7 @@ use stm_model::rule::MemRule;
 
 /// What a caller does in each round. One that says nothing of it needs no proof where its calls need none.
 pub trait Round<R: Wait, K: MemRule> {
-    ghost use Rattle.std.specs.Prelude.{ℕ, ◌<◌, IfSome};
+    ghost use Rattle.std.specs.Prelude.{ℕ, ◌<◌, IfSome, IfNone};
     ghost use Rattle.tx_jobs.specs.Known.{Known};
 
     // what it needs of the rule and of the number of words. Where nothing is said: one word, which each memory has
@@ -18,8 +18,8 @@ pub trait Round<R: Wait, K: MemRule> {
     // after it. Where nothing is said: nothing
     ghost postcondition: { Self → K → ℕ → ℕ → ℕ → Known → Known → Type 0 } = { λ it rule words caller round before after. Unit {0} };
 
-    /// Does this round: `caller.run(&first)?; caller.run(&second)?; Some(())`. None is to be the last: what a call answers
-    /// where the clock was found at its limit.
+    /// Does this round: `caller.run(&first)?; caller.run(&second)?; Some(())`. None, which is the last: one of its calls
+    /// found the clock at its limit.
     fn round<C: Calls<R, K>>(&self, caller: &mut C, round: usize) -> Option<()>
         requires precondition { precondition self.now (C.seat caller.old).rule
             (C.seat caller.old).words }
@@ -27,10 +27,11 @@ pub trait Round<R: Wait, K: MemRule> {
         ensures same { C.seat caller.new ≡ C.seat caller.old }
         ensures postcondition { IfSome result (λ done.
             postcondition self.now (C.seat caller.old).rule (C.seat caller.old).words
-            (C.seat caller.old).number round (C.known caller.old) (C.known caller.new)) };
+            (C.seat caller.old).number round (C.known caller.old) (C.known caller.new)) }
+        ensures full { IfNone result (C.full caller.old caller.new) };
 }
 
-/// Does so many rounds, and answers how many were done: fewer only where one answered None.
+/// Does so many rounds, and answers how many were done: fewer only where one answered None, at the clock's limit.
 pub fn rounds<R: Wait, K: MemRule, C: Calls<R, K>, T: Round<R, K>>(
     caller: &mut C,
     count: usize,
@@ -43,6 +44,7 @@ pub fn rounds<R: Wait, K: MemRule, C: Calls<R, K>, T: Round<R, K>>(
     ensures count { result ≤ count }
     ensures went { Went (T.postcondition each.now (C.seat caller.old).rule (C.seat caller.old).words
         (C.seat caller.old).number) count (C.known caller.old) result (C.known caller.new) }
+    ensures full { result < count → C.full caller.old caller.new }
 {
     for round in 0..count {
         match each.round(caller, round) {

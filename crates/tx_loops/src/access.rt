@@ -12,7 +12,7 @@ use crate::ends::end_blank;
 use crate::looping_caller::LoopingCaller;
 use crate::stage::Stage;
 use stm_tx::fencing::spares;
-use stm_tx::serving::Calls;
+use stm_tx::serving::{AnyAlgorithm, Calls};
 use tx_answers::answers::{Read, Write};
 use tx_checked::checked_caller::CheckedCaller;
 use tx_checked::misuse::Misuse;
@@ -83,10 +83,19 @@ impl LoopingCaller {
     pub fn write(&mut self, a: usize, x: u64) -> Result<Write, Misuse>
         ensures { WriteSays a x self.old self.new result }
     {
+        self.write_by(&AnyAlgorithm, a, x)
+    }
+
+    /// The same, by these calls.
+    #[inline(always)]
+    pub fn write_by<C: Calls>(&mut self, calls: &C, a: usize, x: u64) -> Result<Write, Misuse>
+        requires served { IsServed C.acts_as (known_to self.old.caller) }
+        ensures { WriteSays a x self.old self.new result }
+    {
         if !self.stage.is_plain() {
             return self.write_apart(a, x);
         }
-        match self.caller.write(a, x) {
+        match self.caller.write_by(calls, a, x) {
             Ok(Write::Done) => Ok(Write::Done),
             Ok(refused) => {
                 self.stage = self.stage.lapsed();

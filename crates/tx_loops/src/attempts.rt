@@ -2,7 +2,8 @@
 ghost use Rattle.std.specs.Prelude.{◌≡◌, true, OnOk, IfErr, None, Some};
 ghost use Rattle.tx_answers.specs.CallerState.{IsRunning, is_irrevocable};
 ghost use Rattle.tx_checked.specs.CheckedCallers.{IsServed, config_of, known_to};
-ghost use Rattle.tx_checked.specs.Misuses.{inside, outside, running};
+ghost use Rattle.tx_checked.specs.Misuses.{inside, looking, outside, running};
+ghost use Rattle.tx_checked.specs.Peeking.{HasPeeked};
 ghost use Rattle.tx_checked.specs.Tells.{HasBegun, HasCancelled, HasCommitted};
 ghost use Rattle.tx_loops.specs.Accesses.{Binds, GrantSays, PassesFree, free_misuse};
 ghost use Rattle.tx_loops.specs.Loops.{MadeNothing};
@@ -17,6 +18,7 @@ use stm_tx::serving::Calls;
 use tx_answers::answers::{Begin, Cancel, Commit, Irrev};
 use tx_checked::checked_caller::CheckedCaller;
 use tx_checked::misuse::Misuse;
+use tx_checked::peeking::Peek;
 use tx_logs::write_log::WriteLog;
 
 impl LoopingCaller {
@@ -43,6 +45,15 @@ impl LoopingCaller {
     {
         self.is_free()?;
         self.caller.begin()
+    }
+
+    /// As `CheckedCaller::peek`.
+    #[inline(always)]
+    pub fn peek(&mut self, a: usize) -> Result<Peek, Misuse>
+        ensures { PassesFree (looking a) (HasPeeked a) self.old self.new result }
+    {
+        self.is_free()?;
+        self.caller.peek(a)
     }
 
     /// Commits it, by calls that serve its algorithm.

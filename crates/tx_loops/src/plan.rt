@@ -1,5 +1,5 @@
 //! What a loop has come to, and when it is to go on. The pauses are the user's to make: they double.
-ghost use Rattle.std.specs.Prelude.{◌≡◌, ◌≢◌, ◌≤◌, Bool, Option, true, is_some, None, Some};
+ghost use Rattle.std.specs.Prelude.{◌≡◌, ◌≢◌, ◌≤◌, Bool, false, Option, true, is_some, None, Some};
 ghost use Rattle.tx_loops.specs.Turns.{GoesOnAfter, IsAfterFull, IsAfterRefusal};
 ghost use Rattle.tx_loops.specs.Watches.{SleepsBy};
 ghost use Rattle.tx_checked.specs.declared.refusal.Refusal.{Refusal};
@@ -41,6 +41,8 @@ pub enum LogKind {
 /// What a loop has come to.
 #[derive(Drop)]
 pub struct Plan {
+    /// Whether anything of it isn't as in `new`.
+    pub touched: bool,
     /// How many attempts failed, 16 at most.
     pub failed: u32,
     /// How long a log is to be before the next attempt, or 0; and which.
@@ -57,6 +59,7 @@ pub struct Plan {
     /// Whether its user was to sleep by that.
     pub slept: bool,
     ghost fits: { wanted ≤ 1048576 },
+    ghost untouched: { touched ≡ false → (wanted ≡ 0) × (watch ≡ None) },
 }
 
 impl Plan {
@@ -66,6 +69,7 @@ impl Plan {
         ensures watch { result.watch ≡ None }
     {
         Plan {
+            touched: false,
             failed: 0,
             wanted: 0,
             kind: LogKind::Reads,
@@ -82,7 +86,7 @@ impl Plan {
     pub(crate) fn is_simple(&self) -> bool
         ensures { result ≡ true → self.now.wanted ≡ 0 }
     {
-        self.wanted == 0 && self.retried < MOST_AWAKE
+        !self.touched
     }
 
     /// Whether the wait for which the body is to run again is to be announced.
@@ -121,6 +125,7 @@ impl Plan {
     fn up_to(&mut self, longest: u32) -> u32
         ensures { self.new.watch ≡ self.old.watch }
     {
+        self.touched = true;
         let now = self.pause.min(longest).min(LONGEST_AT_CONFLICT);
         self.pause = longest.min(now + 1);
         1 << now
@@ -154,6 +159,7 @@ impl Plan {
         ensures sleeps { SleepsBy ran self.old.watch self.new.watch result }
         ensures watch { self.new.watch ≡ self.old.watch }
     {
+        self.touched = true;
         self.retried = MOST_AWAKE.min(self.retried.saturating_add(1));
         self.read = self.read.with(read);
         if ran && !self.slept && self.watches(read) {
@@ -194,6 +200,7 @@ impl Plan {
         ensures awake { result ≢ Turn.Sleep }
         ensures watch { self.new.watch ≡ self.old.watch }
     {
+        self.touched = true;
         if limit < MOST_LOG {
             self.wanted = MOST_LOG.min(2 * limit);
             self.kind = kind;

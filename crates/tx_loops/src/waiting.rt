@@ -19,6 +19,7 @@ impl LoopingCaller {
         ensures stage { self.new.stage ≡ self.old.stage }
     {
         self.withdraw();
+        self.plan.touched = true;
         self.plan.watch = Some(Watch::of(&self.caller, self.plan.read));
         self.plan.slept = false;
     }
@@ -41,9 +42,19 @@ impl LoopingCaller {
         ensures caller { self.new.caller ≡ self.old.caller }
         ensures stage { self.new.stage ≡ self.old.stage }
     {
-        if self.plan.watch.is_some() {
-            self.withdraw();
+        if self.plan.touched {
+            self.plan_over();
         }
+    }
+
+    #[cold]
+    #[inline(never)]
+    fn plan_over(&mut self)
+        ensures watch { self.new.plan.watch ≡ None }
+        ensures caller { self.new.caller ≡ self.old.caller }
+        ensures stage { self.new.stage ≡ self.old.stage }
+    {
+        self.withdraw();
         self.plan = Plan::new();
     }
 

@@ -17,6 +17,7 @@ use Rattle.tx_start.specs.declared.working.Left.{Left}
 use Rattle.tx_start.specs.Lefts.{desc_in, descs_in, answer_in, answers_in, tally_in, tallies_in, AllNew, Works}
 use Rattle.tx_start.specs.Pasts.{commits_of, past_of}
 use Rattle.tx_start.specs.Seats.{shown}
+use Rattle.tx_start.specs.SeatLaws.{top-within}
 
 module _ {K : Type 0} (stm : Stm K) where
   -- callers that were opened have made and installed nothing
@@ -83,4 +84,5 @@ module _ {K V : Type 0} (stm : Stm K) (alg : Alg) (tells : ℕ → V → Known �
         seen = this.seen;
         installed = ap (λ (xs : List (List Alg)). get_or xs i []) installs ∙ (get_or-map (λ (d : Handle K). installs_of d.view) (descs_in (l ∷ ls)) i x [] place ∙ ap (λ (d : Handle K). installs_of d.view) at);
         counted = get_or-map commits_of (tallies_in (l ∷ ls)) i l.tally 0 counts ∙ ap commits_of (get_or-map tally_in (l ∷ ls) i l l.tally here);
+        found = top-within e.clock one.desc.view.steps.step_trace this.clocks;
       }

@@ -1,17 +1,22 @@
 -- Laws of what the jobs' crate sees.
-use Rattle.std.proofs.Common.{ℕ, ◌≡◌, ◌∙◌, List, [], ◌∷◌, ◌++◌, Bool, true, false, length, refl, sym, ap, inl, inr}
+use Rattle.std.proofs.Common.{ℕ, ◌≡◌, ◌≤◌, ◌∙◌, List, [], ◌∷◌, ◌++◌, Bool, true, false, length, refl, sym, ap, arith, subst, inl, inr}
 use Rattle.std.specs.Prelude.{◌⊎◌, not, Option, Some, None, IfSome}
 use Rattle.std.proofs.lemmas.List.{append-nil}
 use Rattle.stm_model.specs.declared.config.Config.{Config}
 use Rattle.stm_model.specs.Histories.{Entry}
 use Rattle.stm_model.specs.Logs.{Log}
 use Rattle.stm_model.specs.Memories.{is_empty}
+use Rattle.rule_base.specs.declared.layout.At.{At}
+use Rattle.rule_base.specs.declared.layout.At.TheVariants.{Clock, Lock, Gate, Base, Done, Status, Record, Slot, Heap}
+use Rattle.rule_base.specs.declared.views.TracedStep.{TracedStep}
+use Rattle.rule_base.specs.StepsRule.{ClocksWithin}
 use Rattle.stm_rule.specs.declared.stm.Stm.{Stm}
 use Rattle.stm_rule.specs.Callers.{Handle}
-use Rattle.stm_tx.specs.Descs.{known, number}
+use Rattle.stm_tx.specs.Descs.{known}
 use Rattle.tx_answers.specs.declared.answers.Commit.TheVariants.{Committed, ReadOnly}
 use Rattle.tx_answers.specs.Answers.{Commits}
-use Rattle.tx_answers.specs.CallerState.{CallerState, Grows, caller_of}
+use Rattle.tx_answers.specs.Causes.{FindsFull}
+use Rattle.tx_answers.specs.CallerState.{CallerState, Grows, caller_of, clock_in, top_of}
 use Rattle.tx_answers.specs.CallerStateLaws.{carries-refl}
 use Rattle.tx_atomic.specs.Attempts.{TookEffect}
 use Rattle.tx_atomic.specs.Callers.{IsThrough}
@@ -22,8 +27,39 @@ use Rattle.tx_jobs.specs.Moments.{Took}
 use Rattle.tx_jobs.specs.Repeats.{MadeOne}
 use Rattle.tx_start.specs.Seats.{shown, seat_of}
 
-pub grows-shown : (v w : CallerState) (m n : ℕ) → Grows v w → jobs.Grows (shown v m) (shown w n)
-grows-shown v w m n g = record { later = g.later; is = g.is; ascending = g.ascending; up_to = g.up_to; front_rose = g.front_rose }
+-- the greatest clock that was found rises with what is found, and is none beyond the memory's
+top-more : (is t : List TracedStep) → top_of t ≤ top_of (is ++ t)
+top-more [] t = omega arith
+top-more (i ∷ is) t = let rest = top-more is t in omega (arith, rest)
+
+pub top-within : (clock : ℕ) (is : List TracedStep) → ClocksWithin clock is → top_of is ≤ clock
+top-within clock [] within = omega arith
+top-within clock (i ∷ is) within = let rest = top-within clock is within.1 in let here = by i.place i.found within.0 in omega (arith, rest, here)
+  where
+    by : (place : At) (found : Option ℕ) → (place ≡ Clock → (x : ℕ) → found ≡ Some x → x ≤ clock) → clock_in place found ≤ clock
+    by Clock None low = omega arith
+    by Clock (Some x) low = low refl x refl
+    by Lock found low = omega arith
+    by Gate found low = omega arith
+    by Base found low = omega arith
+    by Done found low = omega arith
+    by (Status i) found low = omega arith
+    by (Record i) found low = omega arith
+    by (Slot i) found low = omega arith
+    by (Heap i) found low = omega arith
+
+pub grows-shown : {K : Type 0} (d e : Handle K) (m n : ℕ) → Grows (known d) (known e) → jobs.Grows (shown (known d) m) (shown (known e) n)
+grows-shown d e m n g = record {
+  later = g.later;
+  is = g.is;
+  ascending = g.ascending;
+  up_to = g.up_to;
+  front_rose = g.front_rose;
+  top_rose = subst (λ (t : List TracedStep). top_of d.view.steps.step_trace ≤ top_of t) (sym g.step_trace) (top-more g.more d.view.steps.step_trace);
+}
+
+pub found-full : (clock : ℕ) (v w : CallerState) (n : ℕ) → FindsFull clock v w → jobs.IsFull (shown w n)
+found-full clock v w n full = let limit = full.limit in let top = full.top in omega arith
 
 pub same-seat : {K : Type 0} (stm : Stm K) (d e : Handle K) → IsThrough d e → seat_of stm e ≡ seat_of stm d
 same-seat stm d e t = ap (λ q. record { rule = stm.rule; words = stm.config.words; callers = stm.config.callers; number = caller_of q.role }) t.same.who

@@ -32,7 +32,7 @@ impl<'a, R: Wait, K: MemRule> Calls<R, K> for Caller<'a, R, K> {
     ghost use Rattle.tx_atomic.specs.CallerLaws.{worked-refl, worked-trans};
     ghost use Rattle.tx_atomic.specs.TryLaws.{full-earlier};
     ghost use Rattle.tx_start.specs.Seats.{shown, seat_of};
-    ghost use Rattle.tx_start.specs.SeatLaws.{grows-shown};
+    ghost use Rattle.tx_start.specs.SeatLaws.{found-full, grows-shown};
 
     ghost seat = { λ c. seat_of c.stm.now c.desc };
 
@@ -48,7 +48,9 @@ impl<'a, R: Wait, K: MemRule> Calls<R, K> for Caller<'a, R, K> {
 
     ghost full_earlier = { λ x y z a f. (f.0, full-earlier f.0 (known x.desc) (known y.desc) (known z.desc) a.grew f.1) };
 
-    ghost grows = { λ x y a. grows-shown (known x.desc) (known y.desc) x.pace.tally.commits y.pace.tally.commits a.grew };
+    ghost full_found = { λ x y f. found-full f.0 (known x.desc) (known y.desc) y.pace.tally.commits f.1 };
+
+    ghost grows = { λ x y a. grows-shown x.desc y.desc x.pace.tally.commits y.pace.tally.commits a.grew };
 
     fn number(&self) -> usize {
         number_of(&self.desc, self.stm)

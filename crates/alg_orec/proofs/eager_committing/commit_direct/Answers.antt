@@ -5,7 +5,9 @@ use Rattle.rule_base.specs.InstallSteps.{store_base, store_done}
 use Rattle.rule_base.specs.StepKinds.{Nothing}
 use Rattle.rule_seq.specs.CglSteps.{Commits}
 use Rattle.rule_promoted.specs.PromotedSteps.{direct_commit}
+use Rattle.stm_rule.specs.declared.local.Local.{Local}
 use Rattle.stm_rule.specs.Attempts.{own_of}
+use Rattle.stm_rule.specs.Callers.{Handle}
 use Rattle.stm_rule.specs.Kept.{good_of}
 use Rattle.stm_rule.specs.StandLemmas.{tells-of}
 use Rattle.tx_answers.specs.declared.answers.Commit.TheVariants.{Committed, ReadOnly}
@@ -118,3 +120,11 @@ returns-clause-steps g c =
     let done = ap (λ (y : SeatView g.row.K.Denot). length y.view.steps.step_trace) c.store_done.ensures.step.3 in
     let last = c.leave-2.ensures.steps in
     omega arith
+
+pub returns-then-not-desc-clause-buffered : goal.returns-then-not-desc-clause-buffered
+returns-then-not-desc-clause-buffered g c = ap (λ (l : Local). (own_of l).buffered) c.leave.ensures.idle
+    ∙ ap (λ (d : Handle g.row.K.Denot). d.own.buffered) c.desc.view_is
+
+pub returns-clause-buffered : goal.returns-clause-buffered
+returns-clause-buffered g c = ap (λ (l : Local). (own_of l).buffered) c.leave-2.ensures.idle
+    ∙ ap (λ (d : Handle g.row.K.Denot). d.own.buffered) c.desc.view_is

@@ -182,3 +182,19 @@ returns-clause-stands g c =
     c.leave.new.seat.me.0.view) (sym c.leave.ensures.idle)
     (laws.ended-stands _ _ _ (record c.revalidate.new.local { committing = false }) _
     (ready g (goal.at.returns-clause-stands g c).In_default).lengths c.leave.ensures.outside)
+
+pub returns-in-Err-clause-written : goal.returns-in-Err-clause-written
+returns-in-Err-clause-written g c = ap (λ (q : Local). q.writes) c.abort.ensures.idle
+    ∙ ap (λ (q : Local). q.writes) c.in-Err.ensures.revalidates.local
+
+pub returns-then-start-ge-CLOCK_LIMIT-clause-written : goal.returns-then-start-ge-CLOCK_LIMIT-clause-written
+returns-then-start-ge-CLOCK_LIMIT-clause-written g c =
+    ap (λ (q : Local). q.writes) c.abort-then-start-ge-CLOCK_LIMIT.ensures.idle
+    ∙ ap (λ (q : Local). q.writes) c.in_default.ensures.revalidates.local
+
+pub returns-then-now-start-clause-written : goal.returns-then-now-start-clause-written
+returns-then-now-start-clause-written g c = ap (λ (q : Local). q.writes) c.in_default.ensures.revalidates.local
+
+pub returns-clause-written : goal.returns-clause-written
+returns-clause-written g c = ap (λ (q : Local). q.writes) c.leave.ensures.idle
+    ∙ ap (λ (q : Local). q.writes) c.in_default.ensures.revalidates.local

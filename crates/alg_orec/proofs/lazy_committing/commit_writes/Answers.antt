@@ -192,3 +192,19 @@ returns-clause-steps g c =
     let entered = ap (λ (y : SeatView g.row.K.Denot). length y.view.steps.step_trace) c.commit-now.ensures.step.3 in
     let finished = c.finish.ensures.steps in
     grind (arith, held, words, prepared, entered, finished)
+
+pub returns-in-Err-clause-written : goal.returns-in-Err-clause-written
+returns-in-Err-clause-written g c = ap (λ (q : Local). q.writes) c.abort.ensures.idle
+    ∙ ap (λ (q : Local). q.writes) c.in-Err.ensures.prepares.local
+
+pub returns-then-start-ge-CLOCK_LIMIT-clause-written : goal.returns-then-start-ge-CLOCK_LIMIT-clause-written
+returns-then-start-ge-CLOCK_LIMIT-clause-written g c =
+    ap (λ (q : Local). q.writes) c.abort-then-start-ge-CLOCK_LIMIT.ensures.idle
+    ∙ ap (λ (q : Local). q.writes) c.in_default.ensures.prepares.local
+
+pub returns-then-now-start-clause-written : goal.returns-then-now-start-clause-written
+returns-then-now-start-clause-written g c = ap (λ (q : Local). q.writes) c.in_default.ensures.prepares.local
+
+pub returns-clause-written : goal.returns-clause-written
+returns-clause-written g c = ap (λ (q : Local). q.writes) c.finish.ensures.idle
+    ∙ ap (λ (q : Local). q.writes) c.in_default.ensures.prepares.local

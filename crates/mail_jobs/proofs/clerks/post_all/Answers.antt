@@ -1,4 +1,4 @@
-use Rattle.std.proofs.Common.{[], ◌∷◌, ◌+◌, ◌∙◌, add-one, refl, subst, sym}
+use Rattle.std.proofs.Common.{[], ◌∷◌, ◌+◌, ◌∙◌, add-one, refl, subst}
 use Rattle.std.specs.Prelude.{◌==◌, ◌%◌}
 use Rattle.std.proofs.lemmas.List.{append-nil}
 use Rattle.mailbox.specs.Deeds.{Posted, HasDone}

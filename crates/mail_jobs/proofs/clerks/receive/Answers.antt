@@ -1,4 +1,3 @@
-use Rattle.std.proofs.Common.{[], ◌∷◌}
 use Rattle.std.specs.Prelude.{Some, Ok}
 use Rattle.mailbox.specs.Mail.{IsMailbox}
 use Rattle.mailbox.specs.Deeds.{Received}

@@ -1,26 +1,18 @@
-use Rattle.std.proofs.Common.{ℕ, ◌≡◌, ◌<◌, ◌⊎◌, inl, inr, true, List, sym, subst, arith, slice_index_or}
-use Rattle.std.proofs.Math.Nat.{eq-or-lt_of_le}
+use Rattle.std.proofs.Common.{ℕ, ◌≡◌, ◌∙◌, true, sym, subst, arith}
 use Rattle.rule_base.specs.History.{touches}
 use Rattle.stm_rule.specs.Callers.{Handle}
 use Rattle.tx_bell.specs.Stripes.{Has}
-use Rattle.stm_tx.proofs.StripeLaws.{item-of}
+use Rattle.stm_tx.proofs.StripeLaws.{item-of, cells-member, added}
 use Rattle.stm_tx.proofs.stripes.written.Goals as goal
 
 pub loop-i-init : goal.loop-i-init
 loop-i-init g c = λ k l. absurd (omega arith)
 
 pub loop-i-preserved : goal.loop-i-preserved
-loop-i-preserved g c = λ k l. by k (eq-or-lt_of_le (omega arith))
-  where
-    items : List (ℕ × ℕ)
-    items = c.desc.inside.local.writes.items
+loop-i-preserved g c = added c.desc.inside.local.writes.items c.loop-i.i c.item.result c.loop-i.stripes c.add.new.self c.item.ensures c.add.ensures.there c.add.ensures.stays c.loop-i.invariant
 
-    by : (k : ℕ) → (k ≡ c.loop-i.i) ⊎ (k < c.loop-i.i) → Has (slice_index_or items k (0, 0)).0 c.add.new.self
-    by k (inl e) = subst (λ (i : ℕ). Has (slice_index_or items i (0, 0)).0 c.add.new.self) (sym e)
-        (subst (λ (p : ℕ × ℕ). Has p.0 c.add.new.self) c.item.ensures c.add.ensures.there)
-    by k (inr l) = c.add.ensures.stays (slice_index_or items k (0, 0)).0 (c.loop-i.invariant k l)
-
-pub returns-after-loop-i : goal.returns-after-loop-i
-returns-after-loop-i g c = λ a t.
-    let r = item-of c.desc.inside.local.writes.items a (subst (λ (h : Handle g.row.K.Denot). touches h.own.buffered a ≡ true) (sym c.desc.view_is) t) in
+pub returns : goal.returns
+returns g c = λ a t.
+    let items = c.desc.inside.local.writes.items in
+    let r = item-of items a (sym (cells-member items a) ∙ subst (λ (h : Handle g.row.K.Denot). touches h.own.buffered a ≡ true) (sym c.desc.view_is) t) in
     subst (λ (b : ℕ). Has b c.loop-i.stripes) r.2 (c.loop-i.invariant r.0 (omega (arith, r.1)))

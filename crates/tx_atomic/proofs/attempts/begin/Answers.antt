@@ -14,8 +14,8 @@ use Rattle.tx_atomic.proofs.attempts.begin.Goals as goal
 pub returns-then-is_some-clause-grew : goal.returns-then-is_some-clause-grew
 returns-then-is_some-clause-grew g c =
     let stm = c.args.stm.now in
-    commits-grow (g.K.MemRule.good stm.rule) stm.config (number c.try_begin.new.desc) c.turn_back.ensures.commits.0 (known c.args.desc.now)
-    (known c.try_begin.new.desc) (known c.turn_back.new.desc) c.in-Begun.ensures.begins.grows c.turn_back.ensures.commits.1
+    commits-grow (g.K.MemRule.good stm.rule) stm.config (number c.try_begin_as.new.desc) c.turn_back.ensures.commits.0 (known c.args.desc.now)
+    (known c.try_begin_as.new.desc) (known c.turn_back.new.desc) c.in-Begun.ensures.begins.grows c.turn_back.ensures.commits.1
 
 -- who sees a range knows of a fence
 seen : (v : CallerState) → is_some {T = ℕ × ℕ} (fence_seen v) ≡ true → v.fence ≢ 0
@@ -28,12 +28,12 @@ pub returns-then-is_some-clause-refused : goal.returns-then-is_some-clause-refus
 returns-then-is_some-clause-refused g c =
     let stm = c.args.stm.now in
     let good = g.K.MemRule.good stm.rule in
-    let v = known c.try_begin.new.desc in
+    let v = known c.try_begin_as.new.desc in
     let w = known c.turn_back.new.desc in
     let some : is_some {T = ℕ × ℕ} (fence_seen v) ≡ true = let found = c.fence_seen.ensures in let tested = c.is_some.ensures in let yes = c.if-is_some.true in cc in
-    let refused = begin-fenced good stm.config (number c.args.desc.now) c.try_begin.result _ (known c.args.desc.now) v w c.in-Begun.is
-    c.try_begin.ensures.begins (seen v some)
-    (commits-grow good stm.config (number c.try_begin.new.desc) c.turn_back.ensures.commits.0 v v w (carries-refl v).grows
+    let refused = begin-fenced good stm.config (number c.args.desc.now) c.try_begin_as.result _ (known c.args.desc.now) v w c.in-Begun.is
+    c.try_begin_as.ensures.begins (seen v some)
+    (commits-grow good stm.config (number c.try_begin_as.new.desc) c.turn_back.ensures.commits.0 v v w (carries-refl v).grows
     c.turn_back.ensures.commits.1) in
     subst (λ (e : Ended). EndsBegin good stm.config (number c.args.desc.now) e (known c.args.desc.now) w) (sym c.turn_back.ensures.last) refused
 
@@ -41,22 +41,22 @@ pub returns-in-Closed-clause-refused : goal.returns-in-Closed-clause-refused
 returns-in-Closed-clause-refused g c =
     let stm = c.args.stm.now in
     let good = g.K.MemRule.good stm.rule in
-    let w = known c.try_begin.new.desc in
-    let refused = begin-closed good stm.config (number c.args.desc.now) c.try_begin.result _ (known c.args.desc.now) w c.in-Closed.is c.try_begin.ensures.begins in
+    let w = known c.try_begin_as.new.desc in
+    let refused = begin-closed good stm.config (number c.args.desc.now) c.try_begin_as.result _ (known c.args.desc.now) w c.in-Closed.is c.try_begin_as.ensures.begins in
     subst (λ (e : Ended). EndsBegin good stm.config (number c.args.desc.now) e (known c.args.desc.now) w) (sym c.refuse.ensures.last) refused
 
 pub returns-in-Held-clause-refused : goal.returns-in-Held-clause-refused
 returns-in-Held-clause-refused g c =
     let stm = c.args.stm.now in
     let good = g.K.MemRule.good stm.rule in
-    let w = known c.try_begin.new.desc in
-    let refused = begin-held good stm.config (number c.args.desc.now) c.try_begin.result _ (known c.args.desc.now) w c.in-Held.is c.try_begin.ensures.begins in
+    let w = known c.try_begin_as.new.desc in
+    let refused = begin-held good stm.config (number c.args.desc.now) c.try_begin_as.result _ (known c.args.desc.now) w c.in-Held.is c.try_begin_as.ensures.begins in
     subst (λ (e : Ended). EndsBegin good stm.config (number c.args.desc.now) e (known c.args.desc.now) w) (sym c.refuse-in-Held.ensures.last) refused
 
 pub returns-in-ClockFull-clause-refused : goal.returns-in-ClockFull-clause-refused
 returns-in-ClockFull-clause-refused g c =
     let stm = c.args.stm.now in
     let good = g.K.MemRule.good stm.rule in
-    let w = known c.try_begin.new.desc in
-    let refused = begin-full good stm.config (number c.args.desc.now) c.try_begin.result _ (known c.args.desc.now) w c.in-ClockFull.is c.try_begin.ensures.begins in
+    let w = known c.try_begin_as.new.desc in
+    let refused = begin-full good stm.config (number c.args.desc.now) c.try_begin_as.result _ (known c.args.desc.now) w c.in-ClockFull.is c.try_begin_as.ensures.begins in
     subst (λ (e : Ended). EndsBegin good stm.config (number c.args.desc.now) e (known c.args.desc.now) w) (sym c.refuse-in-ClockFull.ensures.last) refused

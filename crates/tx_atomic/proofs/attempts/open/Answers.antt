@@ -1,19 +1,19 @@
 use Rattle.tx_answers.specs.CallerStateLaws.{grows-trans}
-use Rattle.std.proofs.Common.{sym, subst}
+use Rattle.std.proofs.Common.{true, refl, sym, subst}
 use Rattle.std.proofs.lemmas.Result.{err_from_is_err_and}
 use Rattle.std.specs.Prelude.{Some, None}
 use Rattle.stm_tx.specs.Descs.{known, number}
 use Rattle.tx_atomic.specs.AttemptLaws.{same-number}
-use Rattle.tx_atomic.specs.Tries.{Asks, Opens, Tried}
+use Rattle.tx_atomic.specs.Tries.{Asks, Tried}
 use Rattle.tx_atomic.specs.declared.tally.Tally.{Tally}
-use Rattle.tx_atomic.specs.TryLaws.{tried-unbegun, tried-asked, opens-asked, opens-plain}
+use Rattle.tx_atomic.specs.TryLaws.{tried-unbegun, tried-asked, opens-asked}
 use Rattle.tx_atomic.proofs.attempts.open.Goals as goal
 
 pub returns-in_err-promote-clause-grew : goal.returns-in_err-promote-clause-grew
 returns-in_err-promote-clause-grew g c = grows-trans (known c.args.desc.now) (known c.begin.new.desc) (known c.promote.new.desc) c.begin.ensures.grew c.promote.ensures.grew
 
-pub returns-in_ok-promote-clause-grew : goal.returns-in_ok-promote-clause-grew
-returns-in_ok-promote-clause-grew g c = grows-trans (known c.args.desc.now) (known c.begin.new.desc) (known c.promote.new.desc) c.begin.ensures.grew c.promote.ensures.grew
+pub returns-clause-grew : goal.returns-clause-grew
+returns-clause-grew g c = grows-trans (known c.args.desc.now) (known c.begin.new.desc) (known c.promote.new.desc) c.begin.ensures.grew c.promote.ensures.grew
 
 pub returns-in_err-begin-clause-tried : goal.returns-in_err-begin-clause-tried
 returns-in_err-begin-clause-tried g c =
@@ -23,8 +23,8 @@ returns-in_err-begin-clause-tried g c =
     let last = c.begin.new.pace.last in
     let u = known c.args.desc.now in
     let w = known c.begin.new.desc in
-    let tried = tried-unbegun good stm.config n c.args.irrevocable last u w c.args.pace.now.tally c.in_err-begin.ensures.refused in
-    let told = subst (λ (t : Tally). Tried good stm.config n c.args.irrevocable (Some last) u w c.args.pace.now.tally t) (sym c.begin.ensures.uncounted) tried in
+    let tried = tried-unbegun good stm.config n true last u w c.args.pace.now.tally c.in_err-begin.ensures.refused in
+    let told = subst (λ (t : Tally). Tried good stm.config n true (Some last) u w c.args.pace.now.tally t) (sym c.begin.ensures.uncounted) tried in
     let p = err_from_is_err_and c.from_residual.result c.from_residual.ensures.1 in
     rw p.1 told
 
@@ -37,25 +37,17 @@ returns-in_err-promote-clause-tried g c =
     let last = c.promote.new.pace.last in
     let here = subst (λ n. Asks good stm.config n (Some last) v w c.begin.new.pace.tally c.promote.new.pace.tally) (same-number c.args.desc.now c.begin.new.desc c.begin.ensures.same) c.in_err-promote.ensures.asks in
     let asks = subst (λ (t : Tally). Asks good stm.config (number c.args.desc.now) (Some last) v w t c.promote.new.pace.tally) c.begin.ensures.uncounted here in
-    let tried = tried-asked good stm.config (number c.args.desc.now) c.args.irrevocable last (known c.args.desc.now) v w
-    c.args.pace.now.tally c.promote.new.pace.tally c.if-irrevocable.true c.in_ok-begin.ensures.begins asks in
+    let tried = tried-asked good stm.config (number c.args.desc.now) true last (known c.args.desc.now) v w
+    c.args.pace.now.tally c.promote.new.pace.tally refl c.in_ok-begin.ensures.begins asks in
     let p = err_from_is_err_and c.from_residual-in_err-promote.result c.from_residual-in_err-promote.ensures.1 in
     rw p.1 tried
 
-pub returns-in_ok-promote-clause-opens : goal.returns-in_ok-promote-clause-opens
-returns-in_ok-promote-clause-opens g c =
+pub returns-clause-opens : goal.returns-clause-opens
+returns-clause-opens g c =
     let stm = c.args.stm.now in
     let good = g.K.MemRule.good stm.rule in
     let v = known c.begin.new.desc in
     let w = known c.promote.new.desc in
     let here = subst (λ n. Asks good stm.config n None v w c.begin.new.pace.tally c.promote.new.pace.tally) (same-number c.args.desc.now c.begin.new.desc c.begin.ensures.same) c.in_ok-promote.ensures.asks in
     let asks = subst (λ (t : Tally). Asks good stm.config (number c.args.desc.now) None v w t c.promote.new.pace.tally) c.begin.ensures.uncounted here in
-    opens-asked good stm.config (number c.args.desc.now) c.args.irrevocable (known c.args.desc.now) v w c.args.pace.now.tally c.promote.new.pace.tally c.if-irrevocable.true c.in_ok-begin.ensures.begins asks
-
-pub returns-else-irrevocable-clause-opens : goal.returns-else-irrevocable-clause-opens
-returns-else-irrevocable-clause-opens g c =
-    let stm = c.args.stm.now in
-    let good = g.K.MemRule.good stm.rule in
-    let w = known c.begin.new.desc in
-    let opens = opens-plain good stm.config (number c.args.desc.now) c.args.irrevocable (known c.args.desc.now) w c.args.pace.now.tally c.if-irrevocable.false c.in_ok-begin.ensures.begins in
-    subst (λ (t : Tally). Opens good stm.config (number c.args.desc.now) c.args.irrevocable (known c.args.desc.now) w c.args.pace.now.tally t) (sym c.begin.ensures.uncounted) opens
+    opens-asked good stm.config (number c.args.desc.now) true (known c.args.desc.now) v w c.args.pace.now.tally c.promote.new.pace.tally refl c.in_ok-begin.ensures.begins asks

@@ -1,7 +1,8 @@
-use Rattle.std.proofs.Common.{◌≡◌}
+use Rattle.std.proofs.Common.{ℕ, ◌≡◌}
 use Rattle.stm_rule.specs.Callers.{IsSameCaller}
 use Rattle.tx_answers.specs.CallerState.{Grows, IsIdle}
-use Rattle.stm_tx.specs.Descs.{known}
+use Rattle.stm_tx.specs.Descs.{known, number}
+use Rattle.tx_atomic.specs.Switches.{FindsTaken}
 use Rattle.tx_atomic.proofs.switching.close_alone.Given as goal
 
 abbrev pub invariant-loop : goal.invariant-loop
@@ -14,4 +15,5 @@ invariant-loop g l = record {
   made : (known l.desc).made ≡ (known l.fn.desc).made;
   rises : (known l.desc).rises ≡ (known l.fn.desc).rises;
   installs : (known l.desc).installs ≡ (known l.fn.desc).installs;
+  taken : (refused : ℕ) × FindsTaken (g.K.MemRule.good l.fn.stm.rule) l.fn.stm.config (number l.fn.desc) refused (known l.fn.desc) (known l.desc);
 }

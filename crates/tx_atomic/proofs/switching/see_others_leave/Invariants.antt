@@ -1,8 +1,9 @@
-use Rattle.std.proofs.Common.{◌≡◌}
+use Rattle.std.proofs.Common.{ℕ, ◌≡◌, ◌-◌, ◌^◌, min}
 use Rattle.stm_rule.specs.Callers.{IsSameCaller}
 use Rattle.tx_answers.specs.Answers.{HoldsClosed}
 use Rattle.tx_answers.specs.CallerState.{Grows}
-use Rattle.stm_tx.specs.Descs.{known}
+use Rattle.stm_tx.specs.Descs.{known, number}
+use Rattle.tx_atomic.specs.Switches.{FindsInside}
 use Rattle.tx_atomic.proofs.switching.see_others_leave.Given as goal
 
 abbrev pub invariant-loop : goal.invariant-loop
@@ -15,4 +16,6 @@ invariant-loop g l = record {
   made : (known l.desc).made ≡ (known l.fn.desc).made;
   rises : (known l.desc).rises ≡ (known l.fn.desc).rises;
   installs : (known l.desc).installs ≡ (known l.fn.desc).installs;
+  looked : (busy : ℕ) × (l.looks ≡ min busy (2 ^ 64 - 1))
+      × FindsInside (g.K.MemRule.good l.fn.stm.rule) l.fn.stm.config (number l.fn.desc) busy (known l.fn.desc) (known l.desc);
 }

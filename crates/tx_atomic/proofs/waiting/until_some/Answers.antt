@@ -1,9 +1,13 @@
-use Rattle.std.proofs.Common.{ℕ, suc, rules, refl, ◌∙◌, subst}
+use Rattle.std.proofs.Common.{ℕ, suc, rules, refl, ◌∙◌, sym, subst}
+use Rattle.std.proofs.lemmas.Option.{IfSome_then}
 use Rattle.std.specs.Prelude.{Some, None}
 use Rattle.tx_answers.specs.CallerStateLaws.{carries-refl, grows-trans}
 use Rattle.stm_tx.specs.Descs.{known, number}
 use Rattle.tx_atomic.specs.Attempts.{TookEffect}
-use Rattle.tx_atomic.specs.AttemptLaws.{same-number, took-nothing, took-since}
+use Rattle.tx_atomic.specs.AttemptLaws.{same-number, took-nothing, took-since, took-weaker}
+use Rattle.tx_atomic.specs.Callers.{Took}
+use Rattle.tx_atomic.specs.Waits.{HasLooked}
+use Rattle.tx_watching.specs.Watches.{CoverReads}
 use Rattle.tx_atomic.specs.declared.tally.Ended.TheVariants.{ClockFull}
 use Rattle.tx_atomic.specs.Tries.{Ran, HaveRun}
 use Rattle.tx_atomic.specs.TryLaws.{full-earlier, run-more, ran-again}
@@ -21,16 +25,15 @@ loop-preserved g c =
     let stm = c.args.stm.now in
     let v = known c.loop.desc in
     let w = known c.atomically.new.desc in
-    let postcondition = g.T.Transaction.postcondition c.args.transaction.now stm.rule stm.config.words None in
-    let took = subst (λ r.
-    TookEffect (g.K.MemRule.good stm.rule) stm.config (number c.loop.desc)
-    (g.T.Transaction.postcondition c.args.transaction.now stm.rule stm.config.words r) v.front v w) c.in-Some-None.field-0-is
-    c.in-Some-None.ensures.took in
+    let postcondition = g.T.Transaction.postcondition c.args.transaction.now stm.rule stm.config.words in
+    let read = c.in-Some-None-default.read in
+    let took = subst (λ r. TookEffect (g.K.MemRule.good stm.rule) stm.config (number c.loop.desc) (λ log. postcondition r log × CoverReads read log) v.front v w)
+    c.in-Some-None-default.field-0-0-is c.in-Some-None-default.ensures.took in
     let grew = grows-trans (known c.args.desc.now) v w c.loop.invariant.grew c.atomically.ensures.grew in
-    let made = took-nothing (g.K.MemRule.good stm.rule) stm.config (number c.loop.desc) postcondition v.front v w c.requires.waits took ∙ c.loop.invariant.made in
+    let made = took-nothing (g.K.MemRule.good stm.rule) stm.config (number c.loop.desc) (λ log. postcondition None log × CoverReads read log) v.front v w (λ log told. c.requires.waits log told.0) took ∙ c.loop.invariant.made in
     let good = g.K.MemRule.good stm.rule in
     let n = number c.args.desc.now in
-    let ran = subst (λ i. Ran good stm.config i None v w c.loop.pace.tally c.atomically.new.pace.tally) (same-number c.args.desc.now c.loop.desc c.loop.invariant.same) c.in-Some-None.ensures.ran in
+    let ran = subst (λ i. Ran good stm.config i None v w c.loop.pace.tally c.atomically.new.pace.tally) (same-number c.args.desc.now c.loop.desc c.loop.invariant.same) c.in-Some-None-default.ensures.ran in
     let runs : (k : ℕ) × HaveRun good stm.config n k (known c.args.desc.now) w c.args.pace.now.tally c.atomically.new.pace.tally =
     (suc c.loop.invariant.runs.0, run-more good stm.config n c.loop.invariant.runs.0 (known c.args.desc.now) v w c.args.pace.now.tally c.loop.pace.tally c.atomically.new.pace.tally c.loop.invariant.runs.1 ran) in
     search (rules, grew, made, runs)
@@ -44,12 +47,12 @@ returns-in-None-atomically-clause-full g c =
     let found = c.in-None-atomically.ensures.full in
     (found.0, full-earlier found.0 (known c.args.desc.now) (known c.loop.desc) (known c.atomically.new.desc) c.loop.invariant.grew found.1)
 
-pub returns-in-Some-Some-clause-grew : goal.returns-in-Some-Some-clause-grew
-returns-in-Some-Some-clause-grew g c =
+pub returns-in-Some-Some-default-clause-grew : goal.returns-in-Some-Some-default-clause-grew
+returns-in-Some-Some-default-clause-grew g c =
     grows-trans (known c.args.desc.now) (known c.loop.desc) (known c.atomically.new.desc) c.loop.invariant.grew c.atomically.ensures.grew
 
-pub returns-in-Some-Some-clause-took : goal.returns-in-Some-Some-clause-took
-returns-in-Some-Some-clause-took g c =
+pub returns-in-Some-Some-default-clause-took : goal.returns-in-Some-Some-default-clause-took
+returns-in-Some-Some-default-clause-took g c =
     let stm = c.args.stm.now in
     let good = g.K.MemRule.good stm.rule in
     let inv = c.loop.invariant in
@@ -57,9 +60,13 @@ returns-in-Some-Some-clause-took g c =
     let v = known c.loop.desc in
     let w = known c.atomically.new.desc in
     let postcondition = g.T.Transaction.postcondition c.args.transaction.now stm.rule stm.config.words in
-    let took = subst (λ r. TookEffect good stm.config (number c.loop.desc) (postcondition r) v.front v w) c.in-Some-Some.field-0-is c.in-Some-Some.ensures.took in
-    let now = subst (λ n. TookEffect good stm.config n (postcondition (Some c.in-Some-Some.answer)) v.front v w) (same-number c.args.desc.now c.loop.desc inv.same) took in
-    took-since good stm.config (number c.args.desc.now) (postcondition (Some c.in-Some-Some.answer)) v.front u.front u v w inv.made inv.grew inv.grew.front_rose now
+    let answer = Some c.in-Some-Some-default.answer in
+    let read = c.in-Some-Some-default.field-0-1 in
+    let took = subst (λ r. TookEffect good stm.config (number c.loop.desc) (λ log. postcondition r log × CoverReads read log) v.front v w)
+    c.in-Some-Some-default.field-0-0-is c.in-Some-Some-default.ensures.took in
+    let told = took-weaker good stm.config (number c.loop.desc) (λ log. postcondition answer log × CoverReads read log) (postcondition answer) v.front v w (λ log t. t.0) took in
+    let now = subst (λ n. TookEffect good stm.config n (postcondition answer) v.front v w) (same-number c.args.desc.now c.loop.desc inv.same) told in
+    took-since good stm.config (number c.args.desc.now) (postcondition answer) v.front u.front u v w inv.made inv.grew inv.grew.front_rose now
 
 pub returns-in-None-atomically-clause-gave_up : goal.returns-in-None-atomically-clause-gave_up
 returns-in-None-atomically-clause-gave_up g c =
@@ -70,11 +77,24 @@ returns-in-None-atomically-clause-gave_up g c =
     let ran = subst (λ i. Ran good stm.config i (Some ClockFull) v w c.loop.pace.tally c.atomically.new.pace.tally) (same-number c.args.desc.now c.loop.desc c.loop.invariant.same) c.in-None-atomically.ensures.gave_up in
     ran-again good stm.config (number c.args.desc.now) (Some ClockFull) (known c.args.desc.now) v w c.args.pace.now.tally c.loop.pace.tally c.atomically.new.pace.tally c.loop.invariant.runs ran
 
-pub returns-in-Some-Some-clause-ran : goal.returns-in-Some-Some-clause-ran
-returns-in-Some-Some-clause-ran g c =
+pub returns-in-Some-Some-default-clause-ran : goal.returns-in-Some-Some-default-clause-ran
+returns-in-Some-Some-default-clause-ran g c =
     let stm = c.args.stm.now in
     let good = g.K.MemRule.good stm.rule in
     let v = known c.loop.desc in
     let w = known c.atomically.new.desc in
-    let ran = subst (λ i. Ran good stm.config i None v w c.loop.pace.tally c.atomically.new.pace.tally) (same-number c.args.desc.now c.loop.desc c.loop.invariant.same) c.in-Some-Some.ensures.ran in
+    let ran = subst (λ i. Ran good stm.config i None v w c.loop.pace.tally c.atomically.new.pace.tally) (same-number c.args.desc.now c.loop.desc c.loop.invariant.same) c.in-Some-Some-default.ensures.ran in
     ran-again good stm.config (number c.args.desc.now) None (known c.args.desc.now) v w c.args.pace.now.tally c.loop.pace.tally c.atomically.new.pace.tally c.loop.invariant.runs ran
+
+pub rest-requires : goal.rest-requires
+rest-requires g c =
+    let stm = c.args.stm.now in
+    let good = g.K.MemRule.good in
+    let postcondition = g.T.Transaction.postcondition c.args.transaction.now in
+    let read = c.in-Some-None-default.read in
+    let d = c.atomically.new.desc in
+    let looked = subst (λ r. Took good (λ rule words answer log. postcondition rule words answer log × CoverReads read log) stm c.loop.desc r d)
+    c.in-Some-None-default.field-0-0-is c.in-Some-None-default.ensures.took in
+    record {
+      looked = IfSome_then c.announce_late-waiting.result c.announce_late-waiting.ensures (λ w since. subst (λ e. HasLooked good postcondition stm read e d) (sym since) looked);
+    }

@@ -1,6 +1,9 @@
 use Rattle.std.proofs.Common.{ℕ, ◌≡◌, ◌∙◌, length, arith, subst, sym, ap, false, rules, ◌≤◌, refl, []}
 use Rattle.rule_base.specs.declared.seats.SeatView.{SeatView}
 use Rattle.stm_rule.specs.declared.local.Local.{Local}
+use Rattle.stm_rule.specs.Callers.{Handle}
+use Rattle.stm_rule.specs.RecordsKept.{cells_of}
+use Rattle.tx_logs.specs.LogStates.{LogState}
 use Rattle.stm_rule.specs.Attempts.{own_of}
 use Rattle.tx_answers.specs.declared.answers.Commit.TheVariants.{ReadOnly}
 use Rattle.tx_answers.specs.Answers.{Commits, KeepsRule}
@@ -10,6 +13,7 @@ use Rattle.stm_gate.specs.Peeling.{no-items}
 use Rattle.alg_orec.proofs.CommitOpening.{Unpromoted, unpromoted, granted-known}
 use Rattle.alg_orec.proofs.Eager.EagerCommitLaws as laws
 use Rattle.alg_orec.proofs.Eager.EagerProving.{length-none, held-within}
+use Rattle.alg_calls.specs.Buffers.{keeps-buffered}
 use Rattle.alg_orec.proofs.orec_eager.OrecEagerAlgorithm.commit.Goals.{After-desc}
 use Rattle.alg_orec.proofs.orec_eager.OrecEagerAlgorithm.commit.Goals as goal
 
@@ -113,3 +117,11 @@ returns-clause-steps g c =
     let reads = ap (λ (k : CallerState). k.reads_limit) (opens g a).knows in
     let placed = c.commit_placed.ensures.steps in
     omega arith
+
+pub returns-then-desc-clause-buffered : goal.returns-then-desc-clause-buffered
+returns-then-desc-clause-buffered g c = keeps-buffered c.commit_direct.result _ _ c.commit_direct.ensures.buffered
+
+pub returns-clause-buffered : goal.returns-clause-buffered
+returns-clause-buffered g c = keeps-buffered c.commit_placed.result _ _
+    (ap (λ (log : LogState). cells_of log.items) c.commit_placed.ensures.written
+    ∙ ap (λ (d : Handle g.row.K.Denot). d.own.buffered) c.desc.view_is)

@@ -3,13 +3,10 @@ use Rattle.std.specs.Prelude.{None}
 use Rattle.stm_model.specs.Memories.{item_at}
 use Rattle.stm_rule.specs.Attempts.{own_of}
 use Rattle.stm_rule.specs.Callers.{handle_of}
-use Rattle.tx_answers.specs.declared.answers.Read.TheVariants as reads
-use Rattle.tx_answers.specs.Answers.{HasRead}
 use Rattle.tx_answers.specs.CallerState.{CallerState}
 use Rattle.stm_gate.specs.Opening.{is-known}
+use Rattle.alg_orec.proofs.Eager.EagerHolding.{unwritten}
 use Rattle.alg_orec.proofs.Eager.EagerLaws as laws
-use Rattle.alg_orec.proofs.RecordOpening.{place-here}
-use Rattle.alg_orec.proofs.RecordReads as records
 use Rattle.alg_orec.proofs.Eager.EagerOpening.{EagerOpening, opens-eager}
 use Rattle.alg_orec.proofs.orec_eager.OrecEagerAlgorithm.read.Goals.{After-desc}
 use Rattle.alg_orec.proofs.orec_eager.OrecEagerAlgorithm.read.Goals as goal
@@ -20,29 +17,8 @@ opened g c =
     (handle_of c.desc.inside.seat (own_of c.desc.inside.local)) c.desc.view_is c.desc.invariant.0 c.desc.invariant.1 c.requires.stm
     c.requires.running c.requires.algorithm c.requires.unpromoted
 
-pub returns-in-Some-clause-read : goal.returns-in-Some-clause-read
-returns-in-Some-clause-read g c =
-    let o = opened g (goal.at.returns-in-Some-clause-read g c).After-desc in
-    is-known _ _ o.call.opening
-    (λ (n : ℕ) (v : CallerState).
-    HasRead (g.K.MemRule.good c.args.stm.now.rule) c.args.stm.now.config n c.args.a (reads.Value c.in-Some.x) v v)
-    (records.reads-own (laws.reading _ _ _ _ _ o.runs) c.args.a c.in-Some.x (search rules) (search rules))
-
-pub returns-in-Some-at-clause-read : goal.returns-in-Some-at-clause-read
-returns-in-Some-at-clause-read g c =
-    let o = opened g (goal.at.returns-in-Some-at-clause-read g c).After-desc in
-    is-known _ _ o.call.opening
-    (λ (n : ℕ) (v : CallerState).
-    HasRead (g.K.MemRule.good c.args.stm.now.rule) c.args.stm.now.config n c.args.a (reads.Value c.in-Some-at.x) v v)
-    (records.reads-old (laws.reading _ _ _ _ _ o.runs) c.args.a c.in-Some-at.x (search rules) (search rules) (search rules))
-
-pub first_read-requires-clause-unwritten : goal.first_read-requires-clause-unwritten
-first_read-requires-clause-unwritten g c =
-    let o = opened g (goal.at.first_read-requires-clause-unwritten g c).After-desc in
-    let unwritten : item_at c.args.a c.desc.inside.local.writes.items ≡ None = search rules in
-    is-known _ _ o.call.opening (λ (n : ℕ) (v : CallerState). item_at c.args.a v.log.writes ≡ None) (ap (item_at c.args.a) (laws.written-here _ _ _ _ _ o.runs) ∙ unwritten)
-
-pub at-requires : goal.at-requires
-at-requires g c =
-    let o = opened g (goal.at.at-requires g c).After-desc in
-    place-here _ _ o.call c.args.a c.read_place-place.result c.read_place-place.ensures
+pub read_unwritten-requires-clause-unwritten : goal.read_unwritten-requires-clause-unwritten
+read_unwritten-requires-clause-unwritten g c =
+    let o = opened g (goal.at.read_unwritten-requires-clause-unwritten g c).After-desc in
+    is-known _ _ o.call.opening (λ (n : ℕ) (v : CallerState). item_at c.args.a v.log.writes ≡ None)
+    (ap (item_at c.args.a) (laws.written-here _ _ _ _ _ o.runs) ∙ unwritten _ _ _ o.runs.kept (search rules) c.args.a)

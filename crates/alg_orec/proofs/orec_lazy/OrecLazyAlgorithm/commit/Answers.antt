@@ -3,6 +3,9 @@ use Rattle.stm_model.specs.Algorithms.{closes_gate}
 use Rattle.stm_model.specs.declared.alg.Alg.TheVariants.{OrecLazy}
 use Rattle.rule_base.specs.declared.seats.SeatView.{SeatView}
 use Rattle.stm_rule.specs.declared.local.Local.{Local}
+use Rattle.stm_rule.specs.Callers.{Handle}
+use Rattle.stm_rule.specs.RecordsKept.{cells_of}
+use Rattle.tx_logs.specs.LogStates.{LogState}
 use Rattle.stm_rule.specs.Attempts.{IsInside, own_of}
 use Rattle.tx_answers.specs.declared.answers.Commit.TheVariants.{ReadOnly}
 use Rattle.tx_answers.specs.Answers.{Commits, KeepsRule}
@@ -11,6 +14,7 @@ use Rattle.stm_gate.specs.Opening.{Opened, opened, of-view, tells-of}
 use Rattle.alg_orec.proofs.CallLaws as calls
 use Rattle.alg_orec.proofs.CommitOpening as opening
 use Rattle.alg_orec.proofs.Lazy.LazyEndingLaws as laws
+use Rattle.alg_calls.specs.Buffers.{keeps-buffered}
 use Rattle.alg_orec.proofs.orec_lazy.OrecLazyAlgorithm.commit.Goals.{After-desc}
 use Rattle.alg_orec.proofs.orec_lazy.OrecLazyAlgorithm.commit.Goals as goal
 
@@ -79,3 +83,11 @@ returns-clause-commits g c =
     tells-of g.K.MemRule.good c.args.stm.now (opens g (goal.at.returns-clause-commits g c).After-desc)
     (λ (n : ℕ) (v w : CallerState). Commits (g.K.MemRule.good c.args.stm.now.rule) c.args.stm.now.config n
     c.commit_writes.result v w) _ c.commit_writes.ensures.commits
+
+pub returns-then-desc-clause-buffered : goal.returns-then-desc-clause-buffered
+returns-then-desc-clause-buffered g c = keeps-buffered c.direct_commit.result _ _ c.direct_commit.ensures.buffered
+
+pub returns-clause-buffered : goal.returns-clause-buffered
+returns-clause-buffered g c = keeps-buffered c.commit_writes.result _ _
+    (ap (λ (log : LogState). cells_of log.items) c.commit_writes.ensures.written
+    ∙ ap (λ (d : Handle g.row.K.Denot). d.own.buffered) c.desc.view_is)

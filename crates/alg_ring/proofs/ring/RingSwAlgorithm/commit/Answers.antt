@@ -2,6 +2,10 @@ use Rattle.std.proofs.Common.{ℕ, ◌≡◌, subst, sym, ap, refl, false, rules
 use Rattle.rule_base.specs.declared.seats.SeatView.{SeatView}
 use Rattle.stm_rule.specs.declared.local.Local.{Local}
 use Rattle.stm_rule.specs.Attempts.{own_of}
+use Rattle.stm_rule.specs.Callers.{Handle}
+use Rattle.stm_rule.specs.RecordsKept.{cells_of}
+use Rattle.alg_calls.specs.Buffers.{keeps-buffered}
+use Rattle.tx_logs.specs.LogStates.{LogState}
 use Rattle.tx_answers.specs.declared.answers.Commit.TheVariants as commits
 use Rattle.tx_answers.specs.Answers as answers
 use Rattle.tx_answers.specs.CallerState.{CallerState, known_of}
@@ -67,3 +71,8 @@ returns-clause-commits g c =
     (λ (n : ℕ) (v w : CallerState).
     answers.Commits (g.K.MemRule.good c.args.stm.now.rule) c.args.stm.now.config n c.commit_writes.result v w)
     (known_of c.commit_writes.new.seat.me.0.view (own_of c.commit_writes.new.local)) c.commit_writes.ensures.commits.told
+
+pub returns-clause-buffered : goal.returns-clause-buffered
+returns-clause-buffered g c =
+    keeps-buffered c.commit_writes.result _ _
+    (ap (λ (w : LogState). cells_of w.items) c.commit_writes.ensures.buffered ∙ ap (λ (h : Handle g.row.K.Denot). h.own.buffered) c.desc.view_is)

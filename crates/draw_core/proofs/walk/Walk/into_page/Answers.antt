@@ -5,7 +5,7 @@ use Rattle.draw_core.proofs.WalkLaws.{unfit-all, walked-all, walked-by}
 use Rattle.draw_core.proofs.walk.Walk.into_page.Goals as goal
 
 pub returns-in-Some-clause-fault : goal.returns-in-Some-clause-fault
-returns-in-Some-clause-fault c = λ lines w. unfit-all c.args.self.misfit c.in-Some.line c.args.self lines c.in-Some.is w
+returns-in-Some-clause-fault c = λ lines w. unfit-all c.args.self.misfit c.in-Some.unfit c.args.self lines c.in-Some.is w
 
 pub returns-clause-told : goal.returns-clause-told
 returns-clause-told c = λ lines w.

@@ -19,8 +19,9 @@ returns-in_default-clause-is c = λ lines w.
     let read = h.page.read in
     let long = length-line-boxes 1 h.steps in
     let up : now.above ≡ walk.above = ap (λ (x : Walk). x.above) same in
-    let told : c.lines.result ≡ walk.page.lines = c.lines.ensures ∙ ap (λ (x : Walk). x.page.lines) same in
-    walk-stops walk now lines c.args.line (now.above + c.lines.result + 1) (ap (λ (x : Walk). x.workload) same) up h c.in_default.ensures.is (omega (arith, up, told, read, long))
+    let told : now.page.lines ≡ walk.page.lines = ap (λ (x : Walk). x.page.lines) same in
+    let line = c.unfit.ensures.line in
+    walk-stops walk now lines c.args.line c.unfit.result.line (ap (λ (x : Walk). x.workload) same) up h c.in_default.ensures.is (omega (arith, up, told, read, long, line))
 
 pub returns-clause-is : goal.returns-clause-is
 returns-clause-is c =

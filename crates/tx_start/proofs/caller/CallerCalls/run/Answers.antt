@@ -1,11 +1,4 @@
-use Rattle.std.specs.Prelude.{Option, Some, None, IfSome}
-use Rattle.stm_model.specs.declared.config.Config.{Config}
-use Rattle.stm_model.specs.Logs.{Log}
 use Rattle.stm_tx.specs.Descs.{known, number}
-use Rattle.tx_answers.specs.CallerState.{CallerState}
-use Rattle.tx_atomic.specs.Attempts.{TookEffect}
-use Rattle.tx_jobs.specs.Moments.{Took}
-use Rattle.tx_start.specs.Seats.{shown}
 use Rattle.tx_start.specs.SeatLaws.{if-took}
 use Rattle.tx_start.proofs.caller.CallerCalls.run.Goals as goal
 

@@ -1,0 +1,138 @@
+//! Why a line may not come where its caller stands.
+ghost use Rattle.std.specs.Prelude.{◌≡◌, ◌≤◌, length};
+ghost use Rattle.draw_core.specs.Misfits.{misfit_at, misfit_in};
+ghost use Rattle.draw_core.specs.Walks.{AreWithin, stand_of, stands_of};
+
+use crate::cursor::{Cursor, is_over, next_op};
+use crate::label::put_deed;
+use crate::step::Deed;
+use std::alloc::{AllocError, Global};
+use stm_script::op::Op;
+use stm_script::workload::{Item, Version};
+
+/// Where a caller stands whose line may not come.
+#[derive(Clone, Copy, Drop, Debug, PartialEq, Eq)]
+pub enum Misfit {
+    /// Nowhere: the workload has so many callers.
+    NoCaller { callers: usize },
+    /// In no attempt, and a transaction is left.
+    Before,
+    /// In no attempt, and none is left.
+    Over,
+    /// In an attempt, and this is next in its script.
+    Next(Deed),
+    /// In an attempt, and its script is done.
+    Done,
+}
+
+/// A line that may not come.
+#[derive(Clone, Copy, Drop, Debug, PartialEq, Eq)]
+pub struct Unfit {
+    /// Its number in the whole text, from 1.
+    pub line: usize,
+    pub caller: usize,
+    pub misfit: Misfit,
+}
+
+/// Where a caller stands with this cursor.
+fn misfit_at(version: Version, items: &[Item], caller: usize, cursor: Cursor) -> Misfit
+    requires { cursor.item ≤ length items.now }
+    ensures { result ≡ misfit_at version (stand_of items.now caller cursor) }
+{
+    if let Some((op, _)) = next_op(items, caller, cursor) {
+        return Misfit::Next(Deed { op, version });
+    }
+    if cursor.done.is_some() {
+        return Misfit::Done;
+    }
+    if is_over(items, caller, cursor) {
+        return Misfit::Over;
+    }
+    Misfit::Before
+}
+
+/// Where a caller stands among all.
+pub fn misfit_in(version: Version, items: &[Item], cursors: &[Cursor], caller: usize) -> Misfit
+    requires { AreWithin items.now cursors.now }
+    ensures { result ≡ misfit_in version (stands_of items.now 0 cursors.now) caller }
+{
+    if cursors.len() <= caller {
+        return Misfit::NoCaller {
+            callers: cursors.len(),
+        };
+    }
+    misfit_at(version, items, caller, cursors[caller])
+}
+
+impl Unfit {
+    /// Appends why the line may not come.
+    fn put_why(&self, why: &mut String) -> Result<(), AllocError> {
+        let caller = self.caller;
+        match self.misfit {
+            Misfit::NoCaller { callers } => write!(why, "the workload has {callers} callers"),
+            Misfit::Before => {
+                write!(
+                    why,
+                    "caller {caller} is in no attempt, and has a transaction left"
+                )
+            }
+            Misfit::Over => {
+                write!(
+                    why,
+                    "caller {caller} is in no attempt, and has no transaction left"
+                )
+            }
+            Misfit::Next(deed) => {
+                write!(why, "caller {caller} is in an attempt, whose script has")?;
+                put_deed(why, deed)?;
+                why.push_str(" next")
+            }
+            Misfit::Done => {
+                write!(
+                    why,
+                    "caller {caller} is in an attempt, whose script is done"
+                )
+            }
+        }
+    }
+
+    /// Appends what may come.
+    fn put_may(&self, may: &mut String) -> Result<(), AllocError> {
+        let caller = self.caller;
+        match self.misfit {
+            Misfit::NoCaller { callers } => {
+                let last = callers.saturating_sub(1);
+                write!(may, "a line of a caller from 0 to {last}")
+            }
+            Misfit::Before => write!(may, "`{caller} begin ALG`, ALG an algorithm"),
+            Misfit::Over => write!(may, "`{caller} idle`"),
+            Misfit::Next(deed) => {
+                let name = deed.op.name();
+                let came = match deed.op {
+                    Op::Irrev => "granted",
+                    Op::Cancel => "cancelled T",
+                    _ => "REPLY",
+                };
+                write!(may, "`{caller} {name} {came}`, or why it failed")
+            }
+            Misfit::Done => {
+                write!(
+                    may,
+                    "`{caller} commit committed T`, `{caller} commit readonly T`, or why it failed"
+                )
+            }
+        }
+    }
+
+    /// Why the line may not come, and what may.
+    ///
+    /// # Errors
+    /// Memory, where it is refused.
+    pub fn told(&self, alloc: Global) -> Result<(String, String), AllocError> {
+        let mut why = String::new(alloc);
+        self.put_why(&mut why)?;
+        let mut may = String::new(alloc);
+        self.put_may(&mut may)?;
+        Ok((why, may))
+    }
+}

@@ -1,0 +1,6 @@
+use Rattle.std.proofs.Common.{ℕ, ◌<◌, slice_index_or}
+use Rattle.tx_bell.specs.Stripes.{Has}
+use Rattle.stm_tx.proofs.stripes.logged.Given as goal
+
+abbrev pub invariant-loop-i : goal.invariant-loop-i
+invariant-loop-i l = (k : ℕ) → k < l.i → Has (slice_index_or l.reads.items k (0, 0)).0 l.stripes
