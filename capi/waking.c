@@ -62,17 +62,21 @@ WAKING(give_back, (nekchhaul_caller *caller), (caller))
 WAKING(close, (nekchhaul_caller *caller, uint64_t *words, size_t count), (caller, words, count))
 
 /* TURNS. Who has waited behind a lock for a slice of time takes the turn of its memory, and until it has the lock, or for so long at most,
- * no other loop of that memory asks for it. Without that the one whose cache has the words takes the lock again and again. */
-enum { SLICE = 3000000, LONGEST_TURN = 50000000 }; /* nanoseconds */
-static const uint64_t *turn_of; /* the memory of which somebody has the turn */
-static uint64_t turn_until;
+ * no other loop of that memory asks for it. Without that the one whose cache has the words takes the lock again and again. Of so many
+ * memories at once somebody may have the turn. */
+enum { SLICE = 3000000, LONGEST_TURN = 50000000, TURNS = 16 }; /* nanoseconds; memories */
+static struct {
+    uint64_t until; /* 0 where nobody has it. Of two turns no two end at once, so that it also says which it is */
+    const uint64_t *memory;
+} turns[TURNS];
+static uint32_t given; /* how many of them, or are about to be */
 
-/* Of this thread: since when it is behind a lock, as which caller and after how many attempts. */
+/* Of this thread: since when it is behind a lock, as which caller and after how many attempts; and the turn that it took. */
 static __thread struct {
     const void *caller;
-    const uint64_t *memory;
     uint64_t begun, since;
-    int has_turn;
+    uint64_t until;
+    int turn;
 } behind;
 
 __attribute__((visibility("hidden"))) uint32_t nekchhaul_silent_enter(nekchhaul_caller *caller, nekchhaul_pause_of *pause);
@@ -90,9 +94,41 @@ static const uint64_t *memory_of(nekchhaul_caller *caller)
     return nekchhaul_bell(caller, NEKCHHAUL_RUNG, &bell) ? NULL : bell.at;
 }
 
+static void end_turn(int turn, uint64_t until)
+{
+    if (__atomic_compare_exchange_n(&turns[turn].until, &until, 0, 0, __ATOMIC_SEQ_CST, __ATOMIC_SEQ_CST)) __atomic_fetch_sub(&given, 1, __ATOMIC_SEQ_CST);
+}
+
+/* Whether somebody has the turn of this memory. Ends those that have lasted too long, of each. */
+static int is_given(const uint64_t *memory)
+{
+    const uint64_t at = now();
+    int is = 0;
+    for (int turn = 0; turn < TURNS; turn++) {
+        const uint64_t until = __atomic_load_n(&turns[turn].until, __ATOMIC_SEQ_CST);
+        if (until && at >= until) end_turn(turn, until);
+        else if (until && __atomic_load_n(&turns[turn].memory, __ATOMIC_SEQ_CST) == memory) is = 1;
+    }
+    return is;
+}
+
+static void take_turn(const uint64_t *memory, uint64_t until)
+{
+    __atomic_fetch_add(&given, 1, __ATOMIC_SEQ_CST);
+    for (int turn = 0; turn < TURNS; turn++) {
+        uint64_t nobodys = 0;
+        if (!__atomic_compare_exchange_n(&turns[turn].until, &nobodys, until, 0, __ATOMIC_SEQ_CST, __ATOMIC_SEQ_CST)) continue;
+        __atomic_store_n(&turns[turn].memory, memory, __ATOMIC_SEQ_CST);
+        behind.turn = turn;
+        behind.until = until;
+        return;
+    }
+    __atomic_fetch_sub(&given, 1, __ATOMIC_SEQ_CST);
+}
+
 static int has_turn(nekchhaul_caller *caller)
 {
-    return behind.has_turn && behind.caller == caller->at_ && __atomic_load_n(&turn_of, __ATOMIC_SEQ_CST) == behind.memory;
+    return behind.until && behind.caller == caller->at_ && __atomic_load_n(&turns[behind.turn].until, __ATOMIC_SEQ_CST) == behind.until;
 }
 
 /* Behind a lock: takes the turn after a slice. */
@@ -100,35 +136,30 @@ static void wait_for_turn(nekchhaul_caller *caller)
 {
     nekchhaul_cause why;
     nekchhaul_counts_of counts;
-    const uint64_t *nobodys = NULL;
     if (nekchhaul_why(caller, &why) || why.status != NEKCHHAUL_HELD || nekchhaul_counts(caller, &counts)) return;
-    uint64_t at = now();
+    const uint64_t at = now();
     if (behind.caller != caller->at_ || behind.begun != counts.begun) {
         behind.caller = caller->at_;
-        behind.memory = memory_of(caller);
         behind.begun = counts.begun;
         behind.since = at;
-        behind.has_turn = 0;
-    } else if (!has_turn(caller) && at - behind.since > SLICE && __atomic_compare_exchange_n(&turn_of, &nobodys, behind.memory, 0, __ATOMIC_SEQ_CST, __ATOMIC_SEQ_CST)) {
-        __atomic_store_n(&turn_until, at + LONGEST_TURN, __ATOMIC_SEQ_CST);
-        behind.has_turn = 1;
+        behind.until = 0;
+    } else if (!has_turn(caller) && at - behind.since > SLICE) {
+        const uint64_t *memory = memory_of(caller);
+        if (!is_given(memory)) take_turn(memory, at + LONGEST_TURN);
     }
 }
 
-/* While another has the turn. */
+/* While somebody has a turn. */
 __attribute__((noinline, cold)) static uint32_t enter_in_turn(nekchhaul_caller *caller, nekchhaul_pause_of *pause)
 {
     nekchhaul_state_of state;
     const uint64_t *memory = memory_of(caller);
     const int mine = has_turn(caller);
     if (!mine && memory && !nekchhaul_state(caller, &state) && !state.stand)
-        while (__atomic_load_n(&turn_of, __ATOMIC_SEQ_CST) == memory && now() < __atomic_load_n(&turn_until, __ATOMIC_SEQ_CST)) nanosleep(&(struct timespec){ 0, 20000 }, NULL);
+        while (is_given(memory)) nanosleep(&(struct timespec){ 0, 20000 }, NULL);
     uint32_t status = nekchhaul_silent_enter(caller, pause);
     if (mine && status == NEKCHHAUL_PAUSE) pause->times = 64; /* who has it asks often */
-    if (mine ? status != NEKCHHAUL_PAUSE : now() >= __atomic_load_n(&turn_until, __ATOMIC_SEQ_CST)) {
-        if (mine) behind.has_turn = 0;
-        __atomic_compare_exchange_n(&turn_of, &memory, NULL, 0, __ATOMIC_SEQ_CST, __ATOMIC_SEQ_CST);
-    }
+    else if (mine) end_turn(behind.turn, behind.until);
     return status;
 }
 
@@ -140,6 +171,6 @@ __attribute__((noinline, cold)) static uint32_t entered(nekchhaul_caller *caller
 
 uint32_t nekchhaul_enter(nekchhaul_caller *caller, nekchhaul_pause_of *pause)
 {
-    uint32_t status = __builtin_expect(__atomic_load_n(&turn_of, __ATOMIC_RELAXED) != NULL, 0) ? enter_in_turn(caller, pause) : nekchhaul_silent_enter(caller, pause);
+    uint32_t status = __builtin_expect(__atomic_load_n(&given, __ATOMIC_RELAXED) != 0, 0) ? enter_in_turn(caller, pause) : nekchhaul_silent_enter(caller, pause);
     return __builtin_expect(status != NEKCHHAUL_RUN, 0) ? entered(caller, status) : status;
 }

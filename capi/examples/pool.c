@@ -1,12 +1,14 @@
+#define _POSIX_C_SOURCE 200809L
 /* pool [THREADS]: threads that come and go, many more than callers, each with a handle of its own from one table while it works. Some
- * die in the middle of an attempt, with the gate closed or with a range, and who finds them dead puts their handles back. */
+ * die in the middle of an attempt, with the gate closed or with a range, and who finds them dead puts their handles back. And 32 threads
+ * join and part at once, where no handle is ever with two, and none is lost. */
 #include <nekchhaul.h>
 #include <pthread.h>
 #include <stdatomic.h>
 #include <stdio.h>
 #include <stdlib.h>
 
-enum { WORDS = 8, CALLERS = 3, AT_ONCE = 8, COUNTS = 20 };
+enum { WORDS = 8, CALLERS = 3, AT_ONCE = 8, COUNTS = 20, MANY = 32, PLACES = 5, JOINS = 10000 };
 #define IS(call, status) do { uint32_t s_ = (call); if (s_ != (status)) { printf("%s:%d: %s is %u, not %u\n", __FILE__, __LINE__, #call, (unsigned)s_, (unsigned)(status)); exit(1); } } while (0)
 
 static nekchhaul_table table;
@@ -130,9 +132,64 @@ static void under(uint32_t algorithm, unsigned long threads)
     IS(nekchhaul_release(&others[0]), 0);
 }
 
+/* Handles by what they hold, and who has them now. */
+static void *held[PLACES];
+static atomic_int with_somebody[PLACES];
+static pthread_barrier_t together;
+
+/* Which of the shared handles it is. */
+static int which(const nekchhaul_caller *caller)
+{
+    for (int i = 0; i < PLACES; i++)
+        if (caller->at_ == held[i]) return i;
+    printf("a handle that never lay in the table\n");
+    exit(1);
+}
+
+static void *come_and_go(void *nothing)
+{
+    pthread_barrier_wait(&together);
+    for (int i = 0; i < JOINS; i++) {
+        nekchhaul_caller mine = joined();
+        const int place = which(&mine);
+        IS((uint32_t)atomic_exchange(&with_somebody[place], 1), 0); /* with nobody else */
+        IS(nekchhaul_atomically(&mine, count, NULL), 0);
+        atomic_store(&with_somebody[place], 0);
+        IS(nekchhaul_part(&table, &mine), 0);
+        IS((uint32_t)mine.tag_, 0);
+    }
+    return nothing;
+}
+
+static void many_at_once(void)
+{
+    nekchhaul_sizes sizes = nekchhaul_sizes_of(WORDS);
+    nekchhaul_caller callers[PLACES + 1] = { NEKCHHAUL_NO_CALLER_INIT }, mine[PLACES] = { NEKCHHAUL_NO_CALLER_INIT };
+    pthread_t running[MANY];
+    IS(nekchhaul_open(&sizes, NEKCHHAUL_OREC_LAZY, callers, PLACES + 1), 0);
+    for (int i = 0; i < PLACES; i++) held[i] = callers[i].at_;
+    IS(nekchhaul_share(&table, callers, PLACES), 0);
+    IS(nekchhaul_part(&table, &callers[PLACES]), NEKCHHAUL_ROOM); /* which never lay there */
+    pthread_barrier_init(&together, NULL, MANY);
+    for (int i = 0; i < MANY; i++)
+        if (pthread_create(&running[i], NULL, come_and_go, NULL)) abort();
+    for (int i = 0; i < MANY; i++) pthread_join(running[i], NULL);
+    pthread_barrier_destroy(&together);
+    for (int i = 0; i < PLACES; i++) { /* each is back, once */
+        IS(nekchhaul_join(&table, &mine[i]), 0);
+        IS((uint32_t)atomic_exchange(&with_somebody[which(&mine[i])], 1), 0);
+    }
+    IS(nekchhaul_join(&table, &left[0]), NEKCHHAUL_NONE_FREE);
+    IS(word(&mine[0], 0) == (uint64_t)MANY * JOINS, 1);
+    for (int i = 0; i < PLACES; i++) IS(nekchhaul_release(&callers[i]), NEKCHHAUL_NO_CALLER); /* they were moved */
+    IS(nekchhaul_release(&callers[PLACES]), 0);
+    for (int i = 0; i < PLACES; i++) IS(nekchhaul_release(&mine[i]), 0); /* or from the thread that joined */
+}
+
 int main(int argc, char **argv)
 {
     unsigned long threads = argc > 1 ? strtoul(argv[1], NULL, 10) / AT_ONCE * AT_ONCE : 200;
     for (uint32_t algorithm = 0; algorithm < 6; algorithm++) under(algorithm, threads);
+    many_at_once();
     return 0;
 }

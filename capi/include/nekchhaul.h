@@ -8,8 +8,8 @@
  * ANSWERS. Every call returns, whatever was called before, and answers a nekchhaul_status. 0 is done. 1 to 15 say what
  * came in the way of the transaction. 16 and up, but for what loops answer, say that the call didn't fit, or that no memory
  * was opened: then nothing has changed. A value behind a pointer is written only where the answer is 0 (nekchhaul_read_many,
- * nekchhaul_write_many and the loop's calls say more). No call waits, but for those that are C. nekchhaul_open, nekchhaul_reserve and nekchhaul_enter
- * alone take memory.
+ * nekchhaul_write_many and the loop's calls say more). No call waits, but for those that are C, and nekchhaul_enter in another's
+ * turn. nekchhaul_open, nekchhaul_reserve and nekchhaul_enter alone take memory.
  *
  * OWNERSHIP. The two words of a handle are the caller's storage, and the library alone reads and writes them. A handle
  * that is all zero is no caller, and every call on it answers NEKCHHAUL_NO_CALLER, whatever else doesn't fit. A handle is
@@ -25,6 +25,11 @@
  * wrappers, the C compiler and the linker. What the C side owes, since nothing can check it, is in docs/C.md: the
  * pointers are not null and lead to objects of their own, no copy of a handle is used, no handle is used by two threads
  * at once, and no call is made from a signal handler or in the child of a fork.
+ *
+ * VERSIONS. This is 2.1. Beyond 2.0 it has nekchhaul_peek; nekchhaul_share, nekchhaul_join, nekchhaul_part,
+ * nekchhaul_part_for_dead and NONE_FREE; nekchhaul_wait, nekchhaul_wake and what they are made of: nekchhaul_announce,
+ * nekchhaul_ring, nekchhaul_bell and nekchhaul_sleep. In 2.0 nekchhaul_enter, nekchhaul_leave and nekchhaul_pause had a number
+ * in place of a nekchhaul_pause_of: who calls them is compiled anew.
  */
 #ifndef NEKCHHAUL_H
 #define NEKCHHAUL_H
@@ -34,7 +39,7 @@
 #include <stdint.h>
 
 #define NEKCHHAUL_VERSION_MAJOR 2
-#define NEKCHHAUL_VERSION_MINOR 0
+#define NEKCHHAUL_VERSION_MINOR 1
 
 #ifdef __cplusplus
 extern "C" {
@@ -193,7 +198,8 @@ uint32_t nekchhaul_version(void);
  * install, which nobody is who hasn't a handle yet: then the memory is open, under CGL, and each handle holds its caller. */
 NEKCHHAUL_CALL uint32_t nekchhaul_open(const nekchhaul_sizes *sizes, uint32_t algorithm, nekchhaul_caller *callers, size_t count);
 
-/* Begins an attempt. GATE_CLOSED, HELD, CLOCK_FULL; IN_ATTEMPT, CLOSING. */
+/* Begins an attempt. GATE_CLOSED, HELD, CLOCK_FULL; IN_ATTEMPT, CLOSING. Behind a lock it gets no turn, as nekchhaul_enter does, and
+ * asks for the lock in the turns of others. */
 NEKCHHAUL_CALL uint32_t nekchhaul_begin(nekchhaul_caller *caller);
 
 /* Begins an attempt, as nekchhaul_begin, and says under which algorithm: `under` is its number, and NEKCHHAUL_BESIDE more where
@@ -206,8 +212,8 @@ NEKCHHAUL_CALL uint32_t nekchhaul_begin_under(nekchhaul_caller *caller, uint32_t
 NEKCHHAUL_CALL uint32_t nekchhaul_read(nekchhaul_caller *caller, size_t address, uint64_t *value);
 
 /* One word outside attempts: what an attempt of this one read finds at its moment, which is none before anything that the
- * caller has seen. CONFLICT, GATE_CLOSED, HELD, CLOCK_FULL; IN_ATTEMPT, ADDRESS, CLOSING; FENCED. Such a read is counted by
- * nekchhaul_counts only where it is refused. */
+ * caller has seen. CONFLICT, GATE_CLOSED, HELD, CLOCK_FULL; IN_ATTEMPT, ADDRESS, CLOSING; FENCED. nekchhaul_counts counts it as
+ * such an attempt. */
 NEKCHHAUL_CALL uint32_t nekchhaul_peek(nekchhaul_caller *caller, size_t address, uint64_t *value);
 
 /* Reads the words at `count` addresses, in turn, into the first places of `values`, of which there are `places`: one
@@ -245,7 +251,8 @@ NEKCHHAUL_CALL uint32_t nekchhaul_become_irrevocable(nekchhaul_caller *caller);
 /* Begins an attempt for a body. RUN: run it, and call nekchhaul_leave. PAUSE: another is in the way; nekchhaul_pause(pause), and
  * enter again. 0: the commit that nekchhaul_leave put off is done. Any other answer ends the loop, with nothing left:
  * CLOCK_FULL; MEMORY where a full log couldn't be made longer; IN_ATTEMPT, CLOSING. Who has waited behind a lock for three
- * milliseconds goes before those who enter later. */
+ * milliseconds has its memory's turn, for 50 at most: meanwhile the calls of others that enter sleep. nekchhaul_begin and
+ * nekchhaul_peek have no part in that. */
 NEKCHHAUL_CALL uint32_t nekchhaul_enter(nekchhaul_caller *caller, nekchhaul_pause_of *pause);
 
 /* Ends that attempt by `how`, which is what the body answered: 0, the status of a call, RETRY, or NEKCHHAUL_STOP + n. 0: it took
@@ -472,7 +479,8 @@ NEKCHHAUL_INLINE uint32_t nekchhaul_join(nekchhaul_table *table, nekchhaul_calle
 }
 
 /* Puts it back; `caller` holds none then, so that who parts twice is told NO_CALLER. Else it stays where it is: IN_ATTEMPT, CLOSING,
- * HOLDS_RANGE, and STRANGER where the table is of another memory. */
+ * HOLDS_RANGE, STRANGER where the table is of another memory, and ROOM where all its places are full: a handle that never lay there
+ * was put into one. */
 NEKCHHAUL_INLINE uint32_t nekchhaul_part(nekchhaul_table *table, nekchhaul_caller *caller)
 {
     const uint64_t *memory;
@@ -482,7 +490,7 @@ NEKCHHAUL_INLINE uint32_t nekchhaul_part(nekchhaul_table *table, nekchhaul_calle
     if (s != NEKCHHAUL_OK) return s;
     while (__atomic_exchange_n(&table->lock_, 1, __ATOMIC_ACQUIRE)) sched_yield();
     if (table->free_ < table->places_) table->callers_[table->free_++] = nekchhaul_move(caller);
-    else s = NEKCHHAUL_ROOM; /* never: it came out of a place */
+    else s = NEKCHHAUL_ROOM;
     __atomic_store_n(&table->lock_, 0, __ATOMIC_RELEASE);
     return s;
 }

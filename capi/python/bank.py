@@ -88,6 +88,9 @@ def words():
         assert is_refused("ADDRESS", caller.atomically, lambda t, a=address: t.write(a, 1))
         assert is_refused("ADDRESS", caller.atomically, lambda t, a=address: t.read_many([0, a]))
         assert is_refused("ADDRESS", caller.take_range, address, 1)
+    assert is_refused("DEPTH", caller.atomically, lambda t: (t.checkpoint(), t.roll_to((1 << 64) + 1)))
+    assert is_refused("LOGS", caller.reserve, (1 << 64) + 8, 8)
+    assert is_refused("ALGORITHM", caller.install, 1 << 32) and is_refused("ALGORITHM", nekchhaul.open, 1, 1 << 32)
     caller.atomically(lambda t: t.write(1, (1 << 64) - 1))
     assert caller.close(2) == [0, (1 << 64) - 1]
 
@@ -106,6 +109,9 @@ def hooks():
     assert is_refused("IRREVOCABLE", run, lambda t: (t.become_irrevocable(), 1 // 0))
     assert told == ["run", "committed", "run", "aborted", "run", "aborted", "run", "committed", "run", "aborted", "run", "committed"]
     assert caller.atomically(lambda t: is_refused("IN_ATTEMPT", run, lambda inner: None))
+    # one that raises leaves nothing open
+    assert is_raised(ZeroDivisionError, caller.atomically_with, lambda t: t.write(0, 9) or t.retry(), lambda: None, lambda: 1 // 0)
+    assert caller.state().stand == 0 and caller.peek(0) == 1
 
 
 def parts():

@@ -134,6 +134,11 @@ def _address(number):
     return _addresses([number])[0]
 
 
+def _algorithm(number):
+    """One that is no number of 32 bits is refused as ALGORITHM."""
+    return min(_address(number), (1 << 32) - 1)
+
+
 class Attempt:
     """A running attempt."""
 
@@ -170,10 +175,10 @@ class Attempt:
         return depth.value
 
     def roll_to(self, depth):
-        self._ask(_lib.nekchhaul_roll_to(self._handle, depth))
+        self._ask(_lib.nekchhaul_roll_to(self._handle, _address(depth)))
 
     def drop_marks(self, depth):
-        self._ask(_lib.nekchhaul_drop_marks(self._handle, depth))
+        self._ask(_lib.nekchhaul_drop_marks(self._handle, _address(depth)))
 
     def become_irrevocable(self):
         """Waits for the attempts of others; from then on this one can only be committed."""
@@ -271,7 +276,7 @@ class Caller:
                 return (self._running or Begun(self._handle)).nested(body)
             if status == RUN:
                 if ran:
-                    aborted()
+                    self._tell(aborted, pause)
                 ran = True
                 how, answer, raised = self._run_once(body)
                 status = _lib.nekchhaul_leave(self._handle, how, byref(pause))
@@ -285,6 +290,14 @@ class Caller:
         if raised and status != IRREVOCABLE:
             raise raised
         raise Error(status) from raised
+
+    def _tell(self, aborted, pause):
+        """Calls the hook, and leaves nothing open where it raises."""
+        try:
+            aborted()
+        except BaseException:
+            _lib.nekchhaul_leave(self._handle, STOP, byref(pause))
+            raise
 
     def _run_once(self, body):
         """What the loop is told of the body, what that answered, and what it raised."""
@@ -322,13 +335,13 @@ class Caller:
 
     def install(self, algorithm, tries=0):
         """Waits for the attempts of others, as the other calls that must be alone do, or makes so many tries."""
-        _ask(_lib.nekchhaul_install_within(self._handle, algorithm, tries))
+        _ask(_lib.nekchhaul_install_within(self._handle, _algorithm(algorithm), _word(tries)))
 
     def take_range(self, first, count, tries=0):
-        _ask(_lib.nekchhaul_take_range_within(self._handle, _address(first), _address(count), tries))
+        _ask(_lib.nekchhaul_take_range_within(self._handle, _address(first), _address(count), _word(tries)))
 
     def return_range(self, tries=0):
-        _ask(_lib.nekchhaul_return_range_within(self._handle, tries))
+        _ask(_lib.nekchhaul_return_range_within(self._handle, _word(tries)))
 
     def direct_read(self, address):
         value = c_uint64()
@@ -341,11 +354,11 @@ class Caller:
     def close(self, words, tries=0):
         """The memory after all that was committed, of so many words; nothing is run from then on."""
         out = (c_uint64 * words)()
-        _ask(_lib.nekchhaul_end_within(self._handle, out, words, tries))
+        _ask(_lib.nekchhaul_end_within(self._handle, out, words, _word(tries)))
         return list(out)
 
     def reserve(self, reads, writes):
-        _ask(_lib.nekchhaul_reserve(self._handle, reads, writes))
+        _ask(_lib.nekchhaul_reserve(self._handle, _address(reads), _address(writes)))
 
     def learn(self, other):
         """Takes in what another caller of the same memory has seen."""
@@ -413,7 +426,7 @@ def open(words, algorithm=Algorithm.OREC_LAZY, callers=1):  # pylint: disable=re
     """A memory of so many zeros, by its callers. `words` may be Sizes."""
     sizes = words if isinstance(words, Sizes) else _lib.nekchhaul_sizes_of(_word(words))
     handles = (_Handle * callers)()
-    status = _lib.nekchhaul_open(byref(sizes), algorithm, handles, callers)
+    status = _lib.nekchhaul_open(byref(sizes), _algorithm(algorithm), handles, callers)
     # made first, so that what a BUSY has opened goes with them
     made = [Caller(handles, ctypes.pointer(handle)) for handle in handles]
     _ask(status)

@@ -191,7 +191,7 @@ fn many_writes_in_one_call() {
         begun.commit().unwrap();
         assert_eq!(words(&mut c), [7, 0, 0, 3]);
     }
-    assert_eq!(nekchhaul::version().0, 131_072);
+    assert_eq!(nekchhaul::version().0, 131_073);
 }
 
 #[test]

@@ -132,7 +132,7 @@ module _ {good : List ℕ → Type 0} {c : Config} {n : ℕ} {l : Local} {v : Vi
 
   -- READ, of what was written or read before
   stays : {asked : Asked} → GoesOn c asked (known_of v o) (known_of v o)
-  stays = goes-inner v v o i.phase (record { history = refl; gate = refl; lock = refl; writer = refl; fence = refl; start = refl; rises = refl; base = refl; installs = refl; step_trace = ([], refl) })
+  stays = goes-inner v v o i.phase (λ e. ([], refl, tt)) (record { history = refl; gate = refl; lock = refl; writer = refl; fence = refl; start = refl; rises = refl; base = refl; installs = refl; step_trace = ([], refl) })
 
   -- the log of reads after a read of x, by what was written and read there
   abbrev logged : ℕ → ℕ → List (ℕ × ℕ) → Option ℕ → Option ℕ → Type 0

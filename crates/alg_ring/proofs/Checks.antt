@@ -121,7 +121,7 @@ module _ (good : List ℕ → Type 0) (c : Config) (start : ℕ) (filter : List 
         inside = has.inside;
         settled = refl;
         watched = refl;
-        moves = inl (sym start_is);
+        moves = inl (sym start_is, ((λ e. ap Some (same ∙ sym start_is)), tt));
         sole = λ one. sym start_is;
       }
 

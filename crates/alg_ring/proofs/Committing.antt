@@ -6,7 +6,7 @@ use Rattle.stm_model.specs.Algorithms.{asks_at_commit}
 use Rattle.stm_model.specs.declared.alg.Alg.{Alg}
 use Rattle.stm_model.specs.declared.alg.Alg.TheVariants.{RingSw}
 use Rattle.stm_model.specs.declared.config.Config.{Config}
-use Rattle.rule_base.specs.declared.layout.At.TheVariants.{Lock}
+use Rattle.rule_base.specs.declared.layout.At.TheVariants.{Clock, Lock}
 use Rattle.rule_base.specs.declared.views.Act.TheVariants.{Exchange}
 use Rattle.rule_base.specs.declared.views.TracedStep.{TracedStep}
 use Rattle.rule_base.specs.declared.views.View.{View}
@@ -137,7 +137,7 @@ module _ (good : List ℕ → Type 0) (c : Config) (n : ℕ) (l : Local) (v : Vi
             depth = refl;
             locked = inl refl;
           };
-          start = subst (λ (b : Alg). StartMoves c ToCommit b (known_of v (own_of l)) (known_of again_at (own_of in_commit))) (sym a.named) (inl refl);
+          start = subst (λ (b : Alg). StartMoves c ToCommit b (known_of v (own_of l)) (known_of again_at (own_of in_commit))) (sym a.named) (inl (refl, (tried n found ∷ [], refl, ((λ e. absurd (let no : Lock ≡ Clock = e in cc)), tt))));
           granted = refl;
           holds = refl;
           checked = refl;

@@ -45,6 +45,7 @@ use Rattle.alg_ring.proofs.Ending.{revocable, may-leave}
 use Rattle.alg_ring.proofs.FilterWords.{filter-put, slot-more}
 use Rattle.alg_ring.proofs.Refuting.{FindsAll, finds-between, refuted}
 use Rattle.alg_ring.proofs.Seen.{upto-upto}
+use Rattle.alg_ring.proofs.Words.{clocks-append}
 
 module _ (good : List ℕ → Type 0) (c : Config) (n a : ℕ) (l : Local) (v : View) (i : IsInside good c n l v) (named : v.gate.algorithm ≡ RingSw) (plain : l.granted ≡ false) (k : IsRing c l v) where
   -- what was written lies with the descriptor
@@ -150,7 +151,14 @@ module _ (good : List ℕ → Type 0) (c : Config) (n a : ℕ) (l : Local) (v : 
         }
 
         start-moves : StartMoves c (ForWord a) RingSw (known_of v o) (known_of after o)
-        start-moves = ⊎_elim (λ e. inl e) (λ q. inr (q.0, q.1, found Clock q.0 q.2, found Done q.1 q.3, q.4)) p.moves
+        start-moves = ⊎_elim (λ e. inl (
+          e.0,
+          (
+            p.more ++ item ∷ [],
+            sym (append_assoc p.more (item ∷ []) v.steps.step_trace),
+            clocks-append v.attempt.start p.more (item ∷ []) e.1 ((λ h. absurd (let no : Heap a ≡ Clock = h in cc)), tt),
+          ),
+        )) (λ q. inr (q.0, q.1, found Clock q.0 q.2, found Done q.1 q.3, q.4)) p.moves
           where
             found : FindsAll p.more (known_of v o) (known_of after o)
             found = finds-between (known_of v o) (known_of after o) [] p.more (item ∷ []) refl

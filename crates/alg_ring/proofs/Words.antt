@@ -8,6 +8,7 @@ use Rattle.rule_base.specs.declared.layout.At.{At}
 use Rattle.rule_base.specs.declared.views.SlotWord.{SlotWord}
 use Rattle.rule_base.specs.declared.views.TracedStep.{TracedStep}
 use Rattle.rule_ring.specs.Slots.{has_word, loaded_word}
+use Rattle.tx_answers.specs.Evidence.{ClocksAre}
 use Rattle.tx_answers.specs.SlotEvidence.{InStepTrace}
 
 pub has-append : (xs ys : List SlotWord) (e i : ℕ) → has_word (xs ++ ys) e i ≡ (if has_word xs e i then true else has_word ys e i)
@@ -97,3 +98,7 @@ step_trace-right more xs place n f = (f.0, Contains-append_right more xs (record
 
 pub step_trace-left : (xs more : List TracedStep) (place : At) (n : ℕ) → InStepTrace xs place n → InStepTrace (xs ++ more) place n
 step_trace-left xs more place n f = (f.0, Contains-append_left xs more (record { place = place; act = f.0; found = Some n }) f.1)
+
+pub clocks-append : (n : ℕ) (is js : List TracedStep) → ClocksAre n is → ClocksAre n js → ClocksAre n (is ++ js)
+clocks-append n [] js a b = b
+clocks-append n (i ∷ is) js a b = (a.0, clocks-append n is js a.1 b)

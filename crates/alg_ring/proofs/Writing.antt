@@ -62,7 +62,7 @@ module _ (good : List ℕ → Type 0) (c : Config) (n a : ℕ) (l : Local) (v : 
 
   pub reads-own : (x : ℕ) → item_at a l.writes.items ≡ Some x → x < 2 ^ 64 → HasRead good c n a (reads.Value x) (known_of v o) (known_of v o)
   reads-own x own small = (
-    goes-inner v v o i.phase (record { history = refl; gate = refl; lock = refl; writer = refl; fence = refl; start = refl; rises = refl; base = refl; installs = refl; step_trace = ([], refl) }),
+    goes-inner v v o i.phase (λ e. ([], refl, tt)) (record { history = refl; gate = refl; lock = refl; writer = refl; fence = refl; start = refl; rises = refl; base = refl; installs = refl; step_trace = ([], refl) }),
     quiet,
     (
       refl,
@@ -105,7 +105,7 @@ module _ (good : List ℕ → Type 0) (c : Config) (n a : ℕ) (l : Local) (v : 
               depth = refl;
               locked = inl refl;
             };
-        start = subst (λ (b : Alg). StartMoves c (ForWord a) b (known_of v o) (known_of v (own_of m))) (sym named) (inl refl);
+        start = subst (λ (b : Alg). StartMoves c (ForWord a) b (known_of v o) (known_of v (own_of m))) (sym named) (inl (refl, ([], refl, tt)));
         granted = refl;
         holds = refl;
         checked = refl;

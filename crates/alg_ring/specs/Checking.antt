@@ -22,6 +22,7 @@ use Rattle.rule_ring.specs.SlotFilter.{slot_filter}
 use Rattle.rule_ring.specs.Slots.{slot_place, has_word, loaded_word}
 use Rattle.steps_ring.specs.RingFindings.{FindsLook}
 use Rattle.tx_logs.specs.Filters.{meets, lowest_common}
+use Rattle.tx_answers.specs.Evidence.{ClocksAre}
 use Rattle.tx_answers.specs.SlotEvidence.{InStepTrace, FirstMet, clock_load}
 
 -- the filter has the addresses of these cells
@@ -167,7 +168,7 @@ module _ (good : List ℕ → Type 0) (c : Config) where
     pub inside : read.inside ≡ true
     pub settled : read.loaded ≡ false
     pub watched : read.watched ≡ v.ring_read.watched
-    pub moves : (start ≡ v.attempt.start) ⊎ ((clock done : ℕ) × InStepTrace more Clock clock × InStepTrace more Done done × (start ≡ max v.attempt.start (min done clock)))
+    pub moves : ((start ≡ v.attempt.start) × ClocksAre v.attempt.start more) ⊎ ((clock done : ℕ) × InStepTrace more Clock clock × InStepTrace more Done done × (start ≡ max v.attempt.start (min done clock)))
     -- with one caller alone it is where it was
     pub sole : c.callers ≡ 1 → start ≡ v.attempt.start
 

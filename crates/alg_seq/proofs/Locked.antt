@@ -117,8 +117,8 @@ pub record IsLogged (v w : View) : Type 0 where
 pub logged-refl : (v : View) → IsLogged v v
 logged-refl v = record { history = refl; gate = refl; irrevocable = refl; taken = refl; writer = refl; fence = refl; start = refl; rises = refl; base = refl; installs = refl; step_trace = ([], refl) }
 
-pub goes-on : {c : Config} {asked : Asked} → (v w : View) (o : Own) → v.gate.phase ≡ In → IsLogged v w → GoesOn c asked (known_of v o) (known_of w o)
-goes-on {c} {asked} v w o inside i = record {
+pub goes-on : {c : Config} {asked : Asked} → (v w : View) (o : Own) → v.gate.phase ≡ In → takes_lock v.gate.algorithm ≡ true → IsLogged v w → GoesOn c asked (known_of v o) (known_of w o)
+goes-on {c} {asked} v w o inside locks i = record {
   continues = record {
     running = ap (λ (g : GateView). is_in g.phase) i.gate ∙ ap is_in inside;
     closing = ap (λ (g : GateView). is_closing g.phase) i.gate ∙ ap is_closing inside;
@@ -135,7 +135,7 @@ goes-on {c} {asked} v w o inside i = record {
     depth = refl;
     locked = inl (λ k. locked_under (i.gate k).algorithm (i.taken k) (i.writer k));
   };
-  start = start-stays c asked v.gate.algorithm (known_of v o) (known_of w o) i.start;
+  start = start-stays c asked v.gate.algorithm (known_of v o) (known_of w o) (λ e. absurd (let no : true ≡ false = sym locks ∙ ap takes_lock e in cc)) i.start;
   granted = ap (λ (g : GateView). granted_under g.algorithm g w.lock) i.gate ∙ granted-same v.gate.algorithm v.gate v.lock w.lock i.irrevocable;
   holds = ap (λ (g : GateView). g.holds) i.gate;
   checked = ap (λ (g : GateView). g.checked) i.gate;
@@ -155,7 +155,7 @@ module _ (good : List ℕ → Type 0) (c : Config) (n : ℕ) where
   pub tells-read : (a x : ℕ) (l : Local) (v w : View) (o : Own) → a < c.words → IsInside good c n l v → takes_lock v.gate.algorithm ≡ true → o.committing ≡ false → Tells (load_heap a) (Loads rule c a) v x w
       → HasRead good c n a (Value x) (known_of v o) (known_of w o)
   tells-read a x l v w o low i locks settled t = subst (λ (u : View). HasRead good c n a (Value x) (known_of v o) (known_of u o)) (sym t.2) (
-    goes-on v u o i.phase
+    goes-on v u o i.phase locks
         (record {
           history = refl;
           gate = refl;
@@ -193,7 +193,7 @@ module _ (good : List ℕ → Type 0) (c : Config) (n : ℕ) where
       → IsLogged v w → w.attempt ≡ v.attempt → ((u : View) → u.history ≡ v.history → u.attempt.start ≡ v.attempt.start → u.attempt.reads ≡ v.attempt.reads → answers.IsOpaque good c n (known_of u o))
       → HasWritten good c n a x Done (known_of v o) (known_of (view_after (store_heap a x) m w x) o)
   tells-store a x v w o m inside locks settled room kept i same opaque = (
-    goes-on v u o inside
+    goes-on v u o inside locks
         (record {
           history = i.history;
           gate = i.gate;

@@ -4,7 +4,7 @@ use Rattle.std.proofs.lemmas.Bool.Decides.{nat_tests}
 use Rattle.std.specs.Prelude.{◌==◌, ◌%◌, ◌^◌, ltb, if◌then◌else◌, not, ◌&&◌, ◌||◌, Some, None}
 use Rattle.stm_model.specs.Algorithms.{entry_rise, irrevocable_under, has_read_log, has_records, logs_writes, closes_gate, asks_at_write, asks_at_commit, asks_at_grant}
 use Rattle.stm_model.specs.declared.alg.Alg.{Alg}
-use Rattle.stm_model.specs.declared.alg.Alg.TheVariants.{Tml}
+use Rattle.stm_model.specs.declared.alg.Alg.TheVariants.{Tml, RingSw}
 use Rattle.stm_model.specs.declared.config.Config.{Config}
 use Rattle.stm_model.specs.declared.config.TheConstants.{CLOCK_LIMIT}
 use Rattle.stm_model.specs.declared.stop.Cause.TheVariants as causes
@@ -77,6 +77,9 @@ module _ (good : List ℕ → Type 0) (c : Config) (n : ℕ) where
     pub has-tml : HasTml v
     has-tml = record { runs = record { phase = i.phase; algorithm = tml; plain = k.ungranted }; inside = k.inside }
 
+    never-ring : {P : Type 0} → v.gate.algorithm ≡ RingSw → P
+    never-ring e = absurd (let no : Tml ≡ RingSw = sym tml ∙ e in cc)
+
     -- what was written lies in the heap, and no log can be full
     written-here : (y : View) → written_under v.gate.algorithm v.gate.granted y o ≡ items y.attempt.stores
     written-here y = ap (λ (a : Alg). written_under a v.gate.granted y o) tml
@@ -119,7 +122,7 @@ module _ (good : List ℕ → Type 0) (c : Config) (n : ℕ) where
     -- a writer reads in place
     pub tells-in_place : (a x : ℕ) (w : View) → x < 2 ^ 64 → a < c.words → l.wrote ≡ true → Tells (tml_load a) (TmlLoads rule c a) v x w → HasRead good c n a (reads.Value x) (known_of v o) (known_of w o)
     tells-in_place a x w small low dirty t = subst (λ (u : View). HasRead good c n a (reads.Value x) (known_of v o) (known_of u o)) (sym (load_path a x w true dirty t)) (
-      goes-inner v u o i.phase (record { history = refl; gate = refl; lock = refl; writer = refl; fence = refl; start = refl; rises = refl; base = refl; installs = refl; step_trace = (_ ∷ [], refl) }),
+      goes-inner v u o i.phase never-ring (record { history = refl; gate = refl; lock = refl; writer = refl; fence = refl; start = refl; rises = refl; base = refl; installs = refl; step_trace = (_ ∷ [], refl) }),
       quiet,
       reads-here a x (logged v.attempt a x) u refl refl refl (t.1.value writes),
       small,
@@ -191,7 +194,7 @@ module _ (good : List ℕ → Type 0) (c : Config) (n : ℕ) where
     pub tells-read : (a x clock : ℕ) (s w : View) → x < 2 ^ 64 → a < c.words → l.wrote ≡ false → clock ≡ l.start → Tells (tml_load a) (TmlLoads rule c a) v x s → Tells tml_again (FindsAgain rule c) s clock w
         → HasRead good c n a (reads.Value x) (known_of v o) (known_of w o)
     tells-read a x clock s w small low clean same t r = subst (λ (y : View). HasRead good c n a (reads.Value x) (known_of v o) (known_of y o)) (sym (again_path a x clock s w true here clean t r)) (
-      goes-inner v u o i.phase (record { history = refl; gate = refl; lock = refl; writer = refl; fence = refl; start = refl; rises = refl; base = refl; installs = refl; step_trace = (_ ∷ _ ∷ [], refl) }),
+      goes-inner v u o i.phase never-ring (record { history = refl; gate = refl; lock = refl; writer = refl; fence = refl; start = refl; rises = refl; base = refl; installs = refl; step_trace = (_ ∷ _ ∷ [], refl) }),
       quiet,
       reads-here a x (record { at = a; value = x } ∷ v.attempt.reads) u refl refl
           (ap (λ (cs : List Cell). if touches cs a then v.attempt.reads else record { at = a; value = x } ∷ v.attempt.reads) none)
@@ -470,7 +473,7 @@ module _ (good : List ℕ → Type 0) (c : Config) (n : ℕ) where
           depth = refl;
           locked = inr (tml, locked-now y refl);
         };
-        start = start-stays c (ForWord a) v.gate.algorithm (known_of v o) (known_of y o) refl;
+        start = start-stays c (ForWord a) v.gate.algorithm (known_of v o) (known_of y o) never-ring refl;
         granted = refl;
         holds = refl;
         checked = refl;
@@ -494,7 +497,7 @@ module _ (good : List ℕ → Type 0) (c : Config) (n : ℕ) where
     -- a writer stores in place
     pub tells-stored : (a x : ℕ) (w : View) → l.wrote ≡ true → Tells (tml_store a x) Nothing v x w → HasWritten good c n a x writes.Done (known_of v o) (known_of w o)
     tells-stored a x w dirty t = subst (λ (y : View). HasWritten good c n a x writes.Done (known_of v o) (known_of y o)) (sym t.2) (
-      goes-inner v y o i.phase (record { history = refl; gate = refl; lock = refl; writer = refl; fence = refl; start = refl; rises = refl; base = refl; installs = refl; step_trace = (_ ∷ [], refl) }),
+      goes-inner v y o i.phase never-ring (record { history = refl; gate = refl; lock = refl; writer = refl; fence = refl; start = refl; rises = refl; base = refl; installs = refl; step_trace = (_ ∷ [], refl) }),
       quiet,
       (refl, λ b. ap (item_at b) (written-here y ∙ ap (put a x) (sym (written-here v)))),
       opaque-at good c n y o l.start i.start i.front i.legal i.below i.sees i.reads_inside,

@@ -102,7 +102,10 @@ fn answer<R: AllocGlobal + Files + Input + Print + Eprint + Threads + Wait + Syn
         &mut sink,
         &mut why,
     );
-    tell(rt, status, why, &names);
+    // who doesn't read on any more wants to hear no more
+    if !sink.is_closed() {
+        tell(rt, status, why, &names);
+    }
     code
 }
 

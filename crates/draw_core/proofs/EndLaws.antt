@@ -2,7 +2,7 @@
 use Rattle.std.proofs.Common.{ℕ, ◌≡◌, List, refl}
 use Rattle.std.specs.Prelude.{Option, Some, None}
 use Rattle.draw_core.specs.declared.status.Status.{Status}
-use Rattle.draw_core.specs.declared.status.Status.TheVariants.{Ok as Done, Help, Usage, Refused, ReadFault, WriteFault, Memory, NoPage}
+use Rattle.draw_core.specs.declared.status.Status.TheVariants.{Ok as Done, Help, Usage, Refused, ReadFault, WriteFault, Memory, NoPicture}
 use Rattle.draw_core.specs.declared.asking.Topic.{Topic}
 use Rattle.draw_core.specs.Asking.{Asked, asked, help_of}
 use Rattle.draw_core.specs.Outcomes.{EndsBy, IsOutcome, MayEnd, exit_code_of, says_by}
@@ -34,7 +34,7 @@ module _ {S : Type 0} (left : S → Option (List ℕ)) (faults : S → ℕ) (sou
     may-end ReadFault h = told-by (help_of words) (asked words) ReadFault h.said (λ e. absurd cc) (λ e. absurd cc) h.says
     may-end WriteFault h = tt
     may-end Memory h = tt
-    may-end (NoPage pages) h = told-by (help_of words) (asked words) (NoPage pages) h.said (λ e. absurd cc) (λ e. absurd cc) h.says
+    may-end (NoPicture boxes) h = told-by (help_of words) (asked words) (NoPicture boxes) h.said (λ e. absurd cc) (λ e. absurd cc) h.says
 
     pub ends_by : (status : Status) (exit : ℕ) → IsOutcome left faults source source' words held broken sink sink' status → exit ≡ exit_code_of status → EndsBy words exit
     ends_by status exit outcome is = record { status = status; is = is; may = may-end status outcome }

@@ -1,6 +1,9 @@
 -- The lines of a trace that fits a workload are of its callers, and an operation's are of one on the memory.
 use Rattle.std.proofs.Common.{ℕ, zero, suc, ◌≡◌, ◌≤◌, List, [], ◌∷◌, ◌++◌, length, length-set, inl, inr, refl, sym, ap, subst, ◌∙◌, arith}
-use Rattle.std.specs.Prelude.{◌⊎◌, map}
+use Rattle.std.specs.Prelude.{◌⊎◌, map, Some}
+use Rattle.std.proofs.lemmas.List.{get_or-replicate}
+use Rattle.stm_trace.specs.declared.said.Phase.{Phase}
+use Rattle.stm_trace.specs.declared.said.Phase.TheVariants.{Between}
 use Rattle.stm_model.specs.declared.config.TheConstants.{MAX_CALLERS}
 use Rattle.stm_check.specs.Texts.{ReportIsRead}
 use Rattle.stm_script.specs.declared.report.Row.{Row}
@@ -16,7 +19,9 @@ use Rattle.stm_trace.specs.Fits.{Path, Scheduled, Winding, Finishing, IsWhole, I
 use Rattle.stm_trace.specs.Places.{CallerProgress, after}
 use Rattle.stm_trace.specs.Turns.{MaySay, MayWind, MayFinish}
 use Rattle.draw_core.specs.Statements.{IsOfMemory, LinesFit, IsTraceOf, StepIsDrawn}
-use Rattle.draw_core.proofs.Tracing.{trace-is-drawn}
+use Rattle.draw_core.specs.Phases.{first_phases, passed_all}
+use Rattle.draw_core.proofs.Passing.{Agree, Passing, finish-comes, passes-both, path-passes, say-comes, wind-comes}
+use Rattle.draw_core.proofs.Tracing.{trace-is-walked}
 
 -- what may be said is of an operation on the memory
 
@@ -121,5 +126,63 @@ trace-fits : (w : Workload) (lines : List Line) → w.header.callers ≤ MAX_CAL
 trace-fits w lines few (inl t) = let same = counted-length w 0 w.header.callers in whole-fits w.header (first_places w) (omega (arith, same, few)) w.schedule lines t.0.rows t.1
 trace-fits w lines few (inr t) = let same = counted-length w 0 w.header.callers in cut-fits w.header (first_places w) (omega (arith, same, few)) w.schedule lines t.0 t.1
 
+-- the lines may come one after the other
+
+places-between : (w : Workload) (n : ℕ) (ks : List ℕ) → (place_of (map (first_place w) ks) n).phase ≡ Between
+places-between w n [] = refl
+places-between w zero (k ∷ ks) = refl
+places-between w (suc n) (k ∷ ks) = places-between w n ks
+
+first-agrees : (w : Workload) → w.header.callers ≤ 32 → Agree first_phases (first_places w)
+first-agrees w few = record {
+  room = refl;
+  at = λ n lt.
+      (let same = counted-length w 0 w.header.callers in
+      get_or-replicate 32 n Between Between (omega (arith, same, lt, few)) ∙ sym (places-between w n (counted 0 w.header.callers)));
+}
+
+module _ (h : Header) (start : List CallerProgress) (few : length start ≤ 32) (phases : List Phase) (a : Agree phases start) (schedule : List Go) where
+  scheduled-passes : (lines : List Line) (now : List CallerProgress) → Scheduled h start schedule lines now → Passing phases lines now
+  scheduled-passes lines now s = path-passes h MaySay say-comes phases start lines now a few s.path
+
+  winding-passes : (lines : List Line) (now : List CallerProgress) → Winding h start schedule lines now → Passing phases lines now
+  winding-passes lines now w =
+      let first = path-passes h MaySay say-comes phases start w.first w.middle a few w.played in
+      let second = path-passes h MayWind wind-comes first.end w.middle w.second now first.agree first.few w.path in
+      record {
+        end = second.end;
+        pass = ap (passed_all phases) w.parts ∙ (passes-both phases first.end w.first (Finish ∷ w.second) first.pass ∙ second.pass);
+        agree = second.agree;
+        few = second.few;
+      }
+
+  finishing-passes : (lines : List Line) (now : List CallerProgress) → Finishing h start schedule lines now → Passing phases lines now
+  finishing-passes lines now f =
+      let first = winding-passes f.first f.middle f.wound in
+      let second = path-passes h MayFinish finish-comes first.end f.middle f.second now first.agree first.few f.path in
+      record {
+        end = second.end;
+        pass = ap (passed_all phases) f.parts ∙ (passes-both phases first.end f.first f.second first.pass ∙ second.pass);
+        agree = second.agree;
+        few = second.few;
+      }
+
+  reached-passes : (lines : List Line) (caller : ℕ) (now : List CallerProgress) → Scheduled h start schedule lines now ⊎ (Finishing h start schedule lines now × AreOverBelow caller now) → Passing phases lines now
+  reached-passes lines caller now (inl s) = scheduled-passes lines now s
+  reached-passes lines caller now (inr f) = finishing-passes lines now f.0
+
+-- so they leave some phases
+trace-passes : (w : Workload) (lines : List Line) → w.header.callers ≤ MAX_CALLERS → IsTraceOf w lines → (last : List Phase) × (passed_all first_phases lines ≡ Some last)
+trace-passes w lines few (inl t) =
+    let same = counted-length w 0 w.header.callers in
+    let p = finishing-passes w.header (first_places w) (omega (arith, same, few)) first_phases (first-agrees w (omega (arith, few))) w.schedule lines t.1.now t.1.finished in
+    (p.end, p.pass)
+trace-passes w lines few (inr t) =
+    let same = counted-length w 0 w.header.callers in
+    let p = reached-passes w.header (first_places w) (omega (arith, same, few)) first_phases (first-agrees w (omega (arith, few))) w.schedule lines t.1.caller t.1.now t.1.reached in
+    (p.end, p.pass)
+
 pub step-is-drawn : ReportIsRead → StepIsDrawn
-step-is-drawn law w lines tail few fits words end le = trace-is-drawn law lines tail (trace-fits w lines few fits) words end le
+step-is-drawn law w lines tail few fits words end le =
+    let p = trace-passes w lines few fits in
+    trace-is-walked law lines tail (trace-fits w lines few fits) words end le p.0 p.1

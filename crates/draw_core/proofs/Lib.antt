@@ -16,3 +16,7 @@ pub mod PageDrawn
 pub mod Saids
 pub mod EndLaws
 pub mod Misfitting
+pub mod Parting
+pub mod Meeting
+pub mod Passing
+pub mod Cutting

@@ -1,21 +1,38 @@
 -- What a page shows, by what it was made of.
-use Rattle.std.proofs.Common.{ℕ, ◌≡◌, List, length, map, take, drop, ap, ◌∙◌}
+use Rattle.std.proofs.Common.{ℕ, ◌≡◌, List, ◌++◌, map, true, refl, ap, subst, ◌∙◌, arith}
+use Rattle.std.specs.Prelude.{Option, Some, None, leb}
+use Rattle.std.specs.List.{filter}
+use Rattle.std.proofs.lemmas.Bool.Decides.{nat_tests}
 use Rattle.draw_core.specs.declared.page.Page.{Page}
-use Rattle.draw_core.specs.declared.page.TheConstants.{PAGE_ROWS}
+use Rattle.draw_core.specs.declared.part.Lines.{Lines}
+use Rattle.draw_core.specs.declared.part.TheConstants.{MOST_BOXES}
 use Rattle.draw_core.specs.declared.picture.Leaf.{Leaf}
+use Rattle.draw_core.specs.declared.row.Row.{Row}
 use Rattle.draw_core.specs.declared.step.Step.{Step}
-use Rattle.draw_core.specs.Outcomes.{leaf_of, pages_in, rows_in}
-use Rattle.draw_core.specs.Pages.{own_rows, rows_above, rows_before, IsSettled}
-use Rattle.draw_core.specs.Shapes.{Box, boxes_of}
-use Rattle.draw_core.specs.Standing.{none_stand, standing_of, standing_rows, stood}
+use Rattle.draw_core.specs.Markup.{IsMarkup}
+use Rattle.draw_core.specs.Outcomes.{IsDrawn, boxes_in, leaf_by, leaf_of, page_boxes, rows_in}
+use Rattle.draw_core.specs.Parts.{is_shown, keeps, rows_above, IsFew, IsSettled}
+use Rattle.draw_core.specs.Shapes.{boxes_of}
+use Rattle.draw_core.specs.Standing.{standing_of, standing_rows}
+use Rattle.draw_core.specs.Texts.{svg_of}
 
-module _ (p : Page) (page : ℕ) (rows : List Box) (from : p.from ≡ rows_before page) (s : IsSettled p rows) where
-  pub rows-above-are : standing_rows (map standing_of p.above.items) ≡ rows_above page rows
-  rows-above-are = ap standing_rows (s.above ∙ ap (λ k. stood none_stand (take k rows)) from)
+-- what may be drawn is kept
+few-kept : (r : Option Lines) (n : ℕ) → IsFew r n → keeps r n ≡ true
+few-kept None n few = let t : leb n MOST_BOXES ≡ true = grind (arith, nat_tests, few) in t
+few-kept (Some r) n few = refl
 
-  pub own-are : boxes_of p.own.items ≡ own_rows page rows
-  own-are = s.own ∙ ap (λ k. take PAGE_ROWS (drop k rows)) from
-
-pub leaf-is : (page pages above : ℕ) (steps : List Step) → pages ≡ pages_in steps → above ≡ length (rows_above page (rows_in steps))
-    → (let leaf : Leaf = record { page = page; pages = pages; above = above } in leaf) ≡ leaf_of page steps
-leaf-is page pages above steps p q = (λ i. (let leaf : Leaf = record { page = page; pages = p i; above = q i } in leaf))
+module _ (p : Page) (steps : List Step) (s : IsSettled p (rows_in steps)) where
+  -- the rows above, those with the part's own, and the picture's leaf
+  pub drawn-by : (above rows : List Row) (leaf : Leaf) (said : List ℕ) → IsFew p.part.lines p.count
+      → boxes_of above ≡ filter (is_shown p.part) (standing_rows (map standing_of p.above.items)) → boxes_of rows ≡ boxes_of above ++ boxes_of p.own.items
+      → leaf ≡ leaf_by p.part (boxes_of above) → said ≡ svg_of leaf (boxes_of rows) → IsMarkup said → IsDrawn steps p.part said
+  drawn-by above rows leaf said few stands all shows is markup =
+      let shown : boxes_of above ≡ rows_above p.part (rows_in steps) = stands ∙ ap (λ ss. filter (is_shown p.part) (standing_rows ss)) s.above in
+      let own : boxes_of p.own.items ≡ boxes_in p.part steps = s.own (few-kept p.part.lines p.count few) in
+      let boxes : boxes_of rows ≡ page_boxes p.part steps = all ∙ (λ i. shown i ++ own i) in
+      let same : leaf ≡ leaf_of p.part steps = shows ∙ ap (leaf_by p.part) shown in
+      record {
+        few = subst (IsFew p.part.lines) s.count few;
+        is = is ∙ (λ i. svg_of (same i) (boxes i));
+        markup = markup;
+      }

@@ -1,45 +1,21 @@
--- What is so of every page, and of every box's words.
-use Rattle.std.proofs.Common.{ℕ, zero, suc, ◌≡◌, ◌<◌, ◌≤◌, ◌+◌, ◌-◌, ◌*◌, List, [], ◌∷◌, ◌++◌, length, take, drop, Bool, true, false, refl, sym, ap, subst, ◌∙◌, arith, length-append, length-take}
-use Rattle.std.specs.Prelude.{map, min, max, ltb, ◌==◌, ◌||◌, if◌then◌else◌, Option, Some, None, codes}
-use Rattle.std.specs.Int.{div_ceil}
-use Rattle.std.proofs.lemmas.Grind.{div_ceil_times}
-use Rattle.std.proofs.lemmas.List.{length-map, take_all}
-use Rattle.draw_core.specs.declared.page.TheConstants.{PAGE_ROWS}
+-- What is so of every part, and of every box's words.
+use Rattle.std.proofs.Common.{ℕ, zero, suc, ◌≡◌, ◌≤◌, ◌+◌, ◌-◌, List, [], ◌∷◌, ◌++◌, length, Bool, true, false, refl, ap, ◌∙◌, arith, length-append}
+use Rattle.std.specs.Prelude.{map, min, ltb, ◌==◌, ◌||◌, if◌then◌else◌, Option, Some, None, codes}
+use Rattle.std.proofs.lemmas.List.{length-map}
 use Rattle.draw_core.specs.declared.shown.TheConstants.{MOST_SHOWN}
 use Rattle.draw_core.specs.declared.style.TheConstants.{TIP}
-use Rattle.draw_core.specs.Pages.{own_rows, pages_of, rows_above, rows_before, rows_to, PagesAreWhole, PagesAreBounded}
+use Rattle.draw_core.specs.Parts.{is_shown, rows_before, FewStand, WholeHasAll}
+use Rattle.std.specs.List.{filter}
 use Rattle.draw_core.specs.Shapes.{Box}
-use Rattle.draw_core.specs.Shown.{digits_at, is_digit, next_before, shown, shown_byte, shown_digit, shown_other, shown_words, WordsFit}
+use Rattle.draw_core.specs.Shown.{digits_at, is_digit, next_before, shown, shown_byte, shown_digit, shown_other, WordsFit}
 use Rattle.draw_core.specs.Standing.{Standing, after_row, none_stand, row_in, standing_rows, stood}
 use Rattle.draw_core.proofs.Boxes.{some-left}
 
--- the pages
+-- the parts
 
-take-none : (k : ℕ) → take k (let none : List Box = [] in none) ≡ []
-take-none zero = refl
-take-none (suc k) = refl
-
-take-then : (a b k : ℕ) (rows : List Box) → k ≡ a + b → take a rows ++ take b (drop a rows) ≡ take k rows
-take-then zero b k rows e = ap (λ n. take n rows) (let same : b ≡ k = omega (arith, e) in same)
-take-then (suc a) b k [] e = take-none b ∙ sym (take-none k)
-take-then (suc a) b zero (r ∷ rows) e = absurd (omega (arith, e))
-take-then (suc a) b (suc k) (r ∷ rows) e = ap (λ l. r ∷ l) (take-then a b k rows (omega (arith, e)))
-
-rows-to : (pages : ℕ) (rows : List Box) → rows_to pages rows ≡ take (pages * PAGE_ROWS) rows
-rows-to zero rows = refl
-rows-to (suc pages) rows =
-    let before : rows_before (suc pages) ≡ pages * PAGE_ROWS = ap (λ k. k * PAGE_ROWS) (let e : suc pages - 1 ≡ pages = omega arith in e) in
-    let all : pages * PAGE_ROWS + PAGE_ROWS ≡ suc pages * PAGE_ROWS = omega arith in
-    ap (λ l. l ++ own_rows (suc pages) rows) (rows-to pages rows)
-    ∙ (ap (λ k. take (pages * PAGE_ROWS) rows ++ take PAGE_ROWS (drop k rows)) before
-    ∙ take-then (pages * PAGE_ROWS) PAGE_ROWS (suc pages * PAGE_ROWS) rows (sym all))
-
-pub pages-are-whole : PagesAreWhole
-pages-are-whole rows =
-    let n : ℕ = length rows in
-    let enough = (div_ceil_times n PAGE_ROWS (omega arith)).0 in
-    let most : n ≤ pages_of n * PAGE_ROWS = omega (arith, enough) in
-    rows-to (pages_of n) rows ∙ take_all (pages_of n * PAGE_ROWS) rows most
+pub whole-has-all : WholeHasAll
+whole-has-all [] = refl
+whole-has-all (b ∷ bs) = ap (λ l. b ∷ l) (whole-has-all bs)
 
 in-row : (o : Option Box) → length (row_in o) ≤ 1
 in-row None = omega arith
@@ -57,13 +33,21 @@ stood-same : (ss : List Standing) (bs : List Box) → length (stood ss bs) ≡ l
 stood-same ss [] = refl
 stood-same ss (b ∷ bs) = stood-same (map (after_row b) ss) bs ∙ length-map ss (after_row b)
 
-pub pages-are-bounded : PagesAreBounded
-pages-are-bounded page rows =
-    let own = length-take PAGE_ROWS (drop (rows_before page) rows) in
-    let ss : List Standing = stood none_stand (take (rows_before page) rows) in
+kept-by : (k : Bool) (p : Box → Bool) (b : Box) (bs : List Box) → length (filter p bs) ≤ length bs → length (if k then b ∷ filter p bs else filter p bs) ≤ length (b ∷ bs)
+kept-by true p b bs le = omega (arith, le)
+kept-by false p b bs le = omega (arith, le)
+
+kept-few : (p : Box → Bool) (bs : List Box) → length (filter p bs) ≤ length bs
+kept-few p [] = omega arith
+kept-few p (b ∷ bs) = let rest = kept-few p bs in kept-by (p b) p b bs rest
+
+pub few-stand : FewStand
+few-stand part rows =
+    let ss : List Standing = stood none_stand (rows_before part rows) in
+    let shown = kept-few (is_shown part) (standing_rows ss) in
     let few = standing-few ss in
-    let same : length ss ≡ 97 = stood-same none_stand (take (rows_before page) rows) in
-    (omega (arith, own), omega (arith, few, same))
+    let same : length ss ≡ 97 = stood-same none_stand (rows_before part rows) in
+    omega (arith, shown, few, same)
 
 -- the words
 

@@ -1,10 +1,9 @@
 -- A page, row by row.
-use Rattle.std.proofs.Common.{ℕ, zero, suc, ◌≡◌, ◌<◌, ◌≤◌, ◌+◌, ◌-◌, List, [], ◌∷◌, ◌++◌, length, take, drop, refl, sym, ap, ◌∙◌, arith, append_assoc, length-append}
-use Rattle.std.specs.Prelude.{map, if◌then◌else◌, Option, Some, None}
+use Rattle.std.proofs.Common.{◌≡◌, List, [], ◌∷◌, ◌++◌, refl, ap}
+use Rattle.std.specs.Prelude.{map, Option, Some, None}
 use Rattle.draw_core.specs.declared.misfit.Unfit.{Unfit}
 use Rattle.draw_core.specs.declared.row.Row.{Row}
-use Rattle.std.proofs.lemmas.List.{take_all, take-append-le, drop-append-le}
-use Rattle.draw_core.specs.Shapes.{Box, box_of, boxes_of}
+use Rattle.draw_core.specs.Shapes.{Box}
 use Rattle.draw_core.specs.Rows.{joined, pushed, rows_from, rows_of}
 use Rattle.draw_core.specs.Standing.{Standing, after_row, stood}
 
@@ -23,19 +22,6 @@ pub pushed-last : (rows : List Box) (r b : Box) → pushed (rows ++ r ∷ []) b 
 pushed-last [] r b = refl
 pushed-last (s ∷ []) r b = refl
 pushed-last (s ∷ t ∷ rows) r b = ap (λ l. s ∷ l) (pushed-last (t ∷ rows) r b)
-
--- a row more, before a page and on it
-module _ (from : ℕ) (rows : List Box) (b : Box) where
-  pub take-before : length rows < from → take from (rows ++ b ∷ []) ≡ take from rows ++ b ∷ []
-  take-before lt =
-      let n = length-append rows (b ∷ []) in
-      take_all from (rows ++ b ∷ []) (omega (arith, n, lt)) ∙ ap (λ l. l ++ b ∷ []) (sym (take_all from rows (omega (arith, lt))))
-
-  pub take-after : from ≤ length rows → take from (rows ++ b ∷ []) ≡ take from rows
-  take-after le = take-append-le from rows (b ∷ []) le
-
-  pub drop-after : from ≤ length rows → drop from (rows ++ b ∷ []) ≡ drop from rows ++ b ∷ []
-  drop-after le = drop-append-le from rows (b ∷ []) le
 
 some-of : Option Row → Row → Row
 some-of None d = d

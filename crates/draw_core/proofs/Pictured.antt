@@ -3,6 +3,7 @@ use Rattle.std.proofs.Common.{ℕ, ◌≡◌, ◌+◌, ◌-◌, ◌*◌, ◌/◌
 use Rattle.std.specs.Prelude.{if◌then◌else◌, ltb, leb, ◌==◌, length, Option, Some, None, codes, bytes_eq}
 use Rattle.std.specs.Fmt.{decimal}
 use Rattle.stm_model.specs.Algorithms.{alg_name}
+use Rattle.draw_core.specs.declared.part.Lines.{Lines}
 use Rattle.draw_core.specs.declared.picture.Leaf.{Leaf}
 use Rattle.draw_core.specs.declared.row.Row.{Row}
 use Rattle.draw_core.specs.declared.kind.Kind.{Kind}
@@ -16,7 +17,7 @@ use Rattle.draw_core.specs.Kinds.{class_of, is_finish}
 use Rattle.draw_core.specs.Markup.{Words, Attributes, Value, reads_on, IsMarkup}
 use Rattle.draw_core.specs.Shown.{shown_words, title_bytes, words_bytes}
 use Rattle.draw_core.specs.Shapes.{Box, box_of, boxes_of, shape_at}
-use Rattle.draw_core.specs.Texts.{place_bytes, size_bytes, rect_bytes, open_bytes, close_bytes, left, top, tall, edge, shape_bytes, part_bytes, layer_bytes, squeezed, head_at, heads_bytes, lane_bytes, clock_bytes, deep, box_rect, box_bytes, boxes_bytes, said_on, turn_bytes, number_bytes, page_number, page_width, page_height, style_bytes, legend_bytes, view_bytes, page_bytes, naming_bytes, name_bytes, axis_bytes, head_bytes, foot_bytes, drawing_bytes, svg_of, sheet_of}
+use Rattle.draw_core.specs.Texts.{place_bytes, size_bytes, rect_bytes, open_bytes, close_bytes, left, top, tall, edge, shape_bytes, part_bytes, layer_bytes, squeezed, head_at, heads_bytes, lane_bytes, clock_bytes, deep, box_rect, box_bytes, boxes_bytes, said_on, turn_bytes, number_bytes, lines_bytes, page_width, page_height, style_bytes, legend_bytes, view_bytes, page_bytes, naming_bytes, titled_bytes, name_bytes, axis_bytes, head_bytes, foot_bytes, drawing_bytes, svg_of, sheet_of}
 use Rattle.draw_core.proofs.Marking.{all_calm, Calm, calm, calm-append, calm-decimal, calm-keeps, shown-calm, Keeps, keeps-none, keeps-append, onto, past-value, past-words}
 use Rattle.draw_core.proofs.Labelling.{alg-calm, label-calm}
 
@@ -99,22 +100,23 @@ words-keep words c =
 plain : Calm (codes "words")
 plain = calm (codes "words") refl
 
-head-keeps : (lane y : ℕ) → Keeps (head_at lane y)
+head-keeps : (s : Sheet) (lane y : ℕ) → Keeps (head_at s lane y)
 unfolding head_at
-head-keeps lane y =
-    text-keeps (codes "head") (codes "words") (left lane + 108) y [] (codes "caller " ++ decimal lane) (calm (codes "head") refl) plain
+head-keeps s lane y =
+    text-keeps (codes "head") (codes "words") (left s lane + 108) y [] (codes "caller " ++ decimal lane) (calm (codes "head") refl) plain
     none-more (calm-append (codes "caller ") (decimal lane) (calm (codes "caller ") refl) (calm-decimal lane))
 
-heads-keep : (lane blocks : ℕ) → Keeps (heads_bytes lane blocks)
-heads-keep lane zero = keeps-none
-heads-keep lane (suc blocks) = keeps-append (heads_bytes lane blocks) (head_at lane (top ((blocks + 1) * 40) - 8)) (heads-keep lane blocks) (head-keeps lane (top ((blocks + 1) * 40) - 8))
+heads-keep : (s : Sheet) (lane blocks : ℕ) → Keeps (heads_bytes s lane blocks)
+heads-keep s lane zero = keeps-none
+heads-keep s lane (suc blocks) =
+    keeps-append (heads_bytes s lane blocks) (head_at s lane (top ((blocks + 1) * 40) - 8)) (heads-keep s lane blocks) (head-keeps s lane (top ((blocks + 1) * 40) - 8))
 
 lane-keeps : (s : Sheet) (lane : ℕ) → Keeps (lane_bytes s lane)
 unfolding lane_bytes
 lane-keeps s lane =
-    keeps-append (rect_bytes (codes "lane") (codes "shape") (left lane + 2) 36 212 (deep s * 24 + 16)) (head_at lane 28 ++ heads_bytes lane ((s.rows - 1) / 40))
-    (rect-keeps (codes "lane") (codes "shape") (left lane + 2) 36 212 (deep s * 24 + 16) (calm (codes "lane") refl) (calm (codes "shape") refl))
-    (keeps-append (head_at lane 28) (heads_bytes lane ((s.rows - 1) / 40)) (head-keeps lane 28) (heads-keep lane ((s.rows - 1) / 40)))
+    keeps-append (rect_bytes (codes "lane") (codes "shape") (left s lane + 2) 36 212 (deep s * 24 + 16)) (head_at s lane 28 ++ heads_bytes s lane ((s.rows - 1) / 40))
+    (rect-keeps (codes "lane") (codes "shape") (left s lane + 2) 36 212 (deep s * 24 + 16) (calm (codes "lane") refl) (calm (codes "shape") refl))
+    (keeps-append (head_at s lane 28) (heads_bytes s lane ((s.rows - 1) / 40)) (head-keeps s lane 28) (heads-keep s lane ((s.rows - 1) / 40)))
 
 clock-keeps : (row time : ℕ) → Keeps (clock_bytes row time)
 unfolding clock_bytes
@@ -142,8 +144,8 @@ shape-keeps s (Installed row alg) =
     (text-keeps (codes "side") (codes "words") (edge s + 14) (top row + 28) [] (alg_name alg ++ codes " from here")
     (calm (codes "side") refl) plain none-more
     (calm-append (alg_name alg) (codes " from here") (alg-calm alg) (calm (codes " from here") refl))))
-shape-keeps s (Attempt lane from more kind) = rect-keeps (codes "attempt") (class_of kind) (left lane + 4) (top from + 1) 208 (tall from more) (calm (codes "attempt") refl) (class-calm kind)
-shape-keeps s (Irrevocable lane from more) = rect-keeps (codes "sure") (codes "shape") (left lane + 4) (top from + 1) 6 (tall from more) (calm (codes "sure") refl) (calm (codes "shape") refl)
+shape-keeps s (Attempt lane from more kind) = rect-keeps (codes "attempt") (class_of kind) (left s lane + 4) (top from + 1) 208 (tall from more) (calm (codes "attempt") refl) (class-calm kind)
+shape-keeps s (Irrevocable lane from more) = rect-keeps (codes "sure") (codes "shape") (left s lane + 4) (top from + 1) 6 (tall from more) (calm (codes "sure") refl) (calm (codes "shape") refl)
 shape-keeps s (Clock row time) = clock-keeps row time
 
 part-keeps : (s : Sheet) (shape : Option Shape) → Keeps (part_bytes s shape)
@@ -163,9 +165,9 @@ either false xs ys c d = d
 box-rect-keeps : (s : Sheet) (row : ℕ) (b : Box) → Keeps (box_rect s row b)
 unfolding box_rect
 box-rect-keeps s row b =
-    either (is_finish b.kind) (rect_bytes (codes "box") (class_of b.kind) 134 (top row + 3) (s.lanes * 216 + 8) 18) (rect_bytes (codes "box") (class_of b.kind) (left b.lane + 14) (top row + 3) 194 18)
+    either (is_finish b.kind) (rect_bytes (codes "box") (class_of b.kind) 134 (top row + 3) (s.lanes * 216 + 8) 18) (rect_bytes (codes "box") (class_of b.kind) (left s b.lane + 14) (top row + 3) 194 18)
     (rect-keeps (codes "box") (class_of b.kind) 134 (top row + 3) (s.lanes * 216 + 8) 18 (calm (codes "box") refl) (class-calm b.kind))
-    (rect-keeps (codes "box") (class_of b.kind) (left b.lane + 14) (top row + 3) 194 18 (calm (codes "box") refl) (class-calm b.kind))
+    (rect-keeps (codes "box") (class_of b.kind) (left s b.lane + 14) (top row + 3) 194 18 (calm (codes "box") refl) (class-calm b.kind))
 
 number_text : ℕ → ℕ → List ℕ
 number_text row number = open_bytes (codes "row") (codes "words") 58 (top row + 16) [] ++ (decimal number ++ close_bytes)
@@ -186,10 +188,10 @@ box-keeps s row b c =
     let calm-words : Calm words = said-calm b c in
     record {
       keeps = λ tags.
-          onto (Some (Words tags)) (box_rect s row b) (open_bytes (codes "label") (class_of b.kind) (left b.lane + 19) (top row + 16)
+          onto (Some (Words tags)) (box_rect s row b) (open_bytes (codes "label") (class_of b.kind) (left s b.lane + 19) (top row + 16)
           (squeezed (shown_words words)) ++ (words_bytes words ++ (close_bytes ++ number))) (Some (Words tags)) ((box-rect-keeps s row b).keeps tags)
-          ∙ (onto (Some (Words tags)) (open_bytes (codes "label") (class_of b.kind) (left b.lane + 19) (top row + 16) (squeezed (shown_words words))) (words_bytes words ++ (close_bytes ++ number)) (Some (Words (codes "text" ∷ tags)))
-          (opening-reads tags (codes "label") (class_of b.kind) (left b.lane + 19) (top row + 16) (squeezed (shown_words words)) (calm (codes "label") refl) (class-calm b.kind) (squeezed-more (shown_words words)))
+          ∙ (onto (Some (Words tags)) (open_bytes (codes "label") (class_of b.kind) (left s b.lane + 19) (top row + 16) (squeezed (shown_words words))) (words_bytes words ++ (close_bytes ++ number)) (Some (Words (codes "text" ∷ tags)))
+          (opening-reads tags (codes "label") (class_of b.kind) (left s b.lane + 19) (top row + 16) (squeezed (shown_words words)) (calm (codes "label") refl) (class-calm b.kind) (squeezed-more (shown_words words)))
           ∙ (onto (Some (Words (codes "text" ∷ tags))) (words_bytes words) (close_bytes ++ number) (Some (Words (codes "text" ∷ tags))) ((words-keep words calm-words).keeps (codes "text" ∷ tags))
           ∙ (text-keeps (codes "row") (codes "words") 58 (top row + 16) [] (decimal b.number) (calm (codes "row") refl) plain none-more (calm-decimal b.number)).keeps tags));
     }
@@ -216,28 +218,33 @@ page-reads width height =
     ∙ (past-value [] (codes "svg") (decimal width) (codes "' height='" ++ (decimal height ++ codes "'>\n")) (calm-decimal width)
     ∙ past-value [] (codes "svg") (decimal height) (codes "'>\n") (calm-decimal height))
 
-naming-keeps : (s : Sheet) → Keeps (naming_bytes s)
-unfolding naming_bytes
-naming-keeps s = record {
+titled-keeps : (r : Lines) → Keeps (titled_bytes r)
+unfolding titled_bytes
+titled-keeps r = record {
   keeps = λ tags.
-      past-words (codes "title" ∷ tags) (decimal s.leaf.page) (codes " of " ++ (decimal s.leaf.pages ++ codes " of a trace</title>\n")) (calm-decimal s.leaf.page)
-      ∙ past-words (codes "title" ∷ tags) (decimal s.leaf.pages) (codes " of a trace</title>\n") (calm-decimal s.leaf.pages);
+      past-words (codes "title" ∷ tags) (decimal r.first) (codes " to " ++ (decimal r.last ++ codes " of a trace</title>\n")) (calm-decimal r.first)
+      ∙ past-words (codes "title" ∷ tags) (decimal r.last) (codes " of a trace</title>\n") (calm-decimal r.last);
 }
 
-page-number-keeps : (s : Sheet) → Keeps (page_number s)
-unfolding page_number
-page-number-keeps s = record {
+naming-keeps : (r : Option Lines) → Keeps (naming_bytes r)
+naming-keeps None = record { keeps = λ tags. refl }
+naming-keeps (Some r) = titled-keeps r
+
+lines-keep : (s : Sheet) (r : Lines) → Keeps (lines_bytes s r)
+unfolding lines_bytes
+lines-keep s r = record {
   keeps = λ tags.
       let now : List (List ℕ) = codes "text" ∷ tags in
       onto (Some (Words tags)) (open_bytes (codes "side") (codes "words") (edge s + 14) 28 [])
-      (codes "page " ++ (decimal s.leaf.page ++ (codes " of " ++ (decimal s.leaf.pages ++ close_bytes)))) (Some (Words now))
+      (codes "lines " ++ (decimal r.first ++ (codes " to " ++ (decimal r.last ++ close_bytes)))) (Some (Words now))
       (opening-reads tags (codes "side") (codes "words") (edge s + 14) 28 [] (calm (codes "side") refl) plain none-more)
-      ∙ (past-words now (decimal s.leaf.page) (codes " of " ++ (decimal s.leaf.pages ++ close_bytes)) (calm-decimal s.leaf.page)
-      ∙ past-words now (decimal s.leaf.pages) close_bytes (calm-decimal s.leaf.pages));
+      ∙ (past-words now (decimal r.first) (codes " to " ++ (decimal r.last ++ close_bytes)) (calm-decimal r.first)
+      ∙ past-words now (decimal r.last) close_bytes (calm-decimal r.last));
 }
 
-number-keeps : (s : Sheet) → Keeps (number_bytes s)
-number-keeps s = either (leb s.leaf.pages 1) [] (page_number s) keeps-none (page-number-keeps s)
+number-keeps : (s : Sheet) (r : Option Lines) → Keeps (number_bytes s r)
+number-keeps s None = keeps-none
+number-keeps s (Some r) = lines-keep s r
 
 turn-keeps : (s : Sheet) → Keeps (turn_bytes s)
 turn-keeps s =
@@ -267,15 +274,15 @@ head-reads : (s : Sheet) → reads_on (Some (Words [])) (head_bytes s) ≡ Some 
 unfolding head_bytes
 head-reads s =
     let page-rect : List ℕ = rect_bytes (codes "page") (codes "shape") 0 0 (page_width s) (page_height s) in
-    let last : List ℕ = axis_bytes s ++ number_bytes s in
+    let last : List ℕ = axis_bytes s ++ number_bytes s s.leaf.lines in
     onto (Some (Words [])) (page_bytes (page_width s) (page_height s))
-    (naming_bytes s ++ (style_bytes ++ (page-rect ++ last))) (Some (Words page))
+    (naming_bytes s.leaf.lines ++ (style_bytes ++ (page-rect ++ last))) (Some (Words page))
     (page-reads (page_width s) (page_height s))
-    ∙ (onto (Some (Words page)) (naming_bytes s) (style_bytes ++ (page-rect ++ last)) (Some (Words page)) ((naming-keeps s).keeps page)
+    ∙ (onto (Some (Words page)) (naming_bytes s.leaf.lines) (style_bytes ++ (page-rect ++ last)) (Some (Words page)) ((naming-keeps s.leaf.lines).keeps page)
     ∙ (onto (Some (Words page)) style_bytes (page-rect ++ last) (Some (Words page)) style-reads
     ∙ (keeps-append page-rect last
     (rect-keeps (codes "page") (codes "shape") 0 0 (page_width s) (page_height s) (calm (codes "page") refl) (calm (codes "shape") refl))
-    (keeps-append (axis_bytes s) (number_bytes s) (axis-keeps s) (number-keeps s))).keeps page))
+    (keeps-append (axis_bytes s) (number_bytes s s.leaf.lines) (axis-keeps s) (number-keeps s s.leaf.lines))).keeps page))
 
 foot-reads : (s : Sheet) → reads_on (Some (Words page)) (foot_bytes s) ≡ Some (Words [])
 unfolding foot_bytes

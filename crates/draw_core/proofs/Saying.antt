@@ -21,12 +21,15 @@ use Rattle.tx_answers.specs.declared.answers.CloseGate.TheVariants.{Closed, Take
 use Rattle.tx_answers.specs.declared.answers.Commit.TheVariants.{Committed, ReadOnly, Conflict, Again, ClockFull}
 use Rattle.tx_answers.specs.declared.answers.Irrev.TheVariants as irrevs
 use Rattle.tx_answers.specs.declared.answers.Look.TheVariants.{Quiet, Busy}
+use Rattle.stm_trace.specs.declared.said.Phase.{Phase}
+use Rattle.stm_trace.specs.declared.said.Phase.TheVariants.{Between, Inside, Closing, Quiet as Quietly}
 use Rattle.stm_trace.specs.declared.said.Said.{Said}
 use Rattle.stm_trace.specs.declared.said.Said.TheVariants.{TryBegin, Reply, Stopped, TryCancel, TryIrrevocable, TryCommit, TryClose, Looked, Installed, Reserved, Idle, Dropped, Reopened}
 use Rattle.stm_trace.specs.Texts.{cause_bytes, stop_bytes, said_bytes}
 use Rattle.stm_trace.specs.Turns.{is_call}
 use Rattle.draw_core.specs.Grammar.{cause_of, operation_of, said_of}
 use Rattle.draw_core.specs.Kinds.{said_kind}
+use Rattle.draw_core.specs.Phases.{may_come, phase_after}
 use Rattle.draw_core.specs.Statements.{CauseHasWords, StopHasWords, SaidHasWords, IsOfMemory}
 
 -- words, each with a space before it
@@ -43,6 +46,8 @@ pub record Reads (said : Said) : Type 0 where
   pub is : said_of words ≡ Some read
   pub label : said_bytes read ≡ said_bytes said
   pub kind : said_kind read ≡ said_kind said
+  pub come : (p : Phase) → may_come p read ≡ may_come p said
+  pub after : (p : Phase) → phase_after p read ≡ phase_after p said
 
 -- an operation's name
 pub record Named (op : Op) : Type 0 where
@@ -207,6 +212,18 @@ stop-reads (ClockFull n) f = record {
 reply-by : (op : Op) (w : List ℕ) (n : ℕ) → number_of w ≡ Some n → operation_of op (w ∷ []) ≡ Some (Reply op n)
 reply-by op w n x = rw x refl
 
+reply-comes : (like op : Op) (n : ℕ) (p : Phase) → may_come p (Reply like n) ≡ may_come p (Reply op n)
+reply-comes like op n Between = refl
+reply-comes like op n Inside = refl
+reply-comes like op n Closing = refl
+reply-comes like op n Quietly = refl
+
+stopped-comes : (like op : Op) (stop : Stop) (p : Phase) → may_come p (Stopped like stop) ≡ may_come p (Stopped op stop)
+stopped-comes like op stop Between = refl
+stopped-comes like op stop Inside = refl
+stopped-comes like op stop Closing = refl
+stopped-comes like op stop Quietly = refl
+
 reply-reads : (op : Op) (n : ℕ) → n < 2 ^ 64 → Named op → Reads (Reply op n)
 reply-reads op n f o = record {
   words = op_name op ∷ decimal n ∷ [];
@@ -216,6 +233,8 @@ reply-reads op n f o = record {
   is = o.step (decimal n ∷ []) ∙ reply-by o.like (decimal n) n (num n f);
   label = ap (λ name. 32 ∷ (name ++ (32 ∷ (decimal n ++ [])))) o.name;
   kind = refl;
+  come = λ p. reply-comes o.like op n p;
+  after = λ p. refl;
 }
 
 stopped-reads : (op : Op) (stop : Stop) → StopReads stop → Named op → Reads (Stopped op stop)
@@ -227,11 +246,13 @@ stopped-reads op stop r o = record {
   is = o.step r.words ∙ r.is o.like;
   label = ap (λ name. 32 ∷ (name ++ stop_bytes stop)) o.name;
   kind = refl;
+  come = λ p. stopped-comes o.like op stop p;
+  after = λ p. refl;
 }
 
 -- answers that are read as they are
 plain : (said : Said) (words : List (List ℕ)) → said_bytes said ≡ spaced_words words → AllVisible words → said_of words ≡ Some said → Reads said
-plain said words bytes visible is = record { words = words; bytes = bytes; visible = visible; read = said; is = is; label = refl; kind = refl }
+plain said words bytes visible is = record { words = words; bytes = bytes; visible = visible; read = said; is = is; label = refl; kind = refl; come = λ p. refl; after = λ p. refl }
 
 -- with a number
 module _ (w : List ℕ) (n : ℕ) (x : number_of w ≡ Some n) where

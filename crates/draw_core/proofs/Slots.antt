@@ -1,10 +1,10 @@
 -- The slots of a page, one after the other.
 use Rattle.std.proofs.Common.{ℕ, zero, suc, ◌≡◌, ◌<◌, ◌≤◌, ◌+◌, ◌-◌, List, [], ◌∷◌, ◌++◌, length, refl, sym, ap, ◌∙◌, arith, append_assoc}
-use Rattle.std.specs.Prelude.{map, take, drop, slice_set, slice_index_or}
+use Rattle.std.specs.Prelude.{map, drop, slice_set, slice_index_or}
 use Rattle.draw_core.specs.declared.row.Row.{Row}
 use Rattle.draw_core.specs.declared.standing.Slot.{Slot}
 use Rattle.draw_core.specs.Shapes.{Box, box_of, boxes_of}
-use Rattle.draw_core.specs.Standing.{Standing, after_row, box_in, in_lane, none_stand, of_lanes, row_in, standing_of, standing_rows}
+use Rattle.draw_core.specs.Standing.{Standing, after_row, in_lane, of_lanes, standing_of}
 
 -- the first of them after the row, the others before it
 abbrev pub after_first : Box → ℕ → List Standing → List Standing

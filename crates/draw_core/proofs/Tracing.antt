@@ -1,6 +1,6 @@
 -- A trace and what follows it are read back.
 use Rattle.std.proofs.Common.{ℕ, ◌≡◌, ◌<◌, ◌≤◌, ◌+◌, ◌^◌, List, [], ◌∷◌, ◌++◌, length, true, false, inl, inr, refl, sym, ap, subst, ◌∙◌, arith, append_assoc, append-nil, length-append}
-use Rattle.std.specs.Prelude.{◌==◌, leb, ltb, Some, Ok, codes, bytes_eq}
+use Rattle.std.specs.Prelude.{◌==◌, leb, ltb, if◌then◌else◌, slice_set, Some, None, Ok, codes, bytes_eq}
 use Rattle.std.specs.Fmt.{decimal}
 use Rattle.std.proofs.lemmas.Bool.Decides.{nat_tests}
 use Rattle.stm_model.specs.declared.config.TheConstants.{MAX_CALLERS}
@@ -12,11 +12,12 @@ use Rattle.stm_text.specs.Numbers.{number_of-decimal}
 use Rattle.stm_text.specs.Reports.{report_bytes, row_lines, memory_lines, IsWord}
 use Rattle.stm_text.specs.Texts.{joined}
 use Rattle.stm_text.specs.WordLaws.{AllVisible, seen, visible-decimal, joined-lacks, words_of-joined, unlines, unlines-lines_of}
-use Rattle.stm_check.specs.Grammar.{report_of}
+use Rattle.stm_check.specs.Grammar.{◌>>=◌, report_of}
 use Rattle.stm_check.specs.Texts.{IsReadable, ReportIsRead}
 use Rattle.stm_check.specs.declared.reading.TheConstants.{MAX_REPORT}
 use Rattle.stm_trace.specs.declared.line.Line.{Line}
 use Rattle.stm_trace.specs.declared.line.Line.TheVariants.{Of, Finish}
+use Rattle.stm_trace.specs.declared.said.Phase.{Phase}
 use Rattle.stm_trace.specs.declared.said.Said.{Said}
 use Rattle.stm_trace.specs.Texts.{said_bytes, line_bytes, trace_bytes}
 use Rattle.draw_core.specs.declared.reading.TheConstants.{MOST_DRAWN}
@@ -25,7 +26,9 @@ use Rattle.draw_core.specs.declared.kind.Kind.{Kind}
 use Rattle.draw_core.specs.Kinds.{said_kind}
 use Rattle.draw_core.specs.Shapes.{Box, line_box, line_boxes}
 use Rattle.draw_core.specs.Steps.{bare, bare_of}
-use Rattle.draw_core.specs.Statements.{LinesFit, LinesHaveWords, IsTail, TraceIsDrawn}
+use Rattle.draw_core.specs.Phases.{first_phases, passed, passed_all, phase_at}
+use Rattle.draw_core.specs.Statements.{LinesFit, LinesHaveWords, IsDrawnAlone, IsTail, TraceIsDrawn}
+use Rattle.draw_core.proofs.Passing.{walks-alone}
 use Rattle.draw_core.proofs.Saying.{spaced_words, Reads, said-reads}
 
 joined-spaced : (w : List ℕ) (ws : List (List ℕ)) → joined (w ∷ ws) ≡ w ++ spaced_words ws
@@ -60,6 +63,7 @@ full-by w (v ∷ ws) other = rw other refl
 pub record LineReads (line : Line) : Type 0 where
   pub got : Line
   pub box : (number : ℕ) → line_box number (bare got) ≡ line_box number (bare line)
+  pub pass : (phases : List Phase) → passed phases got ≡ passed phases line
   pub step : (told : List Line) (k : ℕ) (rest : List ℕ) → read told k (lines_of (line_bytes line ++ rest)) ≡ read (told ++ got ∷ []) (k + 1) (lines_of rest)
 
 regroup : (d s rest : List ℕ) → (d ++ (s ++ 10 ∷ [])) ++ rest ≡ (d ++ s) ++ 10 ∷ rest
@@ -97,10 +101,16 @@ module _ (n : ℕ) (said : Said) (few : n < MAX_CALLERS) (r : Reads said) where
   cut : (rest : List ℕ) → line_bytes (Of n said) ++ rest ≡ joined (decimal n ∷ r.words) ++ 10 ∷ rest
   cut rest = regroup (decimal n) (said_bytes said) rest ∙ ap (λ t. t ++ 10 ∷ rest) (ap (λ t. decimal n ++ t) r.bytes ∙ sym (joined-spaced (decimal n) r.words))
 
+  pass-same : (phases : List Phase) → passed phases (Of n r.read) ≡ passed phases (Of n said)
+  pass-same phases =
+      let at : Phase = phase_at phases n in
+      (λ i. if leb (length phases) n then None else (if r.come at i then Some (slice_set phases n (r.after at i)) else None))
+
   turn-reads : LineReads (Of n said)
   turn-reads = record {
     got = Of n r.read;
     box = λ number. box-same n number (said_kind r.read) (said_kind said) (said_bytes r.read) (said_bytes said) r.kind r.label;
+    pass = pass-same;
     step = λ told k rest.
         ap (λ t. read told k (lines_of t)) (cut rest)
         ∙ (ap (read told k) (lines_of-first (joined (decimal n ∷ r.words)) rest (joined-lacks (decimal n ∷ r.words) visible))
@@ -114,6 +124,7 @@ finish-reads : LineReads Finish
 finish-reads = record {
   got = Finish;
   box = λ number. refl;
+  pass = λ phases. refl;
   step = λ told k rest. ap (read told k) (finish-lines rest) ∙ read-line told k (codes "finish") Finish (lines_of rest) refl refl refl;
 }
 
@@ -122,6 +133,7 @@ pub record TraceReads (lines told : List Line) (k : ℕ) (tail : List ℕ) : Typ
   pub got : List Line
   pub at : ℕ
   pub boxes : (number : ℕ) → line_boxes number (bare_of got) ≡ line_boxes number (bare_of lines)
+  pub pass : (phases : List Phase) → passed_all phases got ≡ passed_all phases lines
   pub is : read told k (lines_of (trace_bytes lines ++ tail)) ≡ read (told ++ got) at (lines_of tail)
 
 cons-same : (b c : Box) (bs cs : List Box) → b ≡ c → bs ≡ cs → b ∷ bs ≡ c ∷ cs
@@ -132,13 +144,14 @@ one-more l ls told k tail one rest = record {
   got = one.got ∷ rest.got;
   at = rest.at;
   boxes = λ number. cons-same (line_box number (bare one.got)) (line_box number (bare l)) (line_boxes (number + 1) (bare_of rest.got)) (line_boxes (number + 1) (bare_of ls)) (one.box number) (rest.boxes (number + 1));
+  pass = λ phases. (λ i. one.pass phases i >>= λ next. rest.pass next i);
   is = ap (λ t. read told k (lines_of t)) (append_assoc (line_bytes l) (trace_bytes ls) tail)
       ∙ (one.step told k (trace_bytes ls ++ tail) ∙ (rest.is ∙ ap (λ t. read t rest.at (lines_of tail)) (append_assoc told (one.got ∷ []) rest.got)));
 }
 
 trace-reads : (lines : List Line) → LinesFit lines → LinesHaveWords lines → (told : List Line) (k : ℕ) (tail : List ℕ) → TraceReads lines told k tail
 unfolding finish-reads
-trace-reads [] f w told k tail = record { got = []; at = k; boxes = λ number. refl; is = ap (λ t. read t k (lines_of tail)) (sym (append-nil told)) }
+trace-reads [] f w told k tail = record { got = []; at = k; boxes = λ number. refl; pass = λ phases. refl; is = ap (λ t. read t k (lines_of tail)) (sym (append-nil told)) }
 trace-reads (Of n said ∷ ls) f w told k tail =
     let one = turn-reads n said f.0 (said-reads said w.0 f.1) in
     one-more (Of n said) ls told k tail one (trace-reads ls f.2 w.1 (told ++ one.got ∷ []) (k + 1) tail)
@@ -190,3 +203,14 @@ pub trace-is-drawn : ReportIsRead → TraceIsDrawn
 trace-is-drawn law lines tail fits words end le =
     let r = trace-reads lines fits words [] 1 tail in
     (r.got, short (trace_bytes lines ++ tail) le ∙ (r.is ∙ tail-read law r.got r.at tail end (tail-short (trace_bytes lines) tail le)), r.boxes 1)
+
+-- where each of the lines may come, so may each that is read
+pub trace-is-walked : ReportIsRead → (lines : List Line) (tail : List ℕ) → LinesFit lines → LinesHaveWords lines → IsTail tail → length (trace_bytes lines ++ tail) ≤ MOST_DRAWN
+    → (last : List Phase) → passed_all first_phases lines ≡ Some last → IsDrawnAlone (trace_bytes lines ++ tail) lines
+trace-is-walked law lines tail fits words end le last pass =
+    let r = trace-reads lines fits words [] 1 tail in (
+      r.got,
+      short (trace_bytes lines ++ tail) le ∙ (r.is ∙ tail-read law r.got r.at tail end (tail-short (trace_bytes lines) tail le)),
+      r.boxes 1,
+      walks-alone r.got [] 1 first_phases last (r.pass first_phases ∙ pass),
+    )

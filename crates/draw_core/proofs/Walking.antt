@@ -13,7 +13,7 @@ use Rattle.draw_core.specs.declared.step.Deed.{Deed}
 use Rattle.draw_core.specs.declared.step.Step.{Step}
 use Rattle.draw_core.specs.declared.turn.Turn.{Turn}
 use Rattle.draw_core.specs.Turns.{Stand, past_next, turn_of, after, told_by}
-use Rattle.draw_core.specs.Walks.{first_from, stand_at, deed_of, turned, goes, walked, opened, stand_of, stands_of, AreWithin}
+use Rattle.draw_core.specs.Walks.{first_from, stand_at, deed_of, turned, goes, opened, stand_of, stands_of, AreWithin}
 
 pub length-stands : (items : List Item) (n : ℕ) (cs : List Cursor) → length (stands_of items n cs) ≡ length cs
 length-stands items n [] = refl

@@ -1,31 +1,33 @@
--- WHAT THE WORDS OF A COMMAND LINE ASK FOR: `stm_draw [--page P] [FILE [TRACE]]`, or a call for help.
-use Rattle.std.specs.Prelude.{ℕ, leb, ltb, ◌||◌, Bool, true, false, List, [], ◌∷◌, take, if◌then◌else◌, Option, Some, None, is_some, is_none, option_map, map, codes, bytes_eq}
+-- WHAT THE WORDS OF A COMMAND LINE ASK FOR: `stm_draw [--lines A..B] [--callers N,N..] [FILE [TRACE]]`, or a call for help.
+use Rattle.std.specs.Prelude.{ℕ, ◌||◌, Bool, true, false, List, [], ◌∷◌, take, if◌then◌else◌, Option, Some, None, is_some, is_none, option_map, map, codes, bytes_eq}
 use Rattle.std.specs.Borrow.{Bor}
-use Rattle.stm_text.specs.Lines.{number_of}
 use Rattle.stm_check.specs.Grammar.{◌>>=◌}
 use Rattle.draw_core.specs.declared.asking.Ask.{Ask}
 use Rattle.draw_core.specs.declared.asking.Topic.{Topic}
 use Rattle.draw_core.specs.declared.asking.Topic.TheVariants.{All, Version}
-use Rattle.draw_core.specs.declared.page.TheConstants.{MOST_PAGES}
+use Rattle.draw_core.specs.declared.asking.Waits.{Waits}
+use Rattle.draw_core.specs.declared.asking.Waits.TheVariants.{ForNone, ForLines, ForCallers}
+use Rattle.draw_core.specs.declared.part.Callers.{Callers}
+use Rattle.draw_core.specs.declared.part.Lines.{Lines}
+use Rattle.draw_core.specs.declared.part.Part.{Part}
+use Rattle.draw_core.specs.Chosen.{callers_in, lines_in}
 
 abbrev pub Text : Type 0
 Text = List ℕ
 
--- the page that is named, the files, and whether the last word was `--page`
+-- the part that is named, the files, and the option whose value comes next
 pub record Asked : Type 0 where
-  pub page : Option ℕ
+  pub part : Part
   pub first : Option Text
   pub second : Option Text
-  pub waits : Bool
+  pub waits : Waits
 
 abbrev pub is_option : Text → Bool
 is_option word = bytes_eq (take 1 word) (codes "-")
 
-abbrev pub in_pages : ℕ → Option ℕ
-in_pages page = if ltb page 1 || ltb MOST_PAGES page then None else Some page
-
-abbrev pub page_of : Text → Option ℕ
-page_of word = number_of word >>= in_pages
+abbrev pub is_waiting : Waits → Bool
+is_waiting ForNone = false
+is_waiting waits = true
 
 -- a file's name
 abbrev pub named : Asked → Text → Option Asked
@@ -33,12 +35,27 @@ named a word =
     if is_none a.first then Some (record a { first = Some word }) else
     (if is_none a.second then Some (record a { second = Some word }) else None)
 
--- one word more
-abbrev pub taken : Asked → Text → Option Asked
-taken a word =
-    if a.waits then (page_of word >>= λ page. Some (record a { page = Some page; waits = false })) else
-    (if bytes_eq word (codes "--page") then (if is_some a.page then None else Some (record a { waits = true })) else
+-- a word that may come where no value is waited for: each option comes once at most
+abbrev pub opened : Asked → Text → Option Asked
+opened a word =
+    if bytes_eq word (codes "--lines") then (if is_some a.part.lines then None else Some (record a { waits = ForLines })) else
+    (if bytes_eq word (codes "--callers") then (if is_some a.part.callers then None else Some (record a { waits = ForCallers })) else
     (if is_option word then None else named a word))
+
+abbrev pub with_lines : Asked → Lines → Asked
+with_lines a r = record a { part = record a.part { lines = Some r }; waits = ForNone }
+
+abbrev pub with_callers : Asked → Callers → Asked
+with_callers a cs = record a { part = record a.part { callers = Some cs }; waits = ForNone }
+
+-- one word more
+abbrev pub taken_by : Waits → Asked → Text → Option Asked
+taken_by ForLines a word = lines_in word >>= λ r. Some (with_lines a r)
+taken_by ForCallers a word = callers_in word >>= λ cs. Some (with_callers a cs)
+taken_by ForNone a word = opened a word
+
+abbrev pub taken : Asked → Text → Option Asked
+taken a word = taken_by a.waits a word
 
 abbrev pub taken_all : Option Asked → List Text → Option Asked
 taken_all a [] = a
@@ -46,20 +63,15 @@ taken_all None (word ∷ words) = None
 taken_all (Some a) (word ∷ words) = taken_all (taken a word) words
 
 abbrev pub nothing : Asked
-nothing = record { page = None; first = None; second = None; waits = false }
+nothing = record { part = record { lines = None; callers = None }; first = None; second = None; waits = ForNone }
 
 abbrev pub complete : Asked → Option Asked
-complete a = if a.waits then None else Some a
+complete a = if is_waiting a.waits then None else Some a
 
 -- the words, the first of them the program's name
 abbrev pub asked : List Text → Option Asked
 asked [] = None
 asked (name ∷ words) = taken_all (Some nothing) words >>= complete
-
--- the page is the first where none is named
-abbrev pub page_in : Option ℕ → ℕ
-page_in None = 1
-page_in (Some page) = page
 
 -- a word alone asks for help
 abbrev pub topic_of : Text → Option Topic
@@ -78,4 +90,4 @@ abbrev pub texts_of : List (Bor (List ℕ)) → List Text
 texts_of words = map (λ w. w.now) words
 
 abbrev pub ask_of : Ask → Asked
-ask_of a = record { page = a.page; first = option_map (λ w. w.now) a.first; second = option_map (λ w. w.now) a.second; waits = a.waits }
+ask_of a = record { part = a.part; first = option_map (λ w. w.now) a.first; second = option_map (λ w. w.now) a.second; waits = a.waits }

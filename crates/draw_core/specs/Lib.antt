@@ -2,6 +2,7 @@ pub mod Grammar
 pub mod Kinds
 pub mod Steps
 pub mod Turns
+pub mod Phases
 pub mod Walks
 pub mod Misfits
 pub mod Whole
@@ -9,10 +10,11 @@ pub mod Labels
 pub mod Shapes
 pub mod Rows
 pub mod Standing
-pub mod Pages
+pub mod Parts
 pub mod Shown
 pub mod Texts
 pub mod Markup
 pub mod Outcomes
 pub mod Statements
+pub mod Chosen
 pub mod Asking

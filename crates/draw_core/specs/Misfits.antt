@@ -3,7 +3,10 @@ use Rattle.std.specs.Prelude.{ℕ, List, length, ltb, Option, Some, None, is_som
 use Rattle.stm_script.specs.declared.op.Op.{Op}
 use Rattle.stm_script.specs.declared.workload.Version.{Version}
 use Rattle.draw_core.specs.declared.misfit.Misfit.{Misfit}
-use Rattle.draw_core.specs.declared.misfit.Misfit.TheVariants.{NoCaller, Before, Over, Next, Done}
+use Rattle.draw_core.specs.declared.misfit.Misfit.TheVariants.{NoCaller, Before, Over, Next, Done, At}
+use Rattle.stm_trace.specs.declared.said.Phase.{Phase}
+use Rattle.stm_trace.specs.declared.said.Phase.TheVariants.{Between, Inside}
+use Rattle.draw_core.specs.Phases.{phase_at}
 use Rattle.draw_core.specs.Turns.{Stand, is_over, next_of}
 use Rattle.stm_script.specs.declared.workload.Workload.{Workload}
 use Rattle.draw_core.specs.declared.cursor.Cursor.{Cursor}
@@ -19,7 +22,13 @@ misfit_at version at = by_next version (next_of at.attempt) at
 abbrev pub misfit_in : Version → List Stand → ℕ → Misfit
 misfit_in version stands n = if ltb n (length stands) then misfit_at version (stand_at stands n) else NoCaller (length stands)
 
--- by the cursors of a workload's callers; without a workload each line may come
-abbrev pub misfit_of : Option Workload → List Cursor → ℕ → Misfit
-misfit_of None cursors n = Over
-misfit_of (Some w) cursors n = misfit_in w.header.version (stands_of w.items 0 cursors) n
+-- a caller that has closed the gate stands nowhere in a script
+abbrev pub misfit_by : Phase → Misfit → Misfit
+misfit_by Between m = m
+misfit_by Inside m = m
+misfit_by phase m = At phase
+
+-- by the cursors of a workload's callers, and by their phases alone where there is no workload
+abbrev pub misfit_of : Option Workload → List Cursor → List Phase → ℕ → Misfit
+misfit_of None cursors phases n = At (phase_at phases n)
+misfit_of (Some w) cursors phases n = misfit_by (phase_at phases n) (misfit_in w.header.version (stands_of w.items 0 cursors) n)

@@ -1,17 +1,18 @@
 -- What a call of `draw` comes to.
-use Rattle.std.specs.Prelude.{ℕ, ◌≡◌, ◌≤◌, ◌<◌, List, ◌++◌, length, Option, Some, None, Ok, Err, codes}
+use Rattle.std.specs.Prelude.{ℕ, ◌≡◌, ◌≤◌, List, ◌++◌, length, Option, Some, None, Ok, Err, codes}
 use Rattle.std.specs.Fmt.{decimal}
 use Rattle.stm_io.specs.Ends.{Rose, Took, TookSome, IsText, Gained, GainedSome}
 use Rattle.draw_core.specs.declared.status.Status.{Status}
-use Rattle.draw_core.specs.declared.status.Status.TheVariants.{Ok as Done, Help, Usage, Refused, ReadFault, WriteFault, Memory, NoPage}
+use Rattle.draw_core.specs.declared.status.Status.TheVariants.{Ok as Done, Help, Usage, Refused, ReadFault, WriteFault, Memory, NoPicture}
 use Rattle.draw_core.specs.declared.step.Step.{Step}
 use Rattle.draw_core.specs.Markup.{IsMarkup}
 use Rattle.draw_core.specs.declared.asking.Topic.{Topic}
 use Rattle.draw_core.specs.declared.asking.Topic.TheVariants.{All, Version}
 use Rattle.draw_core.specs.declared.picture.Leaf.{Leaf}
 use Rattle.draw_core.specs.declared.style.TheConstants.{HELP}
-use Rattle.draw_core.specs.Asking.{Asked, asked, help_of, page_in}
-use Rattle.draw_core.specs.Pages.{own_rows, pages_of, rows_above}
+use Rattle.draw_core.specs.Asking.{Asked, asked, help_of}
+use Rattle.draw_core.specs.Parts.{lanes_with, own_rows, rows_above, IsFew, IsUnfit}
+use Rattle.draw_core.specs.declared.part.Part.{Part}
 use Rattle.draw_core.specs.Rows.{rows_of}
 use Rattle.draw_core.specs.Shapes.{Box, line_boxes}
 use Rattle.draw_core.specs.Texts.{svg_of}
@@ -25,10 +26,10 @@ exit_code_of (Refused line) = 2
 exit_code_of ReadFault = 3
 exit_code_of WriteFault = 4
 exit_code_of Memory = 5
-exit_code_of (NoPage pages) = 7
+exit_code_of (NoPicture boxes) = 7
 
 abbrev pub usage_line : List ℕ
-usage_line = codes "usage: stm_draw [--page P] [FILE [TRACE]]\n"
+usage_line = codes "usage: stm_draw [--lines A..B] [--callers N,N..] [FILE [TRACE]]\n"
 
 abbrev pub read_fault_line : List ℕ
 read_fault_line = codes "read fault\n"
@@ -36,45 +37,53 @@ read_fault_line = codes "read fault\n"
 abbrev pub refused_line : ℕ → List ℕ
 refused_line line = codes "refused " ++ (decimal line ++ codes "\n")
 
-abbrev pub pages_line : ℕ → List ℕ
-pages_line pages = codes "pages " ++ (decimal pages ++ codes "\n")
+abbrev pub boxes_line : ℕ → List ℕ
+boxes_line boxes = codes "boxes " ++ (decimal boxes ++ codes "\n")
 
 -- the rows of a text's trace: a box for each line, but one for idle turns of a caller that follow each other
 abbrev pub rows_in : List Step → List Box
 rows_in steps = rows_of (line_boxes 1 steps)
 
--- how many pages they have
-abbrev pub pages_in : List Step → ℕ
-pages_in steps = pages_of (length (rows_in steps))
+-- the boxes of the part, and what the picture has: those, below the rows before them that still stand
+abbrev pub boxes_in : Part → List Step → List Box
+boxes_in part steps = own_rows part (rows_in steps)
 
--- what the picture of a page has: its own rows, below those above it that still stand
-abbrev pub page_boxes : ℕ → List Step → List Box
-page_boxes page steps = rows_above page (rows_in steps) ++ own_rows page (rows_in steps)
+abbrev pub page_boxes : Part → List Step → List Box
+page_boxes part steps = rows_above part (rows_in steps) ++ boxes_in part steps
 
-abbrev pub leaf_of : ℕ → List Step → Leaf
-leaf_of page steps = record { page = page; pages = pages_in steps; above = length (rows_above page (rows_in steps)) }
+-- where these rows stand above
+abbrev pub leaf_by : Part → List Box → Leaf
+leaf_by part above = record { lines = part.lines; callers = lanes_with part.callers above; above = length above }
 
--- WHAT IS SAID OF A PAGE of these steps: its picture, text that is markup; or how many pages there are, where they are fewer
-pub record IsDrawn (steps : List Step) (page : ℕ) (said : List ℕ) : Type 0 where
-  pub there : page ≤ pages_in steps
-  pub is : said ≡ svg_of (leaf_of page steps) (page_boxes page steps)
+abbrev pub leaf_of : Part → List Step → Leaf
+leaf_of part steps = leaf_by part (rows_above part (rows_in steps))
+
+-- WHAT IS SAID OF A PART of these steps: its picture, text that is markup, of 2,000 boxes at most where no lines are named; or how many boxes it would have, where they are more, or where lines are named and have none
+pub record IsDrawn (steps : List Step) (part : Part) (said : List ℕ) : Type 0 where
+  pub few : IsFew part.lines (length (boxes_in part steps))
+  pub is : said ≡ svg_of (leaf_of part steps) (page_boxes part steps)
   pub markup : IsMarkup said
 
-abbrev pub SaidOfPage : List Step → ℕ → Status → List ℕ → Type 0
-SaidOfPage steps page Done said = IsDrawn steps page said
-SaidOfPage steps page (NoPage pages) said = (pages ≡ pages_in steps) × (pages < page) × (said ≡ pages_line pages)
-SaidOfPage steps page status said = ⊥
+pub record IsNotDrawn (steps : List Step) (part : Part) (boxes : ℕ) (said : List ℕ) : Type 0 where
+  pub count : boxes ≡ length (boxes_in part steps)
+  pub unfit : IsUnfit part.lines boxes
+  pub is : said ≡ boxes_line boxes
+
+abbrev pub SaidOfPart : List Step → Part → Status → List ℕ → Type 0
+SaidOfPart steps part Done said = IsDrawn steps part said
+SaidOfPart steps part (NoPicture boxes) said = IsNotDrawn steps part boxes said
+SaidOfPart steps part status said = ⊥
 
 -- the text has a trace, alone or below its workload, of these steps
-abbrev pub SaidOfText : List ℕ → ℕ → Status → List ℕ → Type 0
-SaidOfText text page status said = (steps : List Step) × (steps_of text ≡ Ok steps) × SaidOfPage steps page status said
+abbrev pub SaidOfText : List ℕ → Part → Status → List ℕ → Type 0
+SaidOfText text part status said = (steps : List Step) × (steps_of text ≡ Ok steps) × SaidOfPart steps part status said
 
--- what is said of a page of a text that was read, or its first line at fault
-abbrev pub SaidOf : List ℕ → ℕ → Status → List ℕ → Type 0
-SaidOf text page Done said = SaidOfText text page Done said
-SaidOf text page (NoPage pages) said = SaidOfText text page (NoPage pages) said
-SaidOf text page (Refused line) said = (steps_of text ≡ Err line) × (said ≡ refused_line line)
-SaidOf text page status said = ⊥
+-- what is said of a part of a text that was read, or its first line at fault
+abbrev pub SaidOf : List ℕ → Part → Status → List ℕ → Type 0
+SaidOf text part Done said = SaidOfText text part Done said
+SaidOf text part (NoPicture boxes) said = SaidOfText text part (NoPicture boxes) said
+SaidOf text part (Refused line) said = (steps_of text ≡ Err line) × (said ≡ refused_line line)
+SaidOf text part status said = ⊥
 
 -- the help that is asked for
 abbrev pub help_text : Topic → List ℕ
@@ -104,19 +113,19 @@ module _ {S : Type 0} (left : S → Option (List ℕ)) (faults : S → ℕ) (sou
     pub calm : faults source' ≡ faults source
     pub of : Of text
 
-  -- what is to be written by each status of a page of what was read, and why
-  abbrev pub SaysOf : ℕ → Status → List ℕ → Type 0
-  SaysOf page Done said = HasRead (λ text. SaidOf text page Done said)
-  SaysOf page (NoPage pages) said = HasRead (λ text. SaidOf text page (NoPage pages) said)
-  SaysOf page (Refused line) said = HasRead (λ text. SaidOf text page (Refused line) said)
-  SaysOf page ReadFault said = Unread × (said ≡ read_fault_line)
-  SaysOf page status said = ⊥
+  -- what is to be written by each status of a part of what was read, and why
+  abbrev pub SaysOf : Part → Status → List ℕ → Type 0
+  SaysOf part Done said = HasRead (λ text. SaidOf text part Done said)
+  SaysOf part (NoPicture boxes) said = HasRead (λ text. SaidOf text part (NoPicture boxes) said)
+  SaysOf part (Refused line) said = HasRead (λ text. SaidOf text part (Refused line) said)
+  SaysOf part ReadFault said = Unread × (said ≡ read_fault_line)
+  SaysOf part status said = ⊥
 
-  -- by the help that the words ask for, or else the page: words ask for one thing at most
+  -- by the help that the words ask for, or else the part: words ask for one thing at most
   abbrev pub says_by : Option Topic → Option Asked → Status → List ℕ → Type 0
   says_by (Some topic) a status said = IsUntouched × (status ≡ Help) × (said ≡ help_text topic)
   says_by None None status said = IsUntouched × (status ≡ Usage) × (said ≡ usage_line)
-  says_by None (Some a) status said = SaysOf (page_in a.page) status said
+  says_by None (Some a) status said = SaysOf a.part status said
 
   -- what is to be written by each status, and why
   abbrev pub Says : List (List ℕ) → Status → List ℕ → Type 0
@@ -155,7 +164,7 @@ module _ {S : Type 0} (left : S → Option (List ℕ)) (faults : S → ℕ) (sou
     IsOutcome ReadFault = Wrote ReadFault
     IsOutcome WriteFault = WroteSome
     IsOutcome Memory = WroteNothing
-    IsOutcome (NoPage pages) = Wrote (NoPage pages)
+    IsOutcome (NoPicture boxes) = Wrote (NoPicture boxes)
 
     -- the exit status is that of what came
     pub record Exits (status : Status) (exit : ℕ) : Type 0 where

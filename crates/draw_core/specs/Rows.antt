@@ -1,5 +1,5 @@
 -- THE ROWS OF A PICTURE: a box for each line of the trace, but one for idle turns of a caller that follow each other.
-use Rattle.std.specs.Prelude.{ℕ, ◌+◌, ◌==◌, Bool, ◌&&◌, if◌then◌else◌, List, [], ◌∷◌}
+use Rattle.std.specs.Prelude.{◌+◌, ◌==◌, Bool, ◌&&◌, if◌then◌else◌, List, [], ◌∷◌}
 use Rattle.draw_core.specs.Kinds.{is_idle}
 use Rattle.draw_core.specs.Shapes.{Box}
 

@@ -1,5 +1,5 @@
 -- WHAT IS SO OF EACH TEXT THAT `step` WRITES.
-use Rattle.std.specs.Prelude.{ℕ, ◌≡◌, ◌<◌, ◌≤◌, ◌⊎◌, false, List, [], ◌∷◌, ◌++◌, length, codes, Ok}
+use Rattle.std.specs.Prelude.{ℕ, ◌≡◌, ◌<◌, ◌≤◌, ◌⊎◌, false, List, [], ◌∷◌, ◌++◌, length, codes, None, Ok}
 use Rattle.std.specs.Fmt.{decimal}
 use Rattle.stm_model.specs.declared.config.TheConstants.{MAX_CALLERS}
 use Rattle.stm_model.specs.declared.stop.Cause.{Cause}
@@ -9,16 +9,16 @@ use Rattle.stm_model.specs.declared.stop.Stop.TheVariants.{Conflict, Full, Clock
 use Rattle.stm_script.specs.declared.report.Report.{Report}
 use Rattle.stm_text.specs.Reports.{report_bytes, IsWord}
 use Rattle.stm_check.specs.Texts.{IsReadable}
-use Rattle.tx_answers.specs.declared.answers.Begin.TheVariants.{Begun, Closed, Held, ClockFull}
-use Rattle.tx_answers.specs.declared.answers.Cancel.TheVariants.{Cancelled, Irrevocable}
+use Rattle.tx_answers.specs.declared.answers.Begin.TheVariants.{Closed, Held, ClockFull}
+use Rattle.tx_answers.specs.declared.answers.Cancel.TheVariants.{Cancelled}
 use Rattle.tx_answers.specs.declared.answers.CloseGate.TheVariants.{Closed, Taken}
 use Rattle.tx_answers.specs.declared.answers.Commit.TheVariants.{Committed, ReadOnly, Conflict, Again, ClockFull}
 use Rattle.tx_answers.specs.declared.answers.Irrev.TheVariants as irrevs
-use Rattle.tx_answers.specs.declared.answers.Look.TheVariants.{Quiet, Busy}
+use Rattle.tx_answers.specs.declared.answers.Look.TheVariants.{Busy}
 use Rattle.stm_trace.specs.declared.line.Line.{Line}
 use Rattle.stm_trace.specs.declared.line.Line.TheVariants.{Of, Finish}
 use Rattle.stm_trace.specs.declared.said.Said.{Said}
-use Rattle.stm_trace.specs.declared.said.Said.TheVariants.{TryBegin, Reply, Stopped, TryCancel, TryIrrevocable, TryCommit, TryClose, Looked, Installed, Reserved, Idle, Dropped, Reopened}
+use Rattle.stm_trace.specs.declared.said.Said.TheVariants.{TryBegin, Reply, Stopped, TryCancel, TryIrrevocable, TryCommit, TryClose, Looked, Reserved}
 use Rattle.stm_script.specs.declared.workload.Workload.{Workload}
 use Rattle.stm_trace.specs.Fits.{TraceFits, TraceFitsSoFar}
 use Rattle.stm_trace.specs.Texts.{trace_bytes}
@@ -27,6 +27,7 @@ use Rattle.draw_core.specs.declared.reading.TheConstants.{MOST_DRAWN}
 use Rattle.draw_core.specs.Grammar.{trace_of}
 use Rattle.draw_core.specs.Shapes.{line_boxes}
 use Rattle.draw_core.specs.Steps.{bare_of}
+use Rattle.draw_core.specs.Walks.{told_steps}
 
 -- the numbers of an answer are words of the machine, as in each line that code holds
 
@@ -88,6 +89,10 @@ IsTail text = ((r : Report) × IsReadable r × (text ≡ report_bytes r)) ⊎ ((
 abbrev pub IsDrawnAs : List ℕ → List Line → Type 0
 IsDrawnAs text lines = (told : List Line) × (trace_of text ≡ Ok told) × (line_boxes 1 (bare_of told) ≡ line_boxes 1 (bare_of lines))
 
+-- and alone, below no workload, each of its lines may come
+abbrev pub IsDrawnAlone : List ℕ → List Line → Type 0
+IsDrawnAlone text lines = (told : List Line) × (trace_of text ≡ Ok told) × (line_boxes 1 (bare_of told) ≡ line_boxes 1 (bare_of lines)) × (told_steps None 0 told ≡ Ok (bare_of told))
+
 abbrev pub TraceIsDrawn : Type 0
 TraceIsDrawn = (lines : List Line) (tail : List ℕ) → LinesFit lines → LinesHaveWords lines → IsTail tail → length (trace_bytes lines ++ tail) ≤ MOST_DRAWN → IsDrawnAs (trace_bytes lines ++ tail) lines
 
@@ -97,4 +102,4 @@ IsTraceOf w lines = ((r : Report) × TraceFits w lines r) ⊎ ((clock : ℕ) × 
 
 abbrev pub StepIsDrawn : Type 0
 StepIsDrawn = (w : Workload) (lines : List Line) (tail : List ℕ) → w.header.callers ≤ MAX_CALLERS → IsTraceOf w lines → LinesHaveWords lines → IsTail tail
-    → length (trace_bytes lines ++ tail) ≤ MOST_DRAWN → IsDrawnAs (trace_bytes lines ++ tail) lines
+    → length (trace_bytes lines ++ tail) ≤ MOST_DRAWN → IsDrawnAlone (trace_bytes lines ++ tail) lines

@@ -9,7 +9,10 @@ use Rattle.draw_core.specs.declared.shape.Shape.TheVariants.{Lane, Closed, Insta
 use Rattle.draw_core.specs.declared.shape.Layer.{Layer}
 use Rattle.draw_core.specs.declared.shape.Layer.TheVariants.{Lanes, Closings, Installs as Installings, Attempts, Promotions, Clocks}
 use Rattle.draw_core.specs.declared.style.TheConstants.{STYLE, LEGEND}
+use Rattle.draw_core.specs.declared.part.Callers.{Callers}
+use Rattle.draw_core.specs.declared.part.Lines.{Lines}
 use Rattle.draw_core.specs.Kinds.{class_of, is_finish}
+use Rattle.draw_core.specs.Parts.{below}
 use Rattle.draw_core.specs.Shapes.{Box, shape_at}
 use Rattle.draw_core.specs.Shown.{words_bytes, shown_words}
 
@@ -32,8 +35,13 @@ abbrev pub close_bytes : List ℕ
 close_bytes = codes "</text>\n"
 
 -- a lane is 216 pixels wide, after 138 for the rows' numbers and the clock; a row is 24 high, after 44 for the heads, which stand once more above every fortieth
-abbrev pub left : ℕ → ℕ
-left lane = 138 + lane * 216
+-- lanes of callers that aren't drawn are left out
+abbrev pub column : Option Callers → ℕ → ℕ
+column None lane = lane
+column (Some cs) lane = below cs.chosen lane
+
+abbrev pub left : Sheet → ℕ → ℕ
+left s lane = 138 + column s.leaf.callers lane * 216
 
 abbrev pub top : ℕ → ℕ
 top row = 44 + (row + row / 40) * 24
@@ -42,12 +50,12 @@ abbrev pub tall : ℕ → ℕ → ℕ
 tall from more = 22 + (top (from + more) - top from)
 
 -- how many lanes the boxes lie in
-abbrev pub lanes_of : List Box → ℕ
-lanes_of [] = 0
-lanes_of (b ∷ bs) = max (b.lane + 1) (lanes_of bs)
+abbrev pub lanes_of : Option Callers → List Box → ℕ
+lanes_of callers [] = 0
+lanes_of callers (b ∷ bs) = max (column callers b.lane + 1) (lanes_of callers bs)
 
 abbrev pub sheet_of : Leaf → List Box → Sheet
-sheet_of leaf bs = record { lanes = lanes_of bs; rows = length bs; leaf = leaf }
+sheet_of leaf bs = record { lanes = lanes_of leaf.callers bs; rows = length bs; leaf = leaf }
 
 -- where the lanes end
 abbrev pub edge : Sheet → ℕ
@@ -58,17 +66,17 @@ abbrev pub deep : Sheet → ℕ
 deep s = s.rows + s.rows / 40
 
 -- the head of a lane; and above each of so many blocks of forty rows
-unfoldable pub head_at : ℕ → ℕ → List ℕ
-head_at lane y = open_bytes (codes "head") (codes "words") (left lane + 108) y [] ++ (codes "caller " ++ (decimal lane ++ close_bytes))
+unfoldable pub head_at : Sheet → ℕ → ℕ → List ℕ
+head_at s lane y = open_bytes (codes "head") (codes "words") (left s lane + 108) y [] ++ (codes "caller " ++ (decimal lane ++ close_bytes))
 
-abbrev pub heads_bytes : ℕ → ℕ → List ℕ
-heads_bytes lane zero = []
-heads_bytes lane (suc blocks) = heads_bytes lane blocks ++ head_at lane (top ((blocks + 1) * 40) - 8)
+abbrev pub heads_bytes : Sheet → ℕ → ℕ → List ℕ
+heads_bytes s lane zero = []
+heads_bytes s lane (suc blocks) = heads_bytes s lane blocks ++ head_at s lane (top ((blocks + 1) * 40) - 8)
 
 unfoldable pub lane_bytes : Sheet → ℕ → List ℕ
 lane_bytes s lane =
-    rect_bytes (codes "lane") (codes "shape") (left lane + 2) 36 212 (deep s * 24 + 16)
-    ++ (head_at lane 28 ++ heads_bytes lane ((s.rows - 1) / 40))
+    rect_bytes (codes "lane") (codes "shape") (left s lane + 2) 36 212 (deep s * 24 + 16)
+    ++ (head_at s lane 28 ++ heads_bytes s lane ((s.rows - 1) / 40))
 
 -- a time, which ends before the axis, and whose number is shortened as that of a box
 unfoldable pub clock_bytes : ℕ → ℕ → List ℕ
@@ -84,8 +92,8 @@ shape_bytes s (Closed lane from more) =
 shape_bytes s (Installed row alg) =
     rect_bytes (codes "installed") (codes "shape") 130 (top row + 23) (s.lanes * 216 + 16) 2
     ++ (open_bytes (codes "side") (codes "words") (edge s + 14) (top row + 28) [] ++ (alg_name alg ++ codes " from here</text>\n"))
-shape_bytes s (Attempt lane from more kind) = rect_bytes (codes "attempt") (class_of kind) (left lane + 4) (top from + 1) 208 (tall from more)
-shape_bytes s (Irrevocable lane from more) = rect_bytes (codes "sure") (codes "shape") (left lane + 4) (top from + 1) 6 (tall from more)
+shape_bytes s (Attempt lane from more kind) = rect_bytes (codes "attempt") (class_of kind) (left s lane + 4) (top from + 1) 208 (tall from more)
+shape_bytes s (Irrevocable lane from more) = rect_bytes (codes "sure") (codes "shape") (left s lane + 4) (top from + 1) 6 (tall from more)
 shape_bytes s (Clock row time) = clock_bytes row time
 
 abbrev pub part_bytes : Sheet → Option Shape → List ℕ
@@ -103,7 +111,7 @@ squeezed words = if ltb 29 (length words) then codes " textLength='184' lengthAd
 
 -- a box lies in its lane; the line that ends the schedule goes across all
 unfoldable pub box_rect : Sheet → ℕ → Box → List ℕ
-box_rect s row b = if is_finish b.kind then rect_bytes (codes "box") (class_of b.kind) 134 (top row + 3) (s.lanes * 216 + 8) 18 else rect_bytes (codes "box") (class_of b.kind) (left b.lane + 14) (top row + 3) 194 18
+box_rect s row b = if is_finish b.kind then rect_bytes (codes "box") (class_of b.kind) 134 (top row + 3) (s.lanes * 216 + 8) 18 else rect_bytes (codes "box") (class_of b.kind) (left s b.lane + 14) (top row + 3) 194 18
 
 -- the words on a box: how many lines it is of, where they are more
 abbrev pub said_on : Box → List ℕ
@@ -112,7 +120,7 @@ said_on b = if leb b.times 1 then b.label else codes " idle " ++ (decimal b.time
 unfoldable pub box_bytes : Sheet → ℕ → Box → List ℕ
 box_bytes s row b =
     box_rect s row b
-    ++ (open_bytes (codes "label") (class_of b.kind) (left b.lane + 19) (top row + 16) (squeezed (shown_words (said_on b))) ++ (words_bytes (said_on b) ++ (close_bytes
+    ++ (open_bytes (codes "label") (class_of b.kind) (left s b.lane + 19) (top row + 16) (squeezed (shown_words (said_on b))) ++ (words_bytes (said_on b) ++ (close_bytes
     ++ (open_bytes (codes "row") (codes "words") 58 (top row + 16) [] ++ (decimal b.number ++ close_bytes)))))
 
 -- the boxes, from this row on
@@ -140,16 +148,20 @@ unfoldable pub page_bytes : ℕ → ℕ → List ℕ
 page_bytes width height = view_bytes width height ++ (codes "' width='" ++ (decimal width ++ (codes "' height='" ++ (decimal height ++ codes "'>\n"))))
 
 -- what the picture is, for who can't see it
-unfoldable pub naming_bytes : Sheet → List ℕ
-naming_bytes s = codes "<title>Page " ++ (decimal s.leaf.page ++ (codes " of " ++ (decimal s.leaf.pages ++ codes " of a trace</title>\n")))
+unfoldable pub titled_bytes : Lines → List ℕ
+titled_bytes r = codes "<title>Lines " ++ (decimal r.first ++ (codes " to " ++ (decimal r.last ++ codes " of a trace</title>\n")))
 
--- which page it is, where there are more
-unfoldable pub page_number : Sheet → List ℕ
-page_number s =
-    open_bytes (codes "side") (codes "words") (edge s + 14) 28 [] ++ (codes "page " ++ (decimal s.leaf.page ++ (codes " of " ++ (decimal s.leaf.pages ++ close_bytes))))
+abbrev pub naming_bytes : Option Lines → List ℕ
+naming_bytes None = codes "<title>A trace</title>\n"
+naming_bytes (Some r) = titled_bytes r
 
-abbrev pub number_bytes : Sheet → List ℕ
-number_bytes s = if leb s.leaf.pages 1 then [] else page_number s
+-- which lines are drawn, where not all are
+unfoldable pub lines_bytes : Sheet → Lines → List ℕ
+lines_bytes s r = open_bytes (codes "side") (codes "words") (edge s + 14) 28 [] ++ (codes "lines " ++ (decimal r.first ++ (codes " to " ++ (decimal r.last ++ close_bytes))))
+
+abbrev pub number_bytes : Sheet → Option Lines → List ℕ
+number_bytes s None = []
+number_bytes s (Some r) = lines_bytes s r
 
 -- the line under the rows that stand above the page's own
 abbrev pub turn_bytes : Sheet → List ℕ
@@ -164,7 +176,7 @@ axis_bytes s = rect_bytes (codes "axis") (codes "shape") 129 36 2 (deep s * 24 +
 
 unfoldable pub head_bytes : Sheet → List ℕ
 head_bytes s =
-    page_bytes (page_width s) (page_height s) ++ (naming_bytes s ++ (style_bytes ++ (rect_bytes (codes "page") (codes "shape") 0 0 (page_width s) (page_height s) ++ (axis_bytes s ++ number_bytes s))))
+    page_bytes (page_width s) (page_height s) ++ (naming_bytes s.leaf.lines ++ (style_bytes ++ (rect_bytes (codes "page") (codes "shape") 0 0 (page_width s) (page_height s) ++ (axis_bytes s ++ number_bytes s s.leaf.lines))))
 
 unfoldable pub foot_bytes : Sheet → List ℕ
 foot_bytes s = codes "<g transform='translate(138," ++ (decimal (deep s * 24 + 66) ++ (codes ")'>\n" ++ (legend_bytes ++ codes "</g>\n</svg>\n")))

@@ -3,12 +3,12 @@ use Rattle.std.specs.Prelude.{Bool, true, false, not, ◌&&◌, List, [], ◌∷
 use Rattle.stm_script.specs.declared.op.Op.{Op}
 use Rattle.stm_script.specs.declared.op.Op.TheVariants.{Cancel, Irrev}
 use Rattle.stm_script.specs.Operations.{op_name}
-use Rattle.tx_answers.specs.declared.answers.Begin.TheVariants.{Begun, Closed, Held, ClockFull}
+use Rattle.tx_answers.specs.declared.answers.Begin.TheVariants.{Begun}
 use Rattle.tx_answers.specs.declared.answers.Cancel.TheVariants.{Cancelled, Irrevocable}
-use Rattle.tx_answers.specs.declared.answers.Commit.TheVariants.{Committed, ReadOnly, Conflict, Again, ClockFull}
+use Rattle.tx_answers.specs.declared.answers.Commit.TheVariants.{Committed, ReadOnly, Again}
 use Rattle.tx_answers.specs.declared.answers.Irrev.TheVariants as irrevs
 use Rattle.stm_trace.specs.declared.said.Said.{Said}
-use Rattle.stm_trace.specs.declared.said.Said.TheVariants.{TryBegin, Reply, Stopped, TryCancel, TryIrrevocable, TryCommit, TryClose, Looked, Installed, Reserved, Idle, Dropped, Reopened}
+use Rattle.stm_trace.specs.declared.said.Said.TheVariants.{TryBegin, Reply, Stopped, TryCancel, TryIrrevocable, TryCommit, Idle, Dropped}
 use Rattle.tx_answers.specs.declared.answers.Irrev.{Irrev as IrrevAnswer}
 use Rattle.draw_core.specs.declared.turn.Stage.{Stage}
 use Rattle.draw_core.specs.declared.turn.Stage.TheVariants.{Before, Inside, Done, Outside, Over}

@@ -13,9 +13,11 @@ use Rattle.draw_core.specs.declared.misfit.Unfit.{Unfit}
 use Rattle.draw_core.specs.declared.step.Deed.{Deed}
 use Rattle.draw_core.specs.declared.step.Step.{Step}
 use Rattle.draw_core.specs.declared.walk.Walk.{Walk}
-use Rattle.draw_core.specs.Pages.{IsPageOf}
+use Rattle.draw_core.specs.Parts.{IsPageOf}
+use Rattle.stm_trace.specs.declared.said.Phase.{Phase}
+use Rattle.draw_core.specs.Phases.{first_phases, passed}
 use Rattle.draw_core.specs.Shapes.{line_boxes}
-use Rattle.draw_core.specs.Steps.{bare, bare_of}
+use Rattle.draw_core.specs.Steps.{bare}
 use Rattle.draw_core.specs.Turns.{Stand, turn_of, after, told_by}
 
 -- where each caller stands at first: all its transactions are still to do
@@ -42,19 +44,43 @@ abbrev pub goes : Version → List Stand → Line → Option (Step × List Stand
 goes version stands (Of n said) = if ltb n (length stands) then turned version stands n said (after (stand_at stands n) (turn_of said)) else None
 goes version stands Finish = Some (bare Finish, stands)
 
-abbrev pub go_on : Option (Step × List Stand) → ℕ → (Step × List Stand → Result (List Step) ℕ) → Result (List Step) ℕ
+-- where the callers stand: by their scripts, and by their lines alone
+pub record Along : Type 0 where
+  pub stands : List Stand
+  pub phases : List Phase
+
+-- a line of a trace alone tells what it says
+abbrev pub stepped : Option Version → List Stand → Line → Option (Step × List Stand)
+stepped None stands line = Some (bare line, stands)
+stepped (Some version) stands line = goes version stands line
+
+abbrev pub with_phases : Option (Step × List Stand) → Option (List Phase) → Option (Step × Along)
+with_phases (Some went) (Some phases) = Some (went.0, record { stands = went.1; phases = phases })
+with_phases went phases = None
+
+abbrev pub went : Option Version → Along → Line → Option (Step × Along)
+went version at line = with_phases (stepped version at.stands line) (passed at.phases line)
+
+abbrev pub go_on : Option (Step × Along) → ℕ → (Step × Along → Result (List Step) ℕ) → Result (List Step) ℕ
 go_on None k rest = Err k
 go_on (Some went) k rest = rest went
 
 -- the steps told so far and those of these lines, the first of which is the text's line k; or the first line that may not come
-abbrev pub walked : Version → List Step → ℕ → List Stand → List Line → Result (List Step) ℕ
-walked version told k stands [] = Ok told
-walked version told k stands (line ∷ lines) = go_on (goes version stands line) k (λ went. walked version (told ++ went.0 ∷ []) (k + 1) went.1 lines)
+abbrev pub walked : Option Version → List Step → ℕ → Along → List Line → Result (List Step) ℕ
+walked version told k at [] = Ok told
+walked version told k at (line ∷ lines) = go_on (went version at line) k (λ w. walked version (told ++ w.0 ∷ []) (k + 1) w.1 lines)
+
+abbrev pub version_in : Option Workload → Option Version
+version_in None = None
+version_in (Some w) = Some w.header.version
+
+abbrev pub first_in : Option Workload → List Stand
+first_in None = []
+first_in (Some w) = first_stands w.items w.header.callers
 
 -- THE STEPS of a trace, along its workload where one stands above it, below so many lines
 abbrev pub told_steps : Option Workload → ℕ → List Line → Result (List Step) ℕ
-told_steps None above lines = Ok (bare_of lines)
-told_steps (Some w) above lines = walked w.header.version [] (above + 1) (first_stands w.items w.header.callers) lines
+told_steps w above lines = walked (version_in w) [] (above + 1) (record { stands = first_in w; phases = first_phases }) lines
 
 -- what a cursor says of its caller
 abbrev pub first_of : List (List Op) → List Op
@@ -89,15 +115,17 @@ abbrev pub AreWithinOf : Option Workload → List Cursor → Type 0
 AreWithinOf None cursors = Unit {0}
 AreWithinOf (Some w) cursors = AreWithin w.items cursors
 
+-- where the callers stand, by these cursors and phases
+abbrev pub along_of : Option Workload → List Cursor → List Phase → Along
+along_of w cursors phases = record { stands = stands_in w cursors; phases = phases }
+
 -- the step of a line, and where the callers stand after it
-abbrev pub next_step : Option Workload → List Cursor → Line → Option (Step × List Stand)
-next_step None cursors line = Some (bare line, [])
-next_step (Some w) cursors line = goes w.header.version (stands_of w.items 0 cursors) line
+abbrev pub next_step : Option Workload → List Cursor → List Phase → Line → Option (Step × Along)
+next_step w cursors phases line = went (version_in w) (along_of w cursors phases) line
 
 -- the steps so far and those of these lines
-abbrev pub goes_along : Option Workload → List Step → ℕ → List Cursor → List Line → Result (List Step) ℕ
-goes_along None told k cursors lines = Ok (told ++ bare_of lines)
-goes_along (Some w) told k cursors lines = walked w.header.version told k (stands_of w.items 0 cursors) lines
+abbrev pub goes_along : Option Workload → List Step → ℕ → List Cursor → List Phase → List Line → Result (List Step) ℕ
+goes_along w told k cursors phases lines = walked (version_in w) told k (along_of w cursors phases) lines
 
 abbrev pub workload_in : Walk → Option Workload
 workload_in walk = option_map (λ w. w.now) walk.workload
@@ -105,7 +133,7 @@ workload_in walk = option_map (λ w. w.now) walk.workload
 -- the walk has seen these lines, which have steps, whatever follows
 pub record HasWalked (walk : Walk) (lines : List Line) : Type 0 where
   pub steps : List Step
-  pub along : (more : List Line) → told_steps (workload_in walk) walk.above (lines ++ more) ≡ goes_along (workload_in walk) steps (walk.above + length steps + 1) walk.cursors.items more
+  pub along : (more : List Line) → told_steps (workload_in walk) walk.above (lines ++ more) ≡ goes_along (workload_in walk) steps (walk.above + length steps + 1) walk.cursors.items walk.phases.items more
   pub within : AreWithinOf (workload_in walk) walk.cursors.items
   pub page : IsPageOf walk.page (line_boxes 1 steps)
 

@@ -1,5 +1,5 @@
 -- THE TEXT that is drawn: a trace alone, or a workload and then its trace.
-use Rattle.std.specs.Prelude.{ℕ, ◌≡◌, ◌+◌, ◌-◌, ◌^◌, min, Bool, List, [], length, ltb, take, if◌then◌else◌, Option, Some, None, Result, Ok, Err, codes, bytes_eq}
+use Rattle.std.specs.Prelude.{ℕ, ◌≡◌, ◌+◌, ◌-◌, ◌^◌, min, Bool, List, length, ltb, take, if◌then◌else◌, Option, Some, None, Result, Ok, Err, codes, bytes_eq}
 use Rattle.stm_script.specs.declared.workload.Workload.{Workload}
 use Rattle.stm_text.specs.declared.parse.Mode.TheVariants.{Step as Stepwise}
 use Rattle.stm_text.specs.Grammar.{workload_of}
@@ -11,7 +11,7 @@ use Rattle.draw_core.specs.declared.walk.StepsError.{StepsError}
 use Rattle.draw_core.specs.declared.walk.StepsError.TheVariants.{Workload as InWorkload, Trace, Unfit, Memory}
 use Rattle.draw_core.specs.Grammar.{trace_of}
 use Rattle.draw_core.specs.declared.page.Page.{Page}
-use Rattle.draw_core.specs.Pages.{IsSettled}
+use Rattle.draw_core.specs.Parts.{IsSettled}
 use Rattle.draw_core.specs.Rows.{rows_of}
 use Rattle.draw_core.specs.Shapes.{line_boxes}
 use Rattle.draw_core.specs.Walks.{told_steps}

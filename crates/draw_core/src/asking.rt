@@ -1,9 +1,10 @@
-//! What the words of the command line ask for: `stm_draw [--page P] [FILE [TRACE]]`, or a call for help.
-ghost use Rattle.std.specs.Prelude.{◌≡◌, ◌<◌, ◌^◌, bytes_eq, option_map};
-ghost use Rattle.draw_core.specs.Asking.{ask_of, asked, help_of, page_in, page_of, taken, texts_of, is_option};
+//! What the words of the command line ask for: `stm_draw [--lines A..B] [--callers N,N..] [FILE [TRACE]]`, or a call for
+//! help.
+ghost use Rattle.std.specs.Prelude.{◌≡◌, bytes_eq, option_map};
+ghost use Rattle.draw_core.specs.Asking.{ask_of, asked, help_of, is_option, is_waiting, opened, taken, texts_of};
 
-use crate::page::MOST_PAGES;
-use stm_text::lines;
+use crate::chosen::{callers_in, lines_in};
+use crate::part::{Part, WHOLE};
 
 /// What help is asked for.
 #[derive(Clone, Copy, Drop, Debug, PartialEq, Eq)]
@@ -13,17 +14,35 @@ pub enum Topic {
     Version,
 }
 
+/// The option whose value comes next.
+#[derive(Clone, Copy, Drop, Debug, PartialEq, Eq)]
+pub enum Waits {
+    ForNone,
+    ForLines,
+    ForCallers,
+}
+
+impl Waits {
+    /// Whether a value must come.
+    pub fn is_waiting(self) -> bool
+        ensures { result ≡ is_waiting self }
+    {
+        match self {
+            Waits::ForNone => false,
+            Waits::ForLines | Waits::ForCallers => true,
+        }
+    }
+}
+
 /// What the words that were read ask for.
 #[derive(Clone, Copy, Drop, Debug, PartialEq, Eq)]
 pub struct Ask<'a> {
-    /// The page, where one is named.
-    pub page: Option<u16>,
+    pub part: Part,
     /// The file that is read in place of standard input.
     pub first: Option<&'a str>,
     /// That which is read after it.
     pub second: Option<&'a str>,
-    /// Whether the last word was `--page`.
-    pub waits: bool,
+    pub waits: Waits,
 }
 
 fn is(word: &str, name: &str) -> bool
@@ -37,17 +56,6 @@ fn is_option(word: &str) -> bool
     ensures { result ≡ is_option word.now }
 {
     word.starts_with("-")
-}
-
-/// The number of a page.
-pub fn page_of(word: &str) -> Option<u16>
-    ensures { result ≡ page_of word.now }
-{
-    let page = lines::number(word.as_bytes())?;
-    if page < 1 || (MOST_PAGES as u64) < page {
-        return None;
-    }
-    Some(page as u16)
 }
 
 /// The help that words ask for, the first of them the program's name.
@@ -78,20 +86,52 @@ impl<'a> Ask<'a> {
     pub fn take(self, word: &'a str) -> Option<Ask<'a>>
         ensures { option_map ask_of result ≡ taken (ask_of self.entry) word.now }
     {
-        if self.waits {
-            let page = page_of(word)?;
-            return Some(Ask {
-                page: Some(page),
-                waits: false,
-                ..self
-            });
+        match self.waits {
+            Waits::ForNone => self.open(word),
+            Waits::ForLines => {
+                let lines = lines_in(word)?;
+                Some(Ask {
+                    part: Part {
+                        lines: Some(lines),
+                        ..self.part
+                    },
+                    waits: Waits::ForNone,
+                    ..self
+                })
+            }
+            Waits::ForCallers => {
+                let callers = callers_in(word)?;
+                Some(Ask {
+                    part: Part {
+                        callers: Some(callers),
+                        ..self.part
+                    },
+                    waits: Waits::ForNone,
+                    ..self
+                })
+            }
         }
-        if is(word, "--page") {
-            if self.page.is_some() {
+    }
+
+    /// After a word that is no value.
+    fn open(self, word: &'a str) -> Option<Ask<'a>>
+        ensures { option_map ask_of result ≡ opened (ask_of self.entry) word.now }
+    {
+        if is(word, "--lines") {
+            if self.part.lines.is_some() {
                 return None;
             }
             return Some(Ask {
-                waits: true,
+                waits: Waits::ForLines,
+                ..self
+            });
+        }
+        if is(word, "--callers") {
+            if self.part.callers.is_some() {
+                return None;
+            }
+            return Some(Ask {
+                waits: Waits::ForCallers,
                 ..self
             });
         }
@@ -121,17 +161,6 @@ impl<'a> Ask<'a> {
     }
 }
 
-/// The page that is asked for: the first where none is named.
-pub fn page_in(ask: Ask<'_>) -> usize
-    ensures is { result ≡ page_in ask.entry.page }
-    ensures within { result < 2 ^ 16 }
-{
-    match ask.page {
-        None => 1,
-        Some(page) => usize::from(page),
-    }
-}
-
 /// What words ask for, the first of them the program's name. None where they aren't in the grammar.
 pub fn asked<'a>(words: &[&'a str]) -> Option<Ask<'a>>
     ensures { option_map ask_of result ≡ asked (texts_of words.now) }
@@ -140,15 +169,15 @@ pub fn asked<'a>(words: &[&'a str]) -> Option<Ask<'a>>
         return None;
     }
     let mut ask = Ask {
-        page: None,
+        part: WHOLE,
         first: None,
         second: None,
-        waits: false,
+        waits: Waits::ForNone,
     };
     for i in 1..words.len() {
         ask = ask.take(words[i])?;
     }
-    if ask.waits {
+    if ask.waits.is_waiting() {
         return None;
     }
     Some(ask)

@@ -1,16 +1,17 @@
 //! The top call.
 ghost use Rattle.std.specs.Prelude.{◌≡◌, ◌<◌, ◌≤◌, ◌^◌, List, IfOk, OnErr};
 ghost use Rattle.draw_core.specs.Asking.{texts_of};
-ghost use Rattle.draw_core.specs.Outcomes.{SaidOf, SaidOfPage, Says, SaysOf, IsOutcome, rows_in, help_text, most_read, refused_line};
-ghost use Rattle.draw_core.specs.Pages.{rows_before, IsSettled};
+ghost use Rattle.draw_core.specs.Outcomes.{SaidOf, SaidOfPart, Says, SaysOf, IsOutcome, boxes_line, rows_in, help_text, most_read, refused_line};
+ghost use Rattle.draw_core.specs.Parts.{IsSettled};
 ghost use Rattle.draw_core.specs.declared.step.Step.{Step};
-ghost use Rattle.draw_core.specs.declared.status.Status.TheVariants.{Refused};
+ghost use Rattle.draw_core.specs.declared.status.Status.TheVariants.{NoPicture, Refused};
 ghost use Rattle.stm_io.specs.Ends.{TookSome};
 
-use crate::asking::{Topic, asked, help_of, page_in};
-use crate::misfit::Unfit;
-use crate::page::{Page, pages_of, rows_before};
-use crate::picture::{Leaf, picture};
+use crate::asking::{Topic, asked, help_of};
+use crate::misfit::{Unfit, unfit_alone};
+use crate::page::Page;
+use crate::part::{MOST_BOXES, Part};
+use crate::picture::picture;
 use crate::reading::MOST_DRAWN;
 use crate::status::Status;
 use crate::style::HELP;
@@ -28,13 +29,13 @@ use stm_text::parting::part_at_done;
 /// How many bytes are read: one more than a text may have.
 const MOST_READ: usize = 134217729;
 
-/// Reads the text that `stm_bench step` writes from `source`, and writes a page of its picture to `sink`, whole once it
-/// is made: one box for each line of the trace, in its caller's lane and in the order of the lines, with the line's words,
-/// but one box for idle turns of a caller that follow each other. A page has 1,000 such rows of its own, below those above
-/// it that still stand. Where the text is a workload and after its line `done` that, a box has what its caller did: the
-/// operation as the script has it, and the reply. `words`, the program's name and what follows it, name the page, or call
-/// for help; where they are in no form, it writes the usage line. Then it reads nothing. Every other end writes one line,
-/// or with `Memory` nothing; see [`Status`].
+/// Reads the text that `stm_bench step` writes from `source`, and writes its picture to `sink`, whole once it is made: one
+/// box for each line of the trace, in its caller's lane and in the order of the lines, with the line's words, but one box
+/// for idle turns of a caller that follow each other. Where the text is a workload and after its line `done` that, a box
+/// has what its caller did: the operation as the script has it, and the reply. `words`, the program's name and what
+/// follows it, name the lines and callers that are drawn, below what still stands of the rows before them, or call for
+/// help; where they are in no form, it writes the usage line. Then it reads nothing. Where no lines are named, a picture
+/// has at most 2,000 boxes. Every other end writes one line, or with `Memory` nothing; see [`Status`].
 ///
 /// `Refused` leaves in `why` what is wrong with the text, in a sentence, where memory for it is there.
 pub fn draw<S: Source, K: Sink>(
@@ -89,10 +90,12 @@ fn saying_of_words<S: Source>(
     match asked(words) {
         None => Ok(Saying {
             status: Status::Usage,
-            text: b"usage: stm_draw [--page P] [FILE [TRACE]]\n".to_vec(alloc)?,
+            text: b"usage: stm_draw [--lines A..B] [--callers N,N..] [FILE [TRACE]]\n".to_vec(
+                alloc,
+            )?,
             why: None,
         }),
-        Some(ask) => saying_of_source(alloc, page_in(ask), source),
+        Some(ask) => saying_of_source(alloc, ask.part, source),
     }
 }
 
@@ -107,18 +110,17 @@ fn help(alloc: Global, topic: Topic) -> Result<Vec<u8>, Memory>
     Ok(text.as_bytes().to_vec(alloc)?)
 }
 
-/// What is to be written of a page of what the source has.
-fn saying_of_source<S: Source>(alloc: Global, page: usize, source: &mut S) -> Result<Saying, Memory>
-    requires { page < 2 ^ 16 }
+/// What is to be written of a part of what the source has.
+fn saying_of_source<S: Source>(alloc: Global, part: Part, source: &mut S) -> Result<Saying, Memory>
     ensures says { IfOk result (λ s.
-        SaysOf S.left S.faults source.old source.new page s.status s.text.items) }
+        SaysOf S.left S.faults source.old source.new part s.status s.text.items) }
     ensures lost { OnErr result (TookSome most_read (S.left source.old) (S.left source.new)) }
     ensures calm { OnErr result (S.faults source.new ≡ S.faults source.old) }
 {
     // made before the source is read, so that its fault is never told as want of memory
     let read_fault = b"read fault\n".to_vec(alloc)?;
     match read_all(alloc, source, MOST_READ) {
-        Ok(text) => drawn(alloc, text.as_slice(), page),
+        Ok(text) => drawn(alloc, text.as_slice(), part),
         Err(TakeError::Failed) => Ok(Saying {
             status: Status::ReadFault,
             text: read_fault,
@@ -128,13 +130,12 @@ fn saying_of_source<S: Source>(alloc: Global, page: usize, source: &mut S) -> Re
     }
 }
 
-/// What is to be written of a page of a text that was read.
-pub fn drawn(alloc: Global, text: &[u8], page: usize) -> Result<Saying, Memory>
-    requires { page < 2 ^ 16 }
-    ensures { IfOk result (λ s. SaidOf text.now page s.status s.text.items) }
+/// What is to be written of a part of a text that was read.
+pub fn drawn(alloc: Global, text: &[u8], part: Part) -> Result<Saying, Memory>
+    ensures { IfOk result (λ s. SaidOf text.now part s.status s.text.items) }
 {
-    match read_page(alloc, text, rows_before(page)) {
-        Ok(made) => drawn_page(alloc, page, &made),
+    match read_page(alloc, text, part) {
+        Ok(made) => drawn_page(alloc, &made),
         Err(StepsError::Workload { line, fault }) => {
             let (head, _) = part_at_done(text);
             refused(
@@ -155,24 +156,17 @@ pub fn drawn(alloc: Global, text: &[u8], page: usize) -> Result<Saying, Memory>
     }
 }
 
-/// The picture of a page, where there is one.
-fn drawn_page(alloc: Global, page: usize, made: &Page) -> Result<Saying, Memory>
-    requires { made.now.count < 2 ^ 62 }
-    ensures { IfOk result (λ s. (steps : List Step) → made.now.from ≡ rows_before page
-        → IsSettled made.now (rows_in steps) → SaidOfPage steps page s.status s.text.items) }
+/// The picture of a part, where there is one.
+fn drawn_page(alloc: Global, made: &Page) -> Result<Saying, Memory>
+    ensures { IfOk result (λ s. (steps : List Step) → IsSettled made.now (rows_in steps)
+        → SaidOfPart steps made.now.part s.status s.text.items) }
 {
-    let pages = pages_of(made.count());
-    if pages < page {
-        let text = format!(in alloc; "pages {pages}\n")?;
-        return Ok(Saying {
-            status: Status::NoPage { pages },
-            text: text.into_bytes(),
-            why: None,
-        });
+    if !made.fits() {
+        return no_picture(alloc, made);
     }
-    let rows = made.rows(alloc)?;
-    let above = rows.len() - made.own_len();
-    let leaf = Leaf { page, pages, above };
+    let mut rows = made.above(alloc)?;
+    let leaf = made.leaf(rows.as_slice());
+    made.put_own(&mut rows)?;
     Ok(Saying {
         status: Status::Ok,
         text: picture(alloc, leaf, rows.as_slice())?,
@@ -180,10 +174,42 @@ fn drawn_page(alloc: Global, page: usize, made: &Page) -> Result<Saying, Memory>
     })
 }
 
+/// How many boxes the picture would have that isn't drawn.
+fn no_picture(alloc: Global, made: &Page) -> Result<Saying, Memory>
+    ensures status { IfOk result (λ s. s.status ≡ NoPicture made.now.count) }
+    ensures text { IfOk result (λ s. s.text.items ≡ boxes_line made.now.count) }
+{
+    let boxes = made.count();
+    let text = format!(in alloc; "boxes {boxes}\n")?;
+    Ok(Saying {
+        status: Status::NoPicture { boxes },
+        text: text.into_bytes(),
+        why: told_boxes(alloc, made).ok(),
+    })
+}
+
+/// Why there is no picture, and which lines there are.
+fn told_boxes(alloc: Global, made: &Page) -> Result<String, Memory> {
+    let boxes = made.count();
+    let lines = made.lines();
+    if boxes == 0 {
+        return Ok(format!(in alloc;
+            "no box begins with these lines; here stand lines 1 to {lines}"
+        )?);
+    }
+    Ok(format!(in alloc;
+        "{boxes} boxes are more than the {MOST_BOXES} of a picture; here stands `--lines A..B`, of lines 1 to {lines}"
+    )?)
+}
+
 /// Why a line of the trace may not come.
 fn told_unfit(alloc: Global, text: &[u8], unfit: Unfit) -> Result<String, Memory> {
     let (why, may) = unfit.told(alloc)?;
-    unfit_line(alloc, text, unfit.line, why.as_str(), may.as_str())
+    if has_workload(text) {
+        unfit_line(alloc, text, unfit.line, why.as_str(), may.as_str())
+    } else {
+        Ok(unfit_alone(alloc, text, unfit.line, why.as_str(), may.as_str())?)
+    }
 }
 
 /// What is wrong with the trace's text, which a workload may stand above.

@@ -1,6 +1,6 @@
 //! What a line of a trace is to a reader of its picture.
 ghost use Rattle.std.specs.Prelude.{◌≡◌};
-ghost use Rattle.draw_core.specs.Kinds.{kind_of, said_kind, stop_kind, class_of, ends_attempt, is_begin, is_closing, is_commit, is_holding, is_idle, is_opening};
+ghost use Rattle.draw_core.specs.Kinds.{kind_of, said_kind, stop_kind, class_of, ends_attempt, is_begin, is_closing, is_commit, is_finish, is_holding, is_idle, is_opening};
 
 use stm_model::alg::Alg;
 use stm_model::stop::Stop;
@@ -170,6 +170,16 @@ impl Kind {
     {
         match self {
             Kind::Commits(_) => true,
+            _ => false,
+        }
+    }
+
+    /// Whether it ends the schedule.
+    pub fn is_finish(self) -> bool
+        ensures { result ≡ is_finish self }
+    {
+        match self {
+            Kind::Finishes => true,
             _ => false,
         }
     }

@@ -1,5 +1,5 @@
 //! Laws of the definitions, each the contract of a function.
-ghost use Rattle.draw_core.specs.Pages.{PagesAreBounded, PagesAreWhole};
+ghost use Rattle.draw_core.specs.Parts.{FewStand, PartsMeet, WholeHasAll};
 ghost use Rattle.draw_core.specs.Shown.{WordsFit};
 ghost use Rattle.draw_core.specs.Statements.{TraceIsDrawn, StepIsDrawn};
 
@@ -20,14 +20,19 @@ pub fn step_is_drawn()
     report_is_read();
 }
 
-/// The pages of a picture together have each of its rows once, in order.
-pub fn pages_are_whole()
-    ensures { PagesAreWhole }
+/// Where nothing is named, a picture has each row, once and in order.
+pub fn whole_has_all()
+    ensures { WholeHasAll }
 {}
 
-/// A page has at most 1,000 rows of its own, and 97 above them.
-pub fn pages_are_bounded()
-    ensures { PagesAreBounded }
+/// Parts whose lines meet have together each row of all their lines, once and in order.
+pub fn parts_meet()
+    ensures { PartsMeet }
+{}
+
+/// At most 97 rows stand above a part.
+pub fn few_stand()
+    ensures { FewStand }
 {}
 
 /// No box shows more than 40 bytes of words, whatever its numbers.

@@ -2,6 +2,7 @@
 #![tactic(auto)]
 
 pub mod asking;
+pub mod chosen;
 pub mod cursor;
 pub mod draw;
 mod input;
@@ -10,6 +11,8 @@ pub mod label;
 pub mod laws;
 pub mod misfit;
 pub mod page;
+pub mod part;
+pub mod phase;
 pub mod picture;
 pub mod program;
 pub mod reading;

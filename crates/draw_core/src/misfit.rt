@@ -1,6 +1,6 @@
 //! Why a line may not come where its caller stands.
 ghost use Rattle.std.specs.Prelude.{◌≡◌, ◌≤◌, length};
-ghost use Rattle.draw_core.specs.Misfits.{misfit_at, misfit_in};
+ghost use Rattle.draw_core.specs.Misfits.{misfit_at, misfit_by, misfit_in};
 ghost use Rattle.draw_core.specs.Walks.{AreWithin, stand_of, stands_of};
 
 use crate::cursor::{Cursor, is_over, next_op};
@@ -9,6 +9,8 @@ use crate::step::Deed;
 use std::alloc::{AllocError, Global};
 use stm_script::op::Op;
 use stm_script::workload::{Item, Version};
+use stm_text::lines;
+use stm_trace::said::Phase;
 
 /// Where a caller stands whose line may not come.
 #[derive(Clone, Copy, Drop, Debug, PartialEq, Eq)]
@@ -23,6 +25,8 @@ pub enum Misfit {
     Next(Deed),
     /// In an attempt, and its script is done.
     Done,
+    /// Here, by its lines alone: no script says more.
+    At(Phase),
 }
 
 /// A line that may not come.
@@ -64,6 +68,45 @@ pub fn misfit_in(version: Version, items: &[Item], cursors: &[Cursor], caller: u
     misfit_at(version, items, caller, cursors[caller])
 }
 
+/// Where a caller stands at this phase that is so in its script.
+pub fn misfit_by(phase: Phase, misfit: Misfit) -> Misfit
+    ensures { result ≡ misfit_by phase misfit }
+{
+    match phase {
+        Phase::Between | Phase::Inside => misfit,
+        Phase::Closing | Phase::Quiet => Misfit::At(phase),
+    }
+}
+
+/// Appends what may come at a phase.
+fn put_at(may: &mut String, caller: usize, phase: Phase) -> Result<(), AllocError> {
+    match phase {
+        Phase::Between => write!(
+            may,
+            "`{caller} begin ALG`, `{caller} close closed` or `{caller} idle`"
+        ),
+        Phase::Inside => write!(
+            may,
+            "`{caller} NAME REPLY`, `{caller} commit readonly T`, or why it failed"
+        ),
+        Phase::Closing => write!(
+            may,
+            "`{caller} look quiet`, `{caller} look busy C S` or `{caller} reopen`"
+        ),
+        Phase::Quiet => write!(may, "`{caller} install ALG` or `{caller} reopen`"),
+    }
+}
+
+/// Where a caller is at a phase.
+fn place_of(phase: Phase) -> &'static str {
+    match phase {
+        Phase::Between => "is in no attempt",
+        Phase::Inside => "is in an attempt",
+        Phase::Closing => "has closed the gate",
+        Phase::Quiet => "has closed the gate, and no other is in an attempt",
+    }
+}
+
 impl Unfit {
     /// Appends why the line may not come.
     fn put_why(&self, why: &mut String) -> Result<(), AllocError> {
@@ -93,6 +136,10 @@ impl Unfit {
                     "caller {caller} is in an attempt, whose script is done"
                 )
             }
+            Misfit::At(phase) => {
+                write!(why, "caller {caller} ")?;
+                why.push_str(place_of(phase))
+            }
         }
     }
 
@@ -121,6 +168,7 @@ impl Unfit {
                     "`{caller} commit committed T`, `{caller} commit readonly T`, or why it failed"
                 )
             }
+            Misfit::At(phase) => put_at(may, caller, phase),
         }
     }
 
@@ -135,4 +183,50 @@ impl Unfit {
         self.put_may(&mut may)?;
         Ok((why, may))
     }
+}
+
+/// The most bytes of a line that a sentence shows.
+const MOST_LINE: usize = 60;
+
+/// What is wrong with a line of a trace alone, which may not come.
+///
+/// # Errors
+/// Memory, where it is refused.
+pub fn unfit_alone(
+    alloc: Global,
+    text: &[u8],
+    line: usize,
+    why: &str,
+    may: &str,
+) -> Result<String, AllocError> {
+    let mut said = format!(in alloc; "line {line}, `")?;
+    put_line(&mut said, line_of(text, line))?;
+    write!(said, "`: {why}; here stands {may}")?;
+    Ok(said)
+}
+
+/// A line of a text, counted from 1.
+fn line_of(text: &[u8], line: usize) -> &[u8] {
+    let mut rest = text;
+    for _ in 1..line {
+        match lines::find(b'\n', rest) {
+            Some(i) => rest = lines::past(rest, i),
+            None => return &[],
+        }
+    }
+    match lines::find(b'\n', rest) {
+        Some(i) => &rest[..i],
+        None => rest,
+    }
+}
+
+/// Appends the first bytes of a line, all of which can be shown.
+fn put_line(said: &mut String, line: &[u8]) -> Result<(), AllocError> {
+    for b in line.iter().take(MOST_LINE) {
+        said.push(*b as char)?;
+    }
+    if MOST_LINE < line.len() {
+        said.push_str(" ..")?;
+    }
+    Ok(())
 }

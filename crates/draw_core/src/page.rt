@@ -1,31 +1,28 @@
-//! A page of a picture, made line by line: what is kept is the page alone.
-ghost use Rattle.std.specs.Prelude.{◌≡◌, ◌<◌, ◌≤◌, ◌+◌, ◌^◌, ◌++◌, [], ◌∷◌, List, Some, None, IfOk, OnOk, length, map};
+//! What a picture shows, made line by line: what is kept is what is drawn alone.
+ghost use Rattle.std.specs.Prelude.{◌≡◌, ◌<◌, ◌≤◌, ◌+◌, ◌^◌, ◌++◌, [], ◌∷◌, List, Some, None, IfOk, OnOk, length, map, true, false};
+ghost use Rattle.std.specs.List.{filter};
 ghost use Rattle.draw_core.specs.Shapes.{Box, box_of, boxes_of};
 ghost use Rattle.draw_core.specs.Rows.{rows_of};
 ghost use Rattle.draw_core.specs.Standing.{standing_of, standing_rows};
-ghost use Rattle.draw_core.specs.Pages.{pages_of, rows_before, IsSettled, IsPageOf};
+ghost use Rattle.draw_core.specs.Outcomes.{leaf_by};
+ghost use Rattle.draw_core.specs.Parts.{is_shown, IsFew, IsPageOf, IsSettled, IsUnfit};
 
+use crate::part::{Part, lanes_with};
+use crate::picture::Leaf;
 use crate::row::{Row, joins};
 use crate::standing::{Slot, none_stand, stand, standing_rows};
 use crate::step::Step;
 use std::alloc::{AllocError, Global};
 
-/// The most rows of a page, besides those that still stand above it.
-pub const PAGE_ROWS: usize = 1_000;
-
-/// The most pages that a text of the greatest length can have, and more.
-pub const MOST_PAGES: usize = 20_000;
-
 /// The page, as far as the lines were read.
 #[derive(Drop, Debug)]
 pub struct Page {
-    /// How many rows come before it.
-    from: usize,
-    /// How many rows are at their ends.
+    part: Part,
+    /// How many rows of the part are at their ends.
     count: usize,
-    /// What stands of those before it.
+    /// What stands of the rows before it.
     above: Vec<Slot>,
-    /// Those that are its own.
+    /// The rows of the part, while they aren't too many to be drawn.
     own: Vec<Row>,
     /// The last row, which may still grow.
     last: Option<Row>,
@@ -35,12 +32,12 @@ pub struct Page {
 
 impl Page {
     /// A page of nothing.
-    pub fn new(alloc: Global, from: usize) -> Result<Page, AllocError>
+    pub fn new(alloc: Global, part: Part) -> Result<Page, AllocError>
         ensures is { IfOk result (λ p. IsPageOf p []) }
-        ensures from { IfOk result (λ p. p.from ≡ from) }
+        ensures part { IfOk result (λ p. p.part ≡ part) }
     {
         Ok(Page {
-            from,
+            part,
             count: 0,
             above: none_stand(alloc)?,
             own: Vec::new(alloc),
@@ -54,17 +51,19 @@ impl Page {
         requires { self.old.count < 2 ^ 62 }
         ensures is { OnOk result ((rows : List Box) → IsSettled self.old rows
             → IsSettled self.new (rows ++ box_of row ∷ [])) }
-        ensures from { self.new.from ≡ self.old.from }
-        ensures count { OnOk result (self.new.count ≡ self.old.count + 1) }
+        ensures part { self.new.part ≡ self.old.part }
+        ensures count { OnOk result (self.new.count ≤ self.old.count + 1) }
         ensures lines { self.new.lines ≡ self.old.lines }
     {
-        let count = self.count;
-        self.count += 1;
-        if count < self.from {
+        if self.part.is_after(row) {
             stand(&mut self.above, row);
             return Ok(());
         }
-        if PAGE_ROWS <= self.own.len() {
+        if !self.part.has(row) {
+            return Ok(());
+        }
+        self.count += 1;
+        if !self.part.keeps(self.count) {
             return Ok(());
         }
         self.own.push(row)?;
@@ -77,7 +76,7 @@ impl Page {
         requires is { (lines : List Box) × IsPageOf self.old lines }
         ensures is { OnOk result ((lines : List Box) → IsPageOf self.old lines → IsPageOf self.new
             (lines ++ box_of (record { number = length lines + 1; times = 1; step = step }) ∷ [])) }
-        ensures from { self.new.from ≡ self.old.from }
+        ensures part { self.new.part ≡ self.old.part }
         ensures lines { OnOk result (self.new.lines ≡ self.old.lines + 1) }
     {
         self.lines += 1;
@@ -107,7 +106,7 @@ impl Page {
         requires { self.old.count < 2 ^ 62 }
         ensures is { OnOk result ((lines : List Box) → IsPageOf self.old lines
             → IsSettled self.new (rows_of lines)) }
-        ensures from { self.new.from ≡ self.old.from }
+        ensures part { self.new.part ≡ self.old.part }
         ensures few { OnOk result (self.new.count ≤ self.old.count + 1) }
     {
         if let Some(last) = self.last {
@@ -116,31 +115,67 @@ impl Page {
         Ok(())
     }
 
-    /// Those of its rows that are shown: what stands above it, and then its own.
-    pub fn rows(&self, alloc: Global) -> Result<Vec<Row>, AllocError>
+    /// The rows that stand above the part and are shown.
+    pub fn above(&self, alloc: Global) -> Result<Vec<Row>, AllocError>
         ensures { IfOk result (λ r. boxes_of r.items
-            ≡ standing_rows (map standing_of self.now.above.items) ++ boxes_of self.now.own.items) }
+            ≡ filter (is_shown self.now.part) (standing_rows (map standing_of self.now.above.items))) }
     {
-        let mut rows = standing_rows(alloc, self.above.as_slice())?;
+        let all = standing_rows(alloc, self.above.as_slice())?;
+        let rows = all.as_slice();
+        let mut shown = Vec::new(alloc);
+        for row in rows {
+            self.put_shown(&mut shown, *row)?;
+        }
+        Ok(shown)
+    }
+
+    /// Appends a row that stands above, if it is shown.
+    fn put_shown(&self, shown: &mut Vec<Row>, row: Row) -> Result<(), AllocError>
+        ensures { OnOk result (boxes_of shown.new.items
+            ≡ boxes_of shown.old.items ++ filter (is_shown self.now.part) (box_of row ∷ [])) }
+    {
+        if self.part.shows(row) {
+            shown.push(row)?;
+            return Ok(());
+        }
+        Ok(())
+    }
+
+    /// Appends the rows of the part that are kept.
+    pub fn put_own(&self, rows: &mut Vec<Row>) -> Result<(), AllocError>
+        ensures { OnOk result (boxes_of rows.new.items ≡ boxes_of rows.old.items ++ boxes_of self.now.own.items) }
+    {
         let own = self.own.as_slice();
         for row in own {
             rows.push(*row)?;
         }
-        Ok(rows)
+        Ok(())
     }
 
-    /// How many rows there are of all the lines, once they were read.
+    /// Whether its picture may be drawn.
+    pub fn fits(&self) -> bool
+        ensures few { result ≡ true → IsFew self.now.part.lines self.now.count }
+        ensures unfit { result ≡ false → IsUnfit self.now.part.lines self.now.count }
+    {
+        self.part.fits(self.count)
+    }
+
+    /// What its picture shows, where these rows stand above.
+    pub fn leaf(&self, above: &[Row]) -> Leaf
+        ensures { result ≡ leaf_by self.now.part (boxes_of above.now) }
+    {
+        Leaf {
+            lines: self.part.lines,
+            callers: lanes_with(self.part.callers, above),
+            above: above.len(),
+        }
+    }
+
+    /// How many rows the part has, once all lines were read.
     pub fn count(&self) -> usize
         ensures { result ≡ self.now.count }
     {
         self.count
-    }
-
-    /// How many rows are its own.
-    pub fn own_len(&self) -> usize
-        ensures { result ≡ length self.now.own.items }
-    {
-        self.own.len()
     }
 
     /// How many lines were read.
@@ -149,21 +184,4 @@ impl Page {
     {
         self.lines
     }
-}
-
-/// How many pages so many rows have.
-pub fn pages_of(rows: usize) -> usize
-    requires { rows < 2 ^ 63 }
-    ensures is { result ≡ pages_of rows }
-    ensures first { 1 ≤ result }
-{
-    rows.div_ceil(PAGE_ROWS).max(1)
-}
-
-/// How many rows come before a page.
-pub fn rows_before(page: usize) -> usize
-    requires { page < 2 ^ 16 }
-    ensures { result ≡ rows_before page }
-{
-    page.saturating_sub(1) * PAGE_ROWS
 }

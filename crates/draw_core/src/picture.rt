@@ -3,10 +3,11 @@ ghost use Rattle.std.specs.Prelude.{◌≡◌, ◌++◌, ◌+◌, ◌<◌, ◌^�
 ghost use Rattle.stm_model.specs.Algorithms.{alg_name};
 ghost use Rattle.draw_core.specs.Shapes.{boxes_of, box_of, shape_at};
 ghost use Rattle.draw_core.specs.Markup.{IsMarkup};
-ghost use Rattle.draw_core.specs.Texts.{left, top, tall, edge, lanes_of, sheet_of, shape_bytes, part_bytes, layer_bytes, squeezed, box_rect, box_bytes, boxes_bytes, clock_bytes, deep, head_at, heads_bytes, lane_bytes, naming_bytes, number_bytes, page_number, turn_bytes, page_width, page_height, page_bytes, view_bytes, style_bytes, legend_bytes, name_bytes, axis_bytes, head_bytes, foot_bytes, svg_of};
+ghost use Rattle.draw_core.specs.Texts.{column, left, lines_bytes, titled_bytes, top, tall, edge, lanes_of, sheet_of, shape_bytes, part_bytes, layer_bytes, squeezed, box_rect, box_bytes, boxes_bytes, clock_bytes, deep, head_at, heads_bytes, lane_bytes, naming_bytes, number_bytes, turn_bytes, page_width, page_height, page_bytes, view_bytes, style_bytes, legend_bytes, name_bytes, axis_bytes, head_bytes, foot_bytes, svg_of};
 
 use crate::kind::Kind;
 use crate::label::label;
+use crate::part::{Callers, Lines};
 use crate::row::Row;
 use crate::shape::{Layer, Shape, shape_at};
 use crate::shown::{put_words, shown};
@@ -16,15 +17,16 @@ use std::alloc::{AllocError, Global};
 use stm_model::alg::Alg;
 use stm_model::memory::Memory;
 
-/// Which page of how many a picture is, and how many of its rows stand above the page's own.
+/// What a picture shows: the lines that are named and the callers that have lanes, where not all of them are drawn; and
+/// how many of its rows stand above the part.
 #[derive(Clone, Copy, Drop, Debug, PartialEq, Eq)]
 pub struct Leaf {
-    pub page: usize,
-    pub pages: usize,
+    pub lines: Option<Lines>,
+    pub callers: Option<Callers>,
     pub above: usize,
 }
 
-/// The page: how many lanes and rows it has, and which it is.
+/// The page: how many lanes and rows it has, and what it shows.
 #[derive(Clone, Copy, Drop, Debug, PartialEq, Eq)]
 pub struct Sheet {
     lanes: u128,
@@ -32,13 +34,18 @@ pub struct Sheet {
     leaf: Leaf,
 }
 
-/// Where a lane begins; where a row does, below the heads above it; how high one is with so many after it.
-fn left(lane: usize) -> u128
-    ensures { result ≡ left lane }
+/// A caller's lane, counted from the left: those of callers that aren't drawn are left out.
+fn column(callers: Option<Callers>, lane: usize) -> u128
+    ensures is { result ≡ column callers lane }
+    ensures within { result < 2 ^ 64 }
 {
-    138 + lane as u128 * 216
+    match callers {
+        None => lane as u128,
+        Some(callers) => callers.below(lane) as u128,
+    }
 }
 
+/// Where a row begins, below the heads above it; how high one is with so many after it.
 fn top(row: u128) -> u128
     requires { row ≤ 2 ^ 65 }
     ensures { result ≡ top row }
@@ -62,10 +69,17 @@ impl Sheet {
         ensures rows { result.rows ≤ 2 ^ 64 }
     {
         Sheet {
-            lanes: lanes(lines),
+            lanes: lanes(leaf.callers, lines),
             rows: lines.len() as u128,
             leaf,
         }
+    }
+
+    /// Where a caller's lane begins.
+    fn left(self, lane: usize) -> u128
+        ensures { result ≡ left self lane }
+    {
+        138 + column(self.leaf.callers, lane) * 216
     }
 
     /// Where the lanes end.
@@ -101,13 +115,13 @@ impl Sheet {
 }
 
 /// How many lanes the lines lie in.
-fn lanes(lines: &[Row]) -> u128
-    ensures all { result ≡ lanes_of (boxes_of lines.now) }
+fn lanes(callers: Option<Callers>, lines: &[Row]) -> u128
+    ensures all { result ≡ lanes_of callers (boxes_of lines.now) }
     ensures few { result ≤ 2 ^ 64 }
 {
     let mut lanes = 0u128;
     for line in lines {
-        lanes = lanes.max(line.lane() as u128 + 1);
+        lanes = lanes.max(column(callers, line.lane()) + 1);
     }
     lanes
 }
@@ -123,22 +137,22 @@ fn put_install(text: &mut String, alg: Alg) -> Result<(), AllocError>
 
 /// The head of a lane.
 #[tactic(auto, unfolding(crate::specs::Texts::head_at))]
-fn put_head_at(text: &mut String, lane: usize, y: u128) -> Result<(), AllocError>
+fn put_head_at(text: &mut String, sheet: Sheet, lane: usize, y: u128) -> Result<(), AllocError>
     ensures { OnOk result
-        (string_bytes text.new ≡ string_bytes text.old ++ head_at lane y) }
+        (string_bytes text.new ≡ string_bytes text.old ++ head_at sheet lane y) }
 {
-    put_open(text, "head", "words", left(lane) + 108, y, "")?;
+    put_open(text, "head", "words", sheet.left(lane) + 108, y, "")?;
     write!(text, "caller {lane}</text>\n")
 }
 
 /// The heads of a lane once more, above each block of forty rows.
-fn put_heads(text: &mut String, lane: usize, blocks: u128) -> Result<(), AllocError>
+fn put_heads(text: &mut String, sheet: Sheet, lane: usize, blocks: u128) -> Result<(), AllocError>
     requires { blocks ≤ 2 ^ 59 }
     ensures { OnOk result
-        (string_bytes text.new ≡ string_bytes text.old ++ heads_bytes lane blocks) }
+        (string_bytes text.new ≡ string_bytes text.old ++ heads_bytes sheet lane blocks) }
 {
     for block in 0..blocks {
-        put_head_at(text, lane, top((block + 1) * 40) - 8)?;
+        put_head_at(text, sheet, lane, top((block + 1) * 40) - 8)?;
     }
     Ok(())
 }
@@ -154,13 +168,13 @@ fn put_lane(text: &mut String, sheet: Sheet, lane: usize) -> Result<(), AllocErr
         text,
         "lane",
         "shape",
-        left(lane) + 2,
+        sheet.left(lane) + 2,
         36,
         212,
         sheet.deep() * 24 + 16,
     )?;
-    put_head_at(text, lane, 28)?;
-    put_heads(text, lane, sheet.rows.saturating_sub(1) / 40)
+    put_head_at(text, sheet, lane, 28)?;
+    put_heads(text, sheet, lane, sheet.rows.saturating_sub(1) / 40)
 }
 
 /// The clock, after a commit.
@@ -216,7 +230,7 @@ fn put_shape(alloc: Global, text: &mut String, sheet: Sheet, shape: Shape) -> Re
             text,
             "attempt",
             kind.class(),
-            left(lane) + 4,
+            sheet.left(lane) + 4,
             top(from as u128) + 1,
             208,
             tall(from, more),
@@ -225,7 +239,7 @@ fn put_shape(alloc: Global, text: &mut String, sheet: Sheet, shape: Shape) -> Re
             text,
             "sure",
             "shape",
-            left(lane) + 4,
+            sheet.left(lane) + 4,
             top(from as u128) + 1,
             6,
             tall(from, more),
@@ -298,7 +312,7 @@ fn put_box_rect(text: &mut String, sheet: Sheet, row: usize, line: Row) -> Resul
     let y = top(row as u128) + 3;
     match line.kind() {
         Kind::Finishes => put_rect(text, "box", class, 134, y, sheet.lanes * 216 + 8, 18),
-        _ => put_rect(text, "box", class, left(line.lane()) + 14, y, 194, 18),
+        _ => put_rect(text, "box", class, sheet.left(line.lane()) + 14, y, 194, 18),
     }
 }
 
@@ -324,7 +338,7 @@ fn put_box(
         text,
         "label",
         class,
-        left(line.lane()) + 19,
+        sheet.left(line.lane()) + 19,
         y,
         squeezed(short.as_str()),
     )?;
@@ -395,36 +409,46 @@ fn put_view(text: &mut String, width: u128, height: u128) -> Result<(), AllocErr
 }
 
 /// What the picture is, for who can't see it.
-#[tactic(auto, unfolding(crate::specs::Texts::naming_bytes))]
 fn put_naming(text: &mut String, sheet: Sheet) -> Result<(), AllocError>
     ensures { OnOk result
-        (string_bytes text.new ≡ string_bytes text.old ++ naming_bytes sheet) }
+        (string_bytes text.new ≡ string_bytes text.old ++ naming_bytes sheet.leaf.lines) }
 {
-    let Leaf { page, pages, .. } = sheet.leaf;
-    write!(text, "<title>Page {page} of {pages} of a trace</title>\n")
+    match sheet.leaf.lines {
+        None => text.push_str("<title>A trace</title>\n"),
+        Some(lines) => put_title(text, lines),
+    }
 }
 
-/// Which page it is, where there are more.
+#[tactic(auto, unfolding(crate::specs::Texts::titled_bytes))]
+fn put_title(text: &mut String, lines: Lines) -> Result<(), AllocError>
+    ensures { OnOk result
+        (string_bytes text.new ≡ string_bytes text.old ++ titled_bytes lines) }
+{
+    let Lines { first, last } = lines;
+    write!(text, "<title>Lines {first} to {last} of a trace</title>\n")
+}
+
+/// Which lines are drawn, where not all are.
 fn put_number(text: &mut String, sheet: Sheet) -> Result<(), AllocError>
     requires { sheet.lanes ≤ 2 ^ 64 }
     ensures { OnOk result
-        (string_bytes text.new ≡ string_bytes text.old ++ number_bytes sheet) }
+        (string_bytes text.new ≡ string_bytes text.old ++ number_bytes sheet sheet.leaf.lines) }
 {
-    if sheet.leaf.pages <= 1 {
-        return Ok(());
+    match sheet.leaf.lines {
+        None => Ok(()),
+        Some(lines) => put_lines(text, sheet, lines),
     }
-    put_page_number(text, sheet)
 }
 
-#[tactic(auto, unfolding(crate::specs::Texts::page_number))]
-fn put_page_number(text: &mut String, sheet: Sheet) -> Result<(), AllocError>
+#[tactic(auto, unfolding(crate::specs::Texts::lines_bytes))]
+fn put_lines(text: &mut String, sheet: Sheet, lines: Lines) -> Result<(), AllocError>
     requires { sheet.lanes ≤ 2 ^ 64 }
     ensures { OnOk result
-        (string_bytes text.new ≡ string_bytes text.old ++ page_number sheet) }
+        (string_bytes text.new ≡ string_bytes text.old ++ lines_bytes sheet lines) }
 {
-    let Leaf { page, pages, .. } = sheet.leaf;
+    let Lines { first, last } = lines;
     put_open(text, "side", "words", sheet.edge() + 14, 28, "")?;
-    write!(text, "page {page} of {pages}</text>\n")
+    write!(text, "lines {first} to {last}</text>\n")
 }
 
 /// The line under the rows that stand above the page's own.

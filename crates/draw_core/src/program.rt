@@ -84,7 +84,10 @@ fn answer<R: AllocGlobal + Files + Input + Print + Eprint>(rt: &R, arguments: &[
         &mut sink,
         &mut why,
     );
-    tell(rt, status, words.as_slice(), why);
+    // who doesn't read on any more wants to hear no more
+    if !sink.is_closed() {
+        tell(rt, status, words.as_slice(), why);
+    }
     code
 }
 

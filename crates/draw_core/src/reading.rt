@@ -53,7 +53,7 @@ pub fn walk_trace(alloc: Global, text: &[u8], walk: &mut Walk<'_>) -> Result<(),
     ensures workload { walk.new.workload ≡ walk.old.workload }
     ensures above { walk.new.above ≡ walk.old.above }
     ensures lines { OnOk result (walk.new.page.lines ≤ 134217728) }
-    ensures from { walk.new.page.from ≡ walk.old.page.from }
+    ensures part { walk.new.page.part ≡ walk.old.page.part }
 {
     if MOST_DRAWN < text.len() {
         return Err(ReadError::Refused { line: 0 });
@@ -72,7 +72,7 @@ fn walk_lines(alloc: Global, text: &[u8], walk: &mut Walk<'_>) -> Result<(), Rea
     ensures workload { walk.new.workload ≡ walk.old.workload }
     ensures above { walk.new.above ≡ walk.old.above }
     ensures lines { OnOk result (walk.new.page.lines ≤ 134217728) }
-    ensures from { walk.new.page.from ≡ walk.old.page.from }
+    ensures part { walk.new.page.part ≡ walk.old.page.part }
 {
     let mut rest = text;
     let mut number = 1usize;

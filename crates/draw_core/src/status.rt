@@ -4,7 +4,7 @@ ghost use Rattle.std.specs.Prelude.{◌≡◌};
 /// How a call of `draw` ended, and what it wrote by that.
 #[derive(Clone, Copy, Drop, Debug, PartialEq, Eq)]
 pub enum Status {
-    /// The page of the picture.
+    /// The picture.
     Ok,
     /// The help that the words ask for.
     Help,
@@ -19,8 +19,8 @@ pub enum Status {
     WriteFault,
     /// Nothing: memory was refused.
     Memory,
-    /// `pages P`: the picture has fewer pages than the one that is asked for, and these are so many.
-    NoPage { pages: usize },
+    /// `boxes B`: the picture would have so many boxes: more than 2,000 where no lines are named, or else none.
+    NoPicture { boxes: usize },
 }
 
 impl Status {
@@ -37,7 +37,7 @@ impl Status {
             Status::ReadFault => 3,
             Status::WriteFault => 4,
             Status::Memory => 5,
-            Status::NoPage { .. } => 7,
+            Status::NoPicture { .. } => 7,
         }
     }
 }

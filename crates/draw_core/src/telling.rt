@@ -1,12 +1,12 @@
 //! What is told on standard error beside a status: no part of what `draw` writes.
-use crate::asking::Ask;
-use crate::page::MOST_PAGES;
+use crate::asking::{Ask, Waits};
+use crate::part::WHOLE;
 use crate::status::Status;
 use std::alloc::{AllocError, Global};
 use stm_nearest::{put_nearest, put_word};
 
 /// The options that there are.
-const OPTIONS: [&str; 3] = ["--page", "--help", "--version"];
+const OPTIONS: [&str; 4] = ["--lines", "--callers", "--help", "--version"];
 
 /// What there is to tell of a status, where `why` is what is wrong with the text that was read.
 ///
@@ -20,14 +20,11 @@ pub(crate) fn told(
 ) -> Result<Option<String>, AllocError> {
     let said = match status {
         Status::Ok | Status::Help => return Ok(None),
-        Status::Refused { .. } => return Ok(why),
+        Status::Refused { .. } | Status::NoPicture { .. } => return Ok(why),
         Status::Usage => wrong_word(alloc, words)?,
         Status::ReadFault => "a file or standard input could not be read".to_string(alloc)?,
         Status::WriteFault => "standard output could not be written to the end".to_string(alloc)?,
         Status::Memory => "memory was refused, and nothing was written".to_string(alloc)?,
-        Status::NoPage { pages } => format!(in alloc;
-            "the picture has no such page; here stands `--page P`, P from 1 to {pages}"
-        )?,
     };
     Ok(Some(said))
 }
@@ -36,10 +33,10 @@ pub(crate) fn told(
 pub fn wrong_word(alloc: Global, words: &[&str]) -> Result<String, AllocError> {
     let mut said = String::new(alloc);
     let mut ask = Ask {
-        page: None,
+        part: WHOLE,
         first: None,
         second: None,
-        waits: false,
+        waits: Waits::ForNone,
     };
     for word in words.iter().skip(1) {
         match ask.take(word) {
@@ -50,18 +47,18 @@ pub fn wrong_word(alloc: Global, words: &[&str]) -> Result<String, AllocError> {
             }
         }
     }
-    put_pages(&mut said, "no page follows `--page`")?;
+    put_value(&mut said, "no value follows", ask.waits)?;
     Ok(said)
 }
 
 /// Appends why this word may not come.
 fn put_wrong(alloc: Global, said: &mut String, ask: Ask<'_>, word: &str) -> Result<(), AllocError> {
     put_word(said, word)?;
-    if ask.waits {
-        return put_pages(said, " is no page");
+    if ask.waits.is_waiting() {
+        return put_value(said, " is no value of", ask.waits);
     }
-    if word == "--page" {
-        return said.push_str(" is a second page; here stands one at most");
+    if word == "--lines" || word == "--callers" {
+        return said.push_str(" stands twice; here stands each option once at most");
     }
     if word == "--help" || word == "--version" {
         return said.push_str(" isn't alone; here stands no other word beside it");
@@ -73,10 +70,11 @@ fn put_wrong(alloc: Global, said: &mut String, ask: Ask<'_>, word: &str) -> Resu
     said.push_str(" is a word too many; here stand two files' names at most")
 }
 
-/// Appends which pages there may be.
-fn put_pages(said: &mut String, why: &str) -> Result<(), AllocError> {
-    write!(
-        said,
-        "{why}; here stands `--page P`, P from 1 to {MOST_PAGES}"
-    )
+/// Appends what is wrong with the value of an option, and which values there may be.
+fn put_value(said: &mut String, why: &str, waits: Waits) -> Result<(), AllocError> {
+    said.push_str(why)?;
+    said.push_str(match waits {
+        Waits::ForCallers => " `--callers`; here stands N,N.., each N a caller from 0 to 31",
+        _ => " `--lines`; here stands A..B, A from 1 and B from A on",
+    })
 }

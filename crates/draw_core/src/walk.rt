@@ -1,11 +1,14 @@
 //! The operations that the lines of a trace tell of, from the workload that it is of.
 ghost use Rattle.std.specs.Prelude.{◌≡◌, Some, None, MatchOption, IfOk, List, option_map};
 ghost use Rattle.stm_script.specs.declared.workload.Item.{Item};
+ghost use Rattle.draw_core.specs.Phases.{first_phases};
 ghost use Rattle.draw_core.specs.Walks.{callers_in, deed_of, first_stands, goes, stands_of, AreWithin};
 
 use crate::cursor::{Cursor, after};
-use crate::misfit::{Misfit, Unfit, misfit_in};
+use crate::misfit::{Misfit, Unfit, misfit_by, misfit_in};
 use crate::page::Page;
+use crate::part::Part;
+use crate::phase::{passes, phase_at};
 use crate::step::{Deed, Step};
 use crate::turn::turn_of;
 use std::alloc::{AllocError, AllocFailed, Global};
@@ -13,6 +16,7 @@ use stm_faults::fault::Fault;
 use stm_script::op::Op;
 use stm_script::workload::{Item, Version, Workload};
 use stm_trace::line::Line;
+use stm_trace::said::Phase;
 use thiserror::Error;
 
 /// Why a text has no steps. A line counts from 1, and is 0 for a text that is too long.
@@ -66,6 +70,13 @@ fn first_cursors(alloc: Global, callers: usize) -> Result<Vec<Cursor>, AllocErro
     Ok(vec![in alloc; first; callers]?)
 }
 
+/// The callers are between two attempts.
+fn first_phases(alloc: Global) -> Result<Vec<Phase>, AllocError>
+    ensures { IfOk result (λ p. p.items ≡ first_phases) }
+{
+    Ok(vec![in alloc; Phase::Between; 32]?)
+}
+
 /// The operation that a line tells of, and its caller's cursor after it. None where the line may not come there.
 fn step_of(version: Version, items: &[Item], cursors: &mut [Cursor], line: Line) -> Option<Step>
     requires { AreWithin items.now cursors.old }
@@ -117,6 +128,8 @@ pub struct Walk<'a> {
     /// How many lines stand above the trace.
     above: usize,
     cursors: Vec<Cursor>,
+    /// Where they stand by their lines alone.
+    phases: Vec<Phase>,
     page: Page,
     /// The first line that may not come where its caller stands.
     misfit: Option<Unfit>,
@@ -125,38 +138,41 @@ pub struct Walk<'a> {
 impl<'a> Walk<'a> {
     ghost use Rattle.std.specs.Prelude.{◌≡◌, ◌<◌, ◌≤◌, ◌+◌, ◌^◌, [], ◌∷◌, ◌++◌, List, Some, None, MatchOption, IfOk, IfErr, OnOk};
     ghost use Rattle.stm_trace.specs.declared.line.Line.{Line};
-    ghost use Rattle.draw_core.specs.Walks.{next_step, stands_in, told_steps, workload_in, AreWithinOf, IsWalk};
+    ghost use Rattle.draw_core.specs.Walks.{along_of, next_step, stands_in, stepped, told_steps, version_in, workload_in, AreWithinOf, IsWalk};
     ghost use Rattle.draw_core.specs.Misfits.{misfit_of};
     ghost use Rattle.draw_core.specs.Shapes.{lane_of};
     ghost use Rattle.draw_core.specs.Whole.{IsPageFor, IsStepsFault};
 
-    /// Before the first line: the page has so many rows before it.
+    /// Before the first line, to draw this part.
     pub fn new(
         alloc: Global,
         workload: Option<&'a Workload>,
         above: usize,
-        from: usize,
+        part: Part,
     ) -> Result<Self, AllocError>
         ensures is { IfOk result (λ w. IsWalk w []) }
         ensures workload { IfOk result (λ w. w.workload ≡ workload.entry) }
         ensures above { IfOk result (λ w. w.above ≡ above) }
         ensures lines { IfOk result (λ w. w.page.lines ≡ 0) }
-        ensures from { IfOk result (λ w. w.page.from ≡ from) }
+        ensures part { IfOk result (λ w. w.page.part ≡ part) }
     {
         Ok(Walk {
             workload,
             above,
             cursors: first_cursors(alloc, callers_in(workload))?,
-            page: Page::new(alloc, from)?,
+            phases: first_phases(alloc)?,
+            page: Page::new(alloc, part)?,
             misfit: None,
         })
     }
 
-    /// The step of a line. None where the line may not come there.
-    fn next(&mut self, line: Line) -> Option<Step>
+    /// The step of a line, by the workload. None where it may not come there.
+    fn advance(&mut self, line: Line) -> Option<Step>
         requires { AreWithinOf (workload_in self.old) self.old.cursors.items }
-        ensures is { MatchOption result (next_step (workload_in self.old) self.old.cursors.items line ≡ None)
-            (λ s. next_step (workload_in self.old) self.old.cursors.items line
+        ensures is { MatchOption result
+            (stepped (version_in (workload_in self.old)) (stands_in (workload_in self.old) self.old.cursors.items) line ≡ None)
+            (λ s.
+            stepped (version_in (workload_in self.old)) (stands_in (workload_in self.old) self.old.cursors.items) line
             ≡ Some (s, stands_in (workload_in self.old) self.new.cursors.items)) }
         ensures within { AreWithinOf (workload_in self.old) self.new.cursors.items }
         ensures same { self.new ≡ record self.old { cursors = self.new.cursors } }
@@ -172,26 +188,49 @@ impl<'a> Walk<'a> {
         }
     }
 
+    /// The step of a line. None where the line may not come there.
+    fn next(&mut self, line: Line) -> Option<Step>
+        requires { AreWithinOf (workload_in self.old) self.old.cursors.items }
+        ensures is { MatchOption result
+            (next_step (workload_in self.old) self.old.cursors.items self.old.phases.items line ≡ None) (λ s.
+            next_step (workload_in self.old) self.old.cursors.items self.old.phases.items line
+            ≡ Some (s, along_of (workload_in self.old) self.new.cursors.items self.new.phases.items)) }
+        ensures within { AreWithinOf (workload_in self.old) self.new.cursors.items }
+        ensures same { self.new ≡ record self.old { cursors = self.new.cursors; phases = self.new.phases } }
+    {
+        let step = self.advance(line)?;
+        if passes(self.phases.as_mut_slice(), line) {
+            Some(step)
+        } else {
+            None
+        }
+    }
+
     /// A line that may not come, with where its caller stands.
     fn unfit(&self, line: Line) -> Unfit
         requires few { self.now.above + self.now.page.lines < 2 ^ 62 }
         requires within { AreWithinOf (workload_in self.now) self.now.cursors.items }
         ensures line { result.line ≡ self.now.above + self.now.page.lines + 1 }
-        ensures misfit { result.misfit ≡ misfit_of (workload_in self.now) self.now.cursors.items result.caller }
+        ensures misfit { result.misfit ≡ misfit_of (workload_in self.now) self.now.cursors.items
+            self.now.phases.items result.caller }
         ensures caller { result.caller ≡ lane_of line }
     {
         let caller = match line {
             Line::Of { caller, .. } => caller,
             Line::Finish => 0,
         };
+        let phase = phase_at(self.phases.as_slice(), caller);
         let misfit = match self.workload {
-            Some(workload) => misfit_in(
-                workload.header.version,
-                workload.items.as_slice(),
-                self.cursors.as_slice(),
-                caller,
+            Some(workload) => misfit_by(
+                phase,
+                misfit_in(
+                    workload.header.version,
+                    workload.items.as_slice(),
+                    self.cursors.as_slice(),
+                    caller,
+                ),
             ),
-            None => Misfit::Over,
+            None => Misfit::At(phase),
         };
         Unfit {
             line: self.above + self.page.lines() + 1,
@@ -208,7 +247,7 @@ impl<'a> Walk<'a> {
         ensures workload { self.new.workload ≡ self.old.workload }
         ensures above { self.new.above ≡ self.old.above }
         ensures lines { OnOk result (self.new.page.lines ≤ self.old.page.lines + 1) }
-        ensures from { self.new.page.from ≡ self.old.page.from }
+        ensures part { self.new.page.part ≡ self.old.page.part }
     {
         if self.misfit.is_some() {
             return Ok(());
@@ -231,7 +270,7 @@ impl<'a> Walk<'a> {
             → IfOk result (λ p. IsPageFor p (told_steps (workload_in self.entry) self.entry.above lines)) }
         ensures fault { (lines : List Line) → IsWalk self.entry lines
             → IfErr result (λ e. IsStepsFault e (told_steps (workload_in self.entry) self.entry.above lines)) }
-        ensures from { IfOk result (λ p. p.from ≡ self.entry.page.from) }
+        ensures part { IfOk result (λ p. p.part ≡ self.entry.page.part) }
         ensures few { IfOk result (λ p. p.count < 2 ^ 62) }
     {
         let Walk {

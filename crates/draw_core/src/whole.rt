@@ -7,6 +7,7 @@ ghost use Rattle.draw_core.specs.Grammar.{trace_of};
 ghost use Rattle.draw_core.specs.Whole.{both, follows, has_workload, steps_of, IsPageFor, IsStepsFault};
 
 use crate::page::Page;
+use crate::part::Part;
 use crate::reading::{MOST_DRAWN, ReadError, walk_trace};
 use crate::walk::{StepsError, Walk};
 use std::alloc::Global;
@@ -22,14 +23,14 @@ pub fn has_workload(text: &[u8]) -> bool
     text.starts_with(b"stm")
 }
 
-/// A page of the trace of a text, whose lines tell of operations where a workload stands above the trace: the page that
-/// has so many rows before it.
+/// What is drawn of this part of the trace of a text, whose lines tell of operations where a workload stands above the
+/// trace.
 ///
 /// # Errors
 /// `Workload`, `Trace` or `Unfit` with the first line at fault, `Memory` where it is refused.
-pub fn read_page(alloc: Global, text: &[u8], from: usize) -> Result<Page, StepsError>
+pub fn read_page(alloc: Global, text: &[u8], part: Part) -> Result<Page, StepsError>
     ensures told { IfOk result (λ p. IsPageFor p (steps_of text.now)) }
-    ensures from { IfOk result (λ p. p.from ≡ from) }
+    ensures part { IfOk result (λ p. p.part ≡ part) }
     ensures few { IfOk result (λ p. p.count < 2 ^ 62) }
     ensures fault { IfErr result (λ e. IsStepsFault e (steps_of text.now)) }
 {
@@ -38,23 +39,23 @@ pub fn read_page(alloc: Global, text: &[u8], from: usize) -> Result<Page, StepsE
     }
     if has_workload(text) {
         let (head, behind) = part_at_done(text);
-        return read_both(alloc, head, behind, from);
+        return read_both(alloc, head, behind, part);
     }
-    follow(alloc, None, 0, text, from)
+    follow(alloc, None, 0, text, part)
 }
 
 /// A workload's text, and then that of its trace.
-fn read_both(alloc: Global, head: &[u8], behind: &[u8], from: usize) -> Result<Page, StepsError>
+fn read_both(alloc: Global, head: &[u8], behind: &[u8], part: Part) -> Result<Page, StepsError>
     ensures told { IfOk result (λ p.
         IsPageFor p (both (workload_of Stepwise head.now) (length (lines_of head.now)) (trace_of behind.now))) }
-    ensures from { IfOk result (λ p. p.from ≡ from) }
+    ensures part { IfOk result (λ p. p.part ≡ part) }
     ensures few { IfOk result (λ p. p.count < 2 ^ 62) }
     ensures fault { IfErr result (λ e.
         IsStepsFault e
         (both (workload_of Stepwise head.now) (length (lines_of head.now)) (trace_of behind.now))) }
 {
     match parse(alloc, head, Mode::Step) {
-        Ok(workload) => follow(alloc, Some(&workload), count_lines(head), behind, from),
+        Ok(workload) => follow(alloc, Some(&workload), count_lines(head), behind, part),
         Err(ParseError::Fault { line, code }) => Err(StepsError::Workload {
             line,
             fault: Fault::of(code),
@@ -63,23 +64,23 @@ fn read_both(alloc: Global, head: &[u8], behind: &[u8], from: usize) -> Result<P
     }
 }
 
-/// A page of a trace, along its workload where there is one, below so many lines.
+/// What is drawn of a trace, along its workload where there is one, below so many lines.
 fn follow(
     alloc: Global,
     workload: Option<&Workload>,
     above: usize,
     text: &[u8],
-    from: usize,
+    part: Part,
 ) -> Result<Page, StepsError>
     requires { above < 2 ^ 61 }
     ensures told { IfOk result (λ p.
         IsPageFor p (follows (option_map (λ w. w.now) workload.entry) above (trace_of text.now))) }
-    ensures from { IfOk result (λ p. p.from ≡ from) }
+    ensures part { IfOk result (λ p. p.part ≡ part) }
     ensures few { IfOk result (λ p. p.count < 2 ^ 62) }
     ensures fault { IfErr result (λ e.
         IsStepsFault e (follows (option_map (λ w. w.now) workload.entry) above (trace_of text.now))) }
 {
-    let mut walk = Walk::new(alloc, workload, above, from)?;
+    let mut walk = Walk::new(alloc, workload, above, part)?;
     match walk_trace(alloc, text, &mut walk) {
         Ok(()) => walk.into_page(),
         Err(ReadError::Refused { line }) => Err(StepsError::Trace {

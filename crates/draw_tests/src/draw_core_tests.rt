@@ -1,9 +1,10 @@
-use draw_core::asking::{Ask, Topic, asked, help_of};
+use draw_core::asking::{Ask, Topic, Waits, asked, help_of};
 use draw_core::draw::{draw, drawn};
 use draw_core::kind::Kind;
 use draw_core::label::label;
 use draw_core::laws::{step_is_drawn, trace_is_drawn};
-use draw_core::page::{Page, pages_of};
+use draw_core::page::Page;
+use draw_core::part::{Callers, Lines, Part};
 use draw_core::picture::{Leaf, picture};
 use draw_core::row::Row;
 use draw_core::shape::{Layer, Shape, shape_at};
@@ -13,6 +14,7 @@ use draw_core::step::{Deed, Step};
 use draw_core::telling::wrong_word;
 use draw_core::walk::StepsError;
 use draw_core::whole::read_page;
+use std::alloc::Global;
 use std::test::Fail;
 use stm_io::memory::{MemSink, MemSource};
 use stm_model::alg::Alg;
@@ -49,6 +51,27 @@ fn fault(read: Result<Page, StepsError>) -> Option<usize> {
     }
 }
 
+/// All that there is.
+const WHOLE: Part = Part {
+    lines: None,
+    callers: None,
+};
+
+/// These lines, of all callers.
+fn lines(first: usize, last: usize) -> Part {
+    Part {
+        lines: Some(Lines { first, last }),
+        callers: None,
+    }
+}
+
+/// All rows of a page: those that stand above it, and its own.
+fn rows_of(alloc: Global, page: &Page) -> Result<Vec<Row>, Fail> {
+    let mut rows = page.above(alloc)?;
+    page.put_own(&mut rows)?;
+    Ok(rows)
+}
+
 /// A row of one line.
 fn row(number: usize, step: Step) -> Row {
     Row {
@@ -82,7 +105,7 @@ fn refuses_by_line(rt: HostRuntime) -> Result<(), Fail> {
         ("clock full 5\n\n", Some(2)),
     ];
     for (text, line) in &table {
-        let read = read_page(rt.alloc(), text.as_bytes(), 0);
+        let read = read_page(rt.alloc(), text.as_bytes(), WHOLE);
         assert_eq!(rt; fault(read), *line, "{text}");
     }
     Ok(())
@@ -92,7 +115,7 @@ fn refuses_by_line(rt: HostRuntime) -> Result<(), Fail> {
 fn lines_have_their_shapes(rt: HostRuntime) -> Result<(), Fail> {
     let mut text = TRACE.to_string(rt.alloc())?;
     text.push_str("report 1\nend\n")?;
-    let lines = read_page(rt.alloc(), text.as_bytes(), 0)?.rows(rt.alloc())?;
+    let lines = rows_of(rt.alloc(), &read_page(rt.alloc(), text.as_bytes(), WHOLE)?)?;
     let mut told = Vec::new(rt.alloc());
     for row in &lines {
         told.push(row.step.line)?;
@@ -215,7 +238,7 @@ fn traces_follow_their_scripts(rt: HostRuntime) -> Result<(), Fail> {
         text.push_str(trace)?;
         text.push_str("report 1\nend\n")?;
         assert_eq!(rt;
-            unfit(read_page(rt.alloc(), text.as_bytes(), 0)),
+            unfit(read_page(rt.alloc(), text.as_bytes(), WHOLE)),
             *line,
             "{trace}"
         );
@@ -245,12 +268,68 @@ fn misfits_tell_where_a_caller_stands(rt: HostRuntime) -> Result<(), Fail> {
             "1 begin TML\n1 read 9\n1 move 1\n1 total 0\n1 commit committed 1\n1 begin TML\n",
             "caller 1 is in no attempt, and has no transaction left",
         ),
+        (
+            "0 close closed\n0 begin TML\n",
+            "caller 0 has closed the gate; here stands `0 look quiet`",
+        ),
     ];
     for (trace, wanted) in &table {
         let mut text = WORKLOAD.to_string(alloc)?;
         text.push_str(trace)?;
         text.push_str("report 1\nend\n")?;
-        let said = drawn(alloc, text.as_bytes(), 1)?;
+        let said = drawn(alloc, text.as_bytes(), WHOLE)?;
+        let why = said.why.unwrap_or(String::new(alloc));
+        assert!(rt; why.contains(wanted), "{why}");
+    }
+    Ok(())
+}
+
+/// A line of a trace alone comes in an attempt, between two, or while its caller has closed the gate.
+#[test]
+fn lines_follow_those_of_their_callers(rt: HostRuntime) -> Result<(), Fail> {
+    let alloc = rt.alloc();
+    let table = [
+        (
+            "0 begin TML\n1 begin TML\n1 read 1\n1 commit committed 1\n0 drop\n0 begin closed 3\n0 reserve 4 4\n\
+             0 close taken 3\n0 close closed\n0 look busy 1 1\n0 look quiet\n0 install CGL\n0 close closed\n0 reopen\n\
+             0 idle\n",
+            0,
+            "",
+        ),
+        (
+            "0 begin TML\n0 commit committed 1\n0 commit committed 2\n",
+            3,
+            "line 3, `0 commit committed 2`: caller 0 is in no attempt; here stands `0 begin ALG`",
+        ),
+        ("0 commit conflict clock 1 2\n", 1, "is in no attempt"),
+        (
+            "7 begin TML\n7 begin TML\n",
+            2,
+            "caller 7 is in an attempt; here stands `7 NAME REPLY`",
+        ),
+        ("0 begin TML\n0 idle\n", 2, "is in an attempt"),
+        ("0 install TML\n", 1, "is in no attempt"),
+        (
+            "0 close closed\n0 install TML\n",
+            2,
+            "caller 0 has closed the gate; here stands `0 look quiet`",
+        ),
+        (
+            "0 close closed\n0 look quiet\n0 look quiet\n",
+            3,
+            "has closed the gate, and no other is in an attempt; here stands `0 install ALG`",
+        ),
+    ];
+    for (trace, line, wanted) in &table {
+        let mut text = trace.to_string(alloc)?;
+        text.push_str("report 1\nend\n")?;
+        let said = drawn(alloc, text.as_bytes(), WHOLE)?;
+        let status = if *line == 0 {
+            Status::Ok
+        } else {
+            Status::Refused { line: *line }
+        };
+        assert_eq!(rt; said.status, status, "{trace}");
         let why = said.why.unwrap_or(String::new(alloc));
         assert!(rt; why.contains(wanted), "{why}");
     }
@@ -265,7 +344,7 @@ fn labels_have_the_operation_and_the_reply(rt: HostRuntime) -> Result<(), Fail> 
          0 emit 8\n0 mput 0\n0 commit committed 2\n0 begin TML\n0 cancel irrevocable\n0 add full 3\nfinish\n\
          clock full 9\n",
     )?;
-    let rows = read_page(rt.alloc(), text.as_bytes(), 0)?.rows(rt.alloc())?;
+    let rows = rows_of(rt.alloc(), &read_page(rt.alloc(), text.as_bytes(), WHOLE)?)?;
     let told = [
         " begin TML",
         " read 3 → 9",
@@ -312,10 +391,10 @@ fn draws_from_a_source_to_a_sink(rt: HostRuntime) -> Result<(), Fail> {
     let alloc = rt.alloc();
     let mut text = TRACE.to_string(alloc)?;
     text.push_str("report 1\nend\n")?;
-    let rows = read_page(alloc, text.as_bytes(), 0)?.rows(alloc)?;
+    let rows = rows_of(alloc, &read_page(alloc, text.as_bytes(), WHOLE)?)?;
     let leaf = Leaf {
-        page: 1,
-        pages: 1,
+        lines: None,
+        callers: None,
         above: 0,
     };
     let expected = picture(alloc, leaf, rows.as_slice())?;
@@ -340,7 +419,7 @@ fn each_end_has_its_status(rt: HostRuntime) -> Result<(), Fail> {
             false,
             false,
             Status::Usage,
-            "usage: stm_draw [--page P] [FILE [TRACE]]\n",
+            "usage: stm_draw [--lines A..B] [--callers N,N..] [FILE [TRACE]]\n",
         ),
         (
             &["stm_draw", "--version"],
@@ -359,12 +438,12 @@ fn each_end_has_its_status(rt: HostRuntime) -> Result<(), Fail> {
             "refused 1\n",
         ),
         (
-            &["stm_draw", "--page", "2"],
+            &["stm_draw", "--lines", "2..9"],
             "0 idle\nreport 1\nend\n",
             false,
             false,
-            Status::NoPage { pages: 1 },
-            "pages 1\n",
+            Status::NoPicture { boxes: 0 },
+            "boxes 0\n",
         ),
         (
             alone,
@@ -415,7 +494,7 @@ fn each_end_has_its_status(rt: HostRuntime) -> Result<(), Fail> {
 #[test]
 fn idle_turns_are_one_row(rt: HostRuntime) -> Result<(), Fail> {
     let text = "0 idle\n0 idle\n1 idle\n0 idle\n0 idle\n0 idle\nfinish\nreport 1\nend\n";
-    let rows = read_page(rt.alloc(), text.as_bytes(), 0)?.rows(rt.alloc())?;
+    let rows = rows_of(rt.alloc(), &read_page(rt.alloc(), text.as_bytes(), WHOLE)?)?;
     let told = [
         (1, " idle 2 times"),
         (3, " idle"),
@@ -431,31 +510,53 @@ fn idle_turns_are_one_row(rt: HostRuntime) -> Result<(), Fail> {
     Ok(())
 }
 
-/// A page has what still stands above it: of a caller the begin of its open attempt and where it asks to be alone, a gate
+/// A part has what still stands above it: of a caller the begin of its open attempt and where it asks to be alone, a gate
 /// that is closed, and the last commit of all.
 #[test]
-fn pages_begin_with_what_stands(rt: HostRuntime) -> Result<(), Fail> {
+fn parts_begin_with_what_stands(rt: HostRuntime) -> Result<(), Fail> {
     let text =
         "0 begin TML\n0 read 1\n0 commit committed 1\n1 begin TML\n1 read 2\n0 begin TML\n0 irrev busy 1 1\n\
-                2 close closed\n0 irrev granted\n1 read conflict clock 1 2\n0 read 3\n2 look busy 0 1\nreport 1\n\
-                end\n";
+                2 close closed\n0 irrev granted\n1 read conflict clock 1 2\n0 read 3\n2 look busy 0 1\nfinish\n\
+                report 1\nend\n";
+    let alone = Some(Callers::none().with(1).with(2));
     let table = [
-        (0, "1 2 3 4 5 6 7 8 9 10 11 12 "),
-        (2, "1 3 4 5 6 7 8 9 10 11 12 "),
-        (5, "3 4 6 7 8 9 10 11 12 "),
-        (9, "3 6 9 4 8 10 11 12 "),
-        (11, "3 6 9 8 12 "),
+        (1, 13, None, "1 2 3 4 5 6 7 8 9 10 11 12 13 "),
+        (3, 6, None, "1 3 4 5 6 "),
+        (6, 13, None, "3 4 6 7 8 9 10 11 12 13 "),
+        (10, 11, None, "3 6 9 4 8 10 11 "),
+        (12, 12, None, "3 6 9 8 12 "),
+        (14, 20, None, "3 6 9 8 "),
+        // the last commit is shown, whosever it is
+        (1, 13, alone, "4 5 8 10 12 13 "),
+        (9, 12, alone, "3 4 8 10 12 "),
     ];
-    for (from, numbers) in table {
-        let rows = read_page(rt.alloc(), text.as_bytes(), from)?.rows(rt.alloc())?;
+    for (first, last, callers, numbers) in table {
+        let part = Part {
+            callers,
+            ..lines(first, last)
+        };
+        let rows = rows_of(rt.alloc(), &read_page(rt.alloc(), text.as_bytes(), part)?)?;
         let mut told = String::new(rt.alloc());
         for row in &rows {
             let number = row.number;
             write!(told, "{number} ")?;
         }
-        assert_eq!(rt; told.as_str(), numbers, "{from}");
+        assert_eq!(rt; told.as_str(), numbers, "{first}");
     }
-    assert_eq!(rt; (pages_of(0), pages_of(1000), pages_of(1001)), (1, 1, 2));
+    let drawn = drawn(
+        rt.alloc(),
+        text.as_bytes(),
+        Part {
+            lines: None,
+            callers: alone,
+        },
+    )?;
+    let text = String::from_utf8(drawn.text)?;
+    assert!(rt; text.contains("<title>A trace</title>"));
+    // the first lane is caller 1's
+    assert!(rt; text.contains("<text class='head words' x='246' y='28'>caller 1</text>"));
+    assert!(rt; text.contains("<text class='head words' x='462' y='28'>caller 2</text>"));
+    assert!(rt; !text.contains("caller 0"));
     Ok(())
 }
 
@@ -484,64 +585,116 @@ fn long_numbers_are_shortened(rt: HostRuntime) -> Result<(), Fail> {
     Ok(())
 }
 
-/// A page of a long trace has its number, its own rows, and those above it.
+/// More than 2,000 boxes are drawn only where lines are named.
 #[test]
-fn long_traces_have_pages(rt: HostRuntime) -> Result<(), Fail> {
+fn long_traces_are_drawn_by_parts(rt: HostRuntime) -> Result<(), Fail> {
     let alloc = rt.alloc();
     let mut text = String::new(alloc);
     text.push_str("0 begin TML\n")?;
-    for _ in 0..1500 {
+    for _ in 0..1999 {
         text.push_str("0 read 18446744073709551615\n")?;
     }
-    text.push_str("report 1\nend\n")?;
-    let first = drawn(alloc, text.as_bytes(), 1)?;
-    let second = drawn(alloc, text.as_bytes(), 2)?;
-    assert_eq!(rt; (first.status, second.status), (Status::Ok, Status::Ok));
-    let first = String::from_utf8(first.text)?;
-    let second = String::from_utf8(second.text)?;
-    assert_eq!(rt; first.matches("<rect class='box ").count(), 1001);
-    assert_eq!(rt; second.matches("<rect class='box ").count(), 503);
-    assert!(rt; first.contains("<title>Page 1 of 2 of a trace</title>"));
-    assert!(rt; second.contains("<title>Page 2 of 2 of a trace</title>"));
-    assert!(rt; !first.contains("class='turn "));
-    assert!(rt; second.contains("class='turn "));
-    assert!(rt; second.contains("<title> read 18446744073709551615</title> read 184..615</text>"));
-    assert!(rt; second.contains("> begin TML</text>"));
-    assert_eq!(rt; first.matches(">caller 0</text>").count(), 25);
-    let third = drawn(alloc, text.as_bytes(), 3)?;
-    assert_eq!(rt; third.status, Status::NoPage { pages: 2 });
+    let mut short = text.clone()?;
+    short.push_str("report 1\nend\n")?;
+    let short = drawn(alloc, short.as_bytes(), WHOLE)?;
+    assert_eq!(rt; short.status, Status::Ok);
+    let short = String::from_utf8(short.text)?;
+    assert_eq!(rt; short.matches("<rect class='box ").count(), 2001);
+    assert_eq!(rt; short.matches(">caller 0</text>").count(), 50);
+    assert!(rt; !short.contains("class='turn "));
+    text.push_str("1 begin TML\nreport 1\nend\n")?;
+    let whole = drawn(alloc, text.as_bytes(), WHOLE)?;
+    assert_eq!(rt; whole.status, Status::NoPicture { boxes: 2001 });
+    assert_eq!(rt; whole.text.as_slice(), "boxes 2001\n".as_bytes());
+    let why = whole.why.unwrap_or(String::new(alloc));
+    assert!(rt;
+        why.contains("here stands `--lines A..B`, of lines 1 to 2001"),
+        "{why}"
+    );
+    let all = drawn(alloc, text.as_bytes(), lines(1, 3000))?;
+    assert_eq!(rt; all.status, Status::Ok);
+    let last = drawn(alloc, text.as_bytes(), lines(1500, 2001))?;
+    assert_eq!(rt; last.status, Status::Ok);
+    let last = String::from_utf8(last.text)?;
+    assert_eq!(rt; last.matches("<rect class='box ").count(), 504);
+    assert!(rt; last.contains("<title>Lines 1500 to 2001 of a trace</title>"));
+    assert!(rt; last.contains("class='turn "));
+    assert!(rt; last.contains("<title> read 18446744073709551615</title> read 184..615</text>"));
+    assert!(rt; last.contains("> begin TML</text>"));
+    let second = Part {
+        lines: None,
+        callers: Some(Callers::none().with(1)),
+    };
+    assert_eq!(rt; drawn(alloc, text.as_bytes(), second)?.status, Status::Ok);
     Ok(())
 }
 
 #[test]
-fn words_ask_for_a_page_and_files(rt: HostRuntime) -> Result<(), Fail> {
+fn words_ask_for_a_part_and_files(rt: HostRuntime) -> Result<(), Fail> {
     let wanted = Ask {
-        page: Some(20_000),
+        part: Part {
+            lines: Some(Lines { first: 7, last: 90 }),
+            callers: Some(Callers::none().with(31).with(0).with(5)),
+        },
         first: Some("a.stm"),
         second: Some("a.trace"),
-        waits: false,
+        waits: Waits::ForNone,
     };
-    assert_eq!(rt;
-        asked(&["stm_draw", "a.stm", "--page", "20000", "a.trace"]),
-        Some(wanted)
-    );
+    let words = [
+        "stm_draw",
+        "a.stm",
+        "--lines",
+        "7..90",
+        "--callers",
+        "0,5,31,5",
+        "a.trace",
+    ];
+    assert_eq!(rt; asked(&words), Some(wanted));
     assert_eq!(rt; help_of(&["stm_draw", "-h"]), Some(Topic::All));
     let table = [
         (
-            &["stm_draw", "--page", "0"] as &[&str],
-            "`0` is no page; here stands `--page P`, P from 1 to 20000",
+            &["stm_draw", "--lines", "0..3"] as &[&str],
+            "`0..3` is no value of `--lines`; here stands A..B, A from 1 and B from A on",
         ),
         (
-            &["stm_draw", "--page", "20001"],
-            "`20001` is no page; here stands `--page P`, P from 1 to 20000",
+            &["stm_draw", "--lines", "3..2"],
+            "`3..2` is no value of `--lines`; here stands A..B, A from 1 and B from A on",
         ),
         (
-            &["stm_draw", "--page"],
-            "no page follows `--page`; here stands `--page P`, P from 1 to 20000",
+            &["stm_draw", "--lines", "3.4"],
+            "`3.4` is no value of `--lines`; here stands A..B, A from 1 and B from A on",
         ),
         (
-            &["stm_draw", "--page", "1", "--page", "2"],
-            "`--page` is a second page; here stands one at most",
+            &["stm_draw", "--lines", "3..4.5"],
+            "`3..4.5` is no value of `--lines`; here stands A..B, A from 1 and B from A on",
+        ),
+        (
+            &["stm_draw", "--lines", "3"],
+            "`3` is no value of `--lines`; here stands A..B, A from 1 and B from A on",
+        ),
+        (
+            &["stm_draw", "--lines", "1..18446744073709551616"],
+            "`1..18446744073709551616` is no value of `--lines`; here stands A..B, A from 1 and B from A on",
+        ),
+        (
+            &["stm_draw", "--callers", "32"],
+            "`32` is no value of `--callers`; here stands N,N.., each N a caller from 0 to 31",
+        ),
+        (
+            &["stm_draw", "--callers", "0,,3"],
+            "`0,,3` is no value of `--callers`; here stands N,N.., each N a caller from 0 to 31",
+        ),
+        (
+            &["stm_draw", "--callers", ""],
+            "`` is no value of `--callers`; here stands N,N.., each N a caller from 0 to 31",
+        ),
+        (
+            &["stm_draw", "--lines"],
+            "no value follows `--lines`; here stands A..B",
+        ),
+        (
+            &["stm_draw", "--callers", "1", "--callers", "2"],
+            "`--callers` stands twice; here stands each option once at most",
         ),
         (
             &["stm_draw", "a", "--help"],

@@ -1,5 +1,6 @@
 //! The pictures that stand in docs/pictures are those that are drawn.
 use draw_core::draw::drawn;
+use draw_core::part::Part;
 use draw_core::status::Status;
 use sha2::{Digest, Sha256};
 use std::test::Fail;
@@ -16,7 +17,7 @@ const AGAIN: Picture = Picture {
                structs off\ntx 0\nwrite 0 5\nend\ntx 1\nwrite 1 6\nend\nschedule\ngo 0 2\ngo 1 3\ngo 0 2\ndone\n",
     trace: "0 begin OrecLazy\n0 write 5\n1 begin OrecLazy\n1 write 6\n1 commit committed 1\n0 commit again 0 0 1\n\
             0 commit committed 2\nfinish\n",
-    sum: "12438239639e7642707133895b2d5ad2ef2656d27b45fed954c676b42fe53955",
+    sum: "ff94f72f55ab994964d6512ab240cc52115fe6e80b455266427b456173261cd9",
 };
 
 const CONFLICT: Picture = Picture {
@@ -26,7 +27,7 @@ const CONFLICT: Picture = Picture {
     trace: "0 begin OrecLazy\n0 read 0\n1 begin OrecLazy\n1 write 5\n1 write 6\n1 commit committed 1\n\
             0 read conflict record 0 2 0\n0 begin OrecLazy\n0 read 5\n0 read 6\n0 write 9\n0 commit committed 2\n\
             finish\n",
-    sum: "f93bf95303315c442a672e3d26164de7389ca69876425994778b634f5a53ff2d",
+    sum: "9388dc09dc5664431bbf3861facbb530964996e2643f3b44c2f16479ee16da48",
 };
 
 const EXTENSION: Picture = Picture {
@@ -35,7 +36,7 @@ const EXTENSION: Picture = Picture {
                go 0 3\ndone\n",
     trace: "0 begin OrecLazy\n0 read 0\n1 begin OrecLazy\n1 write 6\n1 commit committed 1\n0 read 6\n0 write 9\n\
             0 commit committed 2\nfinish\n",
-    sum: "0a9860052863bcb81a2eb3df9e67ae6d7a39e66a1c1ad7f6fb073b76b74609de",
+    sum: "2d45d847b0dfdb447d7a44f87d6f451c146ba2d1137597a010fc99ef2961b084",
 };
 
 const PROMOTIONS: Picture = Picture {
@@ -45,7 +46,7 @@ const PROMOTIONS: Picture = Picture {
     trace: "0 begin OrecLazy\n0 read 0\n1 begin OrecLazy\n1 read 0\n0 irrev busy 1 1\n1 irrev taken 258\n\
             0 irrev granted\n0 write 5\n0 emit 5\n0 commit committed 1\n1 begin OrecLazy\n1 read 5\n\
             1 irrev granted\n1 write 3\n1 commit committed 2\nfinish\n",
-    sum: "9416da506681e64247ce209437e2dc6100bf0e2b243c18b4776c3d3ce65dcb46",
+    sum: "ff474eec114bb62d26e01fb53f31a8735cb4ab4f78f3a534067cedfa7c7a1630",
 };
 
 const SWITCH: Picture = Picture {
@@ -55,7 +56,7 @@ const SWITCH: Picture = Picture {
     trace: "0 begin OrecLazy\n0 read 0\n1 close closed\n1 look busy 0 1\n2 begin closed 514\n0 write 5\n\
             0 commit committed 1\n1 look quiet\n1 install TML\n2 begin TML\n2 read 5\n1 begin TML\n1 add 6\n\
             1 commit committed 4\n2 commit readonly 2\n2 idle\nfinish\n",
-    sum: "1be113c32ebc326080180b02aaea68c213dd7f7ef3d7e3268fcd34516de9b6ff",
+    sum: "e3267f2f703438d06883fcbbd75338274b342c3ad75f8ed7c14600e306054d3f",
 };
 
 #[test]
@@ -65,7 +66,11 @@ fn stored_pictures_are_drawn(rt: HostRuntime) -> Result<(), Fail> {
         let mut text = picture.workload.to_string(alloc)?;
         text.push_str(picture.trace)?;
         text.push_str("report 1\nend\n")?;
-        let saying = drawn(alloc, text.as_bytes(), 1)?;
+        let whole = Part {
+            lines: None,
+            callers: None,
+        };
+        let saying = drawn(alloc, text.as_bytes(), whole)?;
         assert_eq!(rt; saying.status, Status::Ok);
         let sum = hex::encode(alloc, Sha256::digest(saying.text.as_slice()))?;
         assert_eq!(rt; sum.as_str(), picture.sum, "{}", picture.trace);

@@ -4,7 +4,7 @@
 ghost use Rattle.std.specs.Prelude.{IfOk};
 ghost use Rattle.queue_jobs.specs.Days.{IsPlan, IsDay, IsWhole};
 
-use nekchhaul::queue::{Queue, contents_change, queues_are_apart};
+use nekchhaul::queue::{Queue, queues_are_apart};
 use nekchhaul::{ALGORITHMS, Alg, ClosedMemory, Evidence, NewError, sizes, with_memory};
 use queue_jobs::day::{is_done, sum_of};
 use queue_jobs::hands::{Hand, Shift};
@@ -34,11 +34,10 @@ fn work_off<R: Threads + Wait + Sync>(
 ) -> Result<ClosedMemory<Hand, Evidence>, NewError>
     requires plan { IsPlan plan }
     ensures whole { IfOk result (IsWhole plan) }
-    ensures day { IfOk result (IsDay plan) }
+    ensures day { IfOk result (λ day. IsDay plan day day.past.closed.history) }
 {
-    // a memory of zeros has an empty queue; a put appends to the contents, and a get takes the first value
+    // a memory of zeros has an empty queue
     queues_are_apart();
-    contents_change();
     let config = sizes(plan.room + 2, plan.producers + plan.workers);
     let jobs = Jobs {
         waiting: Queue {

@@ -1,4 +1,2 @@
-pub mod Shares
 pub mod Days
-pub mod CountLaws
 pub mod DayLaws

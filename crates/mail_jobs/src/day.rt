@@ -1,12 +1,13 @@
 //! What came of a day of mail: each message once, and nothing else.
-ghost use Rattle.std.specs.Prelude.{◌≡◌, ◌<◌, ℕ, true, false, List, length};
+ghost use Rattle.std.specs.Prelude.{◌≡◌, ◌<◌, ℕ, true, false, List, length, sum_by};
 ghost use Rattle.stm_model.specs.Histories.{Entry};
-ghost use Rattle.mailbox.specs.Deeds.{received_in};
+ghost use Rattle.mailbox.specs.Mail.{receives};
 ghost use Rattle.mail_jobs.specs.Days.{IsDay, IsThrough};
 
 use crate::clerks::{EACH, Share};
 use mailbox::mail::Mailbox;
 use tx_jobs::closed::ClosedMemory;
+use tx_queue::laws::contents_change;
 
 /// Two queues with eight cells each, in 20 words.
 pub const MAILBOX: Mailbox = Mailbox { cells: 8 };
@@ -21,14 +22,13 @@ pub fn each_came_once<P>(came: &ClosedMemory<Share, P>) -> bool
     ensures once { result ≡ true
         → (history : List Entry)
         (day : IsDay came.now.words.items came.now.answers.items history) (message : ℕ)
-        → message < 600 → received_in message day.deeds ≡ 1 }
+        → message < 600 → sum_by (receives message) day.order.deeds ≡ 1 }
 {
-    if came.answers[0].posted != EACH || came.answers[1].posted != EACH {
+    // a queue's count is the length of what waits there
+    contents_change();
+    let each = EACH as usize;
+    if came.answers[0].messages.len() != each || came.answers[1].messages.len() != each {
         return false;
     }
-    // words 1 and 11 count the messages that wait
-    if came.words[1] != 0 || came.words[11] != 0 {
-        return false;
-    }
-    true
+    came.words[1] == 0 && came.words[11] == 0
 }

@@ -1,1 +1,1 @@
-pub mod OrderLaws
+mod MailLaws

@@ -1,4 +1,2 @@
 pub mod Mail
-pub mod MailLaws
-pub mod Deeds
-pub mod DeedLaws
+pub mod Orders

@@ -1,12 +1,13 @@
 //! What the parts come to in a history, as the contract of a function.
-ghost use Rattle.mailbox.specs.Deeds.{TakesReceive, ComeInOrder, ComeInHistory, ComeOnce};
+ghost use Rattle.mailbox.specs.Orders.{PostsIt, ReceivesIt, EachMoves, ComeInOrder, ComeOnce};
 
-/// A transaction that takes an urgent message, or else another, receives: the first of the urgent messages, or there was
-/// none and it is the first of the others. In a history of transactions that post and receive so it is at each moment,
-/// and each message that was posted is received once, or waits.
+/// A transaction that posts is the deed of it, and one that takes an urgent message, or else another, receives: the first
+/// of the urgent messages, or there was none and it is the first of the others. In a history of such deeds it is so at
+/// each moment, and each message that was posted is received once, or waits.
 pub fn messages_come_in_order()
-    ensures receive { TakesReceive }
+    ensures post { PostsIt }
+    ensures receive { ReceivesIt }
+    ensures moves { EachMoves }
     ensures order { ComeInOrder }
-    ensures history { ComeInHistory }
     ensures once { ComeOnce }
 {}

@@ -1,4 +1,6 @@
 //! The mailbox: its rule, and its parts.
+ghost use Rattle.std.specs.Prelude.{◌≡◌};
+ghost use Rattle.mailbox.specs.Mail.{done_by};
 
 use stm_model::rule::MemRule;
 use stm_model::stop::Stop;
@@ -60,10 +62,18 @@ impl Part<Mailbox> for Post {
     fn run<N: Nesting>(&self, mailbox: &Mailbox, memory: &mut N) -> Result<Option<()>, Stop> {
         contents_change();
         queues_are_apart();
-        match mailbox.queue(self.urgent).put(memory, self.message)? {
-            Put::Added => Ok(Some(())),
-            Put::NoRoom => Ok(None),
-        }
+        let put = mailbox.queue(self.urgent).put(memory, self.message)?;
+        Ok(done(put))
+    }
+}
+
+/// Whether there was room.
+fn done(put: Put) -> Option<()>
+    ensures { result ≡ done_by put }
+{
+    match put {
+        Put::Added => Some(()),
+        Put::NoRoom => None,
     }
 }
 

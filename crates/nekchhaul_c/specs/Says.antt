@@ -110,7 +110,7 @@ EndSays old new k m n = (r : Result (Result (Unit {0}) Refusal) Misuse) × (k �
 
 -- of a call on two callers: m is to learn from f
 abbrev pub LearnTells : ℕ → LoopingCaller → LoopingCaller → LoopingCaller → LoopingCaller → Type 0
-LearnTells k m n f g = (r : Result (Unit {0}) Misuse) × (k ≡ done_code r) × TellsSameMemory (meeting m.caller f.caller) (HasLearned m.caller n.caller) m.caller n.caller r × IsAsked (meeting m.caller f.caller) f.caller g.caller × SameLoop m n × SameLoop f g
+LearnTells k m n f g = (r : Result (Unit {0}) Misuse) × (k ≡ done_code r) × TellsSameMemory (meeting m.caller f.caller) (HasLearned m.caller f.caller n.caller) m.caller n.caller r × IsAsked (meeting m.caller f.caller) f.caller g.caller × SameLoop m n × SameLoop f g
 
 -- where one of the two handles holds no caller, none is touched
 abbrev pub LearnSays : ℕ → Option LoopingCaller → Option LoopingCaller → Option LoopingCaller → Option LoopingCaller → Type 0

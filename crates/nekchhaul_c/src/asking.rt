@@ -18,9 +18,9 @@ use tx_loops::looping_caller::LoopingCaller;
 /// The version of this interface: 65,536 times the major number, and the minor one.
 #[unsafe(no_mangle)]
 pub extern "C" fn nekchhaul_version() -> u32
-    ensures { result ≡ 131072 }
+    ensures { result ≡ 131073 }
 {
-    131072
+    131073
 }
 
 /// Makes the caller's logs longer.

@@ -10,8 +10,8 @@ use crate::pause::Pause;
 use crate::status;
 use std::alloc::Global;
 use stm_model::alg::Alg;
-use stm_tx::serving::{Calls, Under};
-use stm_tx::{Cgl, OrecEager, OrecLazy, RingSw, Serial, Tml};
+use stm_tx::serving::{Calls, Only, Under};
+use stm_tx::{Algorithm, Cgl, OrecEager, OrecLazy, RingSw, Serial, Tml, under};
 use tx_checked::misuse::Misuse;
 use tx_loops::looping_caller::LoopingCaller;
 use tx_loops::stage::Stage;
@@ -28,19 +28,24 @@ pub extern "C" fn nekchhaul_enter(alloc: Global, caller: &mut Handle, pause: &mu
     }
     let looping_caller = caller.looping_caller();
     if looping_caller.is_ready() {
-        return open(looping_caller, pause);
+        return under!(
+            looping_caller.algorithm(),
+            open(Only::<A>::new(), looping_caller, pause)
+        );
     }
     enter_apart(alloc, looping_caller, pause)
 }
 
-#[inline(always)]
-fn open(looping_caller: &mut LoopingCaller, pause: &mut Pause) -> u32
+/// It is compiled once for each algorithm, of which the caller's last attempt tells which to expect.
+#[inline(never)]
+fn open<A: Algorithm>(only: Only<A>, looping_caller: &mut LoopingCaller, pause: &mut Pause) -> u32
     requires free { looping_caller.old.stage ≡ Free }
     requires simple { looping_caller.old.plan.wanted ≡ 0 }
     ensures { TurnSays 0 pause.old pause.new EnterTells result looping_caller.old
         looping_caller.new }
 {
-    match looping_caller.open() {
+    let _ = only;
+    match looping_caller.open_as::<A>() {
         Ok(Turn::Run) => status::RUN,
         turn => told(turn, status::OK, looping_caller, pause),
     }

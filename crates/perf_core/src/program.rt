@@ -38,7 +38,7 @@ pub fn program<R: Env + AllocGlobal + Print + Eprint + Threads + Wait + Sync + C
 fn refused<R: AllocGlobal + Eprint>(rt: &R) -> ExitCode
     ensures { (words : List (List ℕ)) → Exits words (exit_status result) }
 {
-    told(rt, Ending::Memory, &[])
+    told(rt, Ending::Memory, &[], false)
 }
 
 /// Runs what these arguments ask for.
@@ -51,20 +51,23 @@ fn answer<R: AllocGlobal + Print + Eprint + Threads + Wait + Sync + Clock>(
     let Ok(words) = words_in(rt.alloc(), arguments) else {
         return refused(rt);
     };
-    let ending = run_of_words(rt, words.as_slice());
-    told(rt, ending, words.as_slice())
+    let mut is_closed = false;
+    let ending = run_of_words(rt, words.as_slice(), &mut is_closed);
+    told(rt, ending, words.as_slice(), is_closed)
 }
 
-/// How a run of these words ended.
+/// How a run of these words ended, and whether nobody reads standard output any more.
 fn run_of_words<R: AllocGlobal + Print + Threads + Wait + Sync + Clock>(
     rt: &R,
     words: &[&str],
+    is_closed: &mut bool,
 ) -> Ending
     ensures { EndsBy (texts_of words.now) result }
 {
     if let Some(topic) = help_of(words) {
         let text = topic.text();
-        if println!(rt; "{text}").is_err() {
+        if let Err(error) = println!(rt; "{text}") {
+            *is_closed = error.kind() == ErrorKind::BrokenPipe;
             return Ending::WriteFault;
         }
         return Ending::Help;
@@ -76,7 +79,8 @@ fn run_of_words<R: AllocGlobal + Print + Threads + Wait + Sync + Clock>(
     let Ok(report) = run(rt, rt.alloc(), &plan) else {
         return Ending::Memory;
     };
-    if print(rt, &report, is_timed).is_err() {
+    if let Err(error) = print(rt, &report, is_timed) {
+        *is_closed = error.kind() == ErrorKind::BrokenPipe;
         return Ending::WriteFault;
     }
     Ending::of(report.right)
@@ -99,10 +103,19 @@ fn print<R: Print>(rt: &R, report: &Report, is_timed: bool) -> io::Result<()> {
     println!(rt; "{report}")
 }
 
-/// The exit status. Tells on standard error what the ending means, where there is something to tell and memory to say it.
-fn told<R: AllocGlobal + Eprint>(rt: &R, ending: Ending, words: &[&str]) -> ExitCode
+/// The exit status. Tells on standard error what the ending means, where there is something to tell and memory to say it;
+/// not who has closed standard output, and so wants to hear no more.
+fn told<R: AllocGlobal + Eprint>(
+    rt: &R,
+    ending: Ending,
+    words: &[&str],
+    is_closed: bool,
+) -> ExitCode
     ensures { exit_status result ≡ exit_code_of ending }
 {
+    if is_closed {
+        return ExitCode::from(ending.exit_code());
+    }
     if let Ok(Some(said)) = said_of(rt.alloc(), ending, words) {
         let _written = eprintln!(rt; "stm_perf: {said}");
     }

@@ -1,112 +1,86 @@
--- What a caller did, from what its transactions tell.
-use Rattle.std.proofs.Common.{ℕ, zero, suc, ◌≡◌, ◌<◌, ◌+◌, ◌^◌, ◌∙◌, List, [], ◌∷◌, ◌++◌, Bool, true, false, Some, None, refl, sym, ap, arith, append_assoc, inl, inr, subst}
-use Rattle.std.specs.Prelude.{◌⊎◌, ◌==◌, leb, if◌then◌else◌, not}
-use Rattle.std.specs.List.{range_with_len}
-use Rattle.std.proofs.lemmas.List.{append-nil}
-use Rattle.stm_model.specs.Histories.{Entry}
-use Rattle.tx_effects.specs.Effects.{Effect, Does, DoesOver, unchanged, changed}
+-- The transactions are deeds.
+use Rattle.std.proofs.Common.{ℕ, ◌≡◌, ◌<◌, ◌≤◌, ◌∙◌, List, [], ◌∷◌, ◌++◌, Bool, true, false, Some, None, length, length-append, refl, sym, ap, arith, subst, inl, inr}
+use Rattle.std.specs.Prelude.{◌==◌, ◌^◌, leb, if◌then◌else◌, not}
+use Rattle.std.proofs.lemmas.Bool.Decides.{nat_tests}
+use Rattle.stm_model.specs.Memories.{overlay}
+use Rattle.tx_effects.specs.Effects.{Does, unchanged, changed}
 use Rattle.tx_effects.specs.FreshLaws.{nothing}
 use Rattle.tx_queue.specs.declared.queue.Put.TheVariants.{Added, NoRoom}
 use Rattle.tx_queue.specs.declared.queue.Queue.{Queue}
-use Rattle.tx_queue.specs.Queues.{IsQueue, count, front, cell, enqueued, dequeued, put_in, got_in}
-use Rattle.tx_jobs.specs.Known.{Known}
-use Rattle.tx_jobs.specs.Moments.{Took}
-use Rattle.tx_jobs.specs.MomentLaws.{stood}
-use Rattle.tx_jobs.specs.Repeats.{MadeOne, log_of}
-use Rattle.queue_jobs.specs.Deeds.{AreDeeds, HasDone}
+use Rattle.tx_queue.specs.Queues.{IsQueue, QueueFits, contents, count, front, cell, enqueued, dequeued, put_in, got_in}
+use Rattle.tx_queue.specs.Statements.{PutsLast, GetsFirst}
+use Rattle.tx_jobs.specs.Jobs.{Log, Effect, DoesOver, Known, Took, stood, MadeOne, HasDone, did}
+use Rattle.queue_jobs.specs.Days.{Deed, Given, Taken, Moves, Did}
+
+-- no deed leaves the jobs as they were
+changes : (d : Deed) (jobs : List ℕ) → Moves d jobs jobs → ⊥
+changes (Given x) jobs moved = let more = ap length moved in let long = length-append jobs (x ∷ []) in omega (arith, more, long)
+changes (Taken x) jobs moved = let less = ap length moved in omega (arith, less)
 
 module _ (q : Queue) (words : ℕ) where
-  deeds-append : (es fs : List Entry) (gs hs ts us : List ℕ) → AreDeeds q words es gs ts → AreDeeds q words fs hs us → AreDeeds q words (es ++ fs) (gs ++ hs) (ts ++ us)
-  deeds-append [] fs gs hs ts us a b = rw (a.0, a.1) b
-  deeds-append (e ∷ es) fs gs hs ts us (inl p) b = inl (p.0, p.1 ++ hs, ap (λ l. l ++ hs) p.2, p.3, deeds-append es fs p.1 hs ts us p.4 b)
-  deeds-append (e ∷ es) fs gs hs ts us (inr p) b = inr (p.0, p.1 ++ us, ap (λ l. l ++ us) p.2, p.3, deeds-append es fs gs hs p.1 us p.4 b)
-
-  -- nothing was done, and more was done
-  pub done-none : (before after : List Entry) → after ≡ before → HasDone q words [] [] before after
-  done-none before after same = ([], same ∙ sym (append-nil before), (refl, refl))
-
-  pub done-then : (gs hs ts us : List ℕ) (a b c : List Entry) → HasDone q words gs ts a b → HasDone q words hs us b c → HasDone q words (gs ++ hs) (ts ++ us) a c
-  done-then gs hs ts us a b c p r = (p.0 ++ r.0, r.1 ∙ (ap (λ l. l ++ r.0) p.1 ∙ append_assoc a p.0 r.0), deeds-append p.0 r.0 gs hs ts us p.2 r.2)
-
--- whether an insertion wrote
-put-wrote : (q : Queue) (job : ℕ) (m : List ℕ) → ((put_in q job m).reply ≡ Added → (put_in q job m).wrote ≡ true) × ((put_in q job m).reply ≡ NoRoom → (put_in q job m).wrote ≡ false)
-put-wrote q job m = by (leb q.cells (count q m))
-  where
-    by : (b : Bool)
-        → ((if b then unchanged NoRoom m else changed Added (enqueued q job m)).reply ≡ Added
-        → (if b then unchanged NoRoom m else changed Added (enqueued q job m)).wrote ≡ true)
-        × ((if b then unchanged NoRoom m else changed Added (enqueued q job m)).reply ≡ NoRoom
-        → (if b then unchanged NoRoom m else changed Added (enqueued q job m)).wrote ≡ false)
-    by true = ((λ e. absurd cc), (λ e. refl))
-    by false = ((λ e. refl), (λ e. absurd cc))
-
-got-wrote : (q : Queue) (job : ℕ) (m : List ℕ) → ((got_in q m).reply ≡ Some job → (got_in q m).wrote ≡ true) × ((got_in q m).reply ≡ None → (got_in q m).wrote ≡ false)
-got-wrote q job m = by (count q m == 0)
-  where
-    by : (b : Bool)
-        → ((if b then unchanged None m else changed (Some (cell q m (front q m))) (dequeued q m)).reply ≡ Some job
-        → (if b then unchanged None m else changed (Some (cell q m (front q m))) (dequeued q m)).wrote ≡ true)
-        × ((if b then unchanged None m else changed (Some (cell q m (front q m))) (dequeued q m)).reply ≡ None → (if b then unchanged None m else changed (Some (cell q m (front q m))) (dequeued q m)).wrote ≡ false)
-    by true = ((λ e. absurd cc), (λ e. refl))
-    by false = ((λ e. refl), (λ e. absurd cc))
-
-module _ {A : Type 0} (good : List ℕ → Type 0) (words : ℕ) (effect : List ℕ → Effect A) (reply : A) (u w : Known) where
-  -- a transaction of this effect took effect
-  abbrev pub Came : Type 0
-  Came = Took good words (λ log. DoesOver good words effect nothing reply log) u w
-
-  -- it made one entry, and somewhere the effect replies so and writes
-  abbrev Wrote : Type 0
-  Wrote = ((e : Entry) × (w.made ≡ u.made ++ e ∷ []) × DoesOver good words effect nothing reply (log_of e)) × ((m : List ℕ) × ((effect m).reply ≡ reply) × ((effect m).wrote ≡ true))
-
-  -- or none, and somewhere it replies so and doesn't write
-  abbrev Read : Type 0
-  Read = (w.made ≡ u.made) × ((m : List ℕ) × ((effect m).reply ≡ reply) × ((effect m).wrote ≡ false))
-
-  came : Came → Wrote ⊎ Read
-  came t = by t.made
+  is-given : PutsLast → QueueFits q words → (job : ℕ) → job < 2 ^ 32 → (log : Log) → DoesOver (IsQueue q) words (put_in q job) nothing Added log → Did q words (Given job) log
+  is-given puts fits job small log does m well long read = by (leb q.cells (length (contents q m))) refl
     where
-      does : Does effect (stood t).0 nothing reply t.log
-      does = let s = stood t in t.told s.0 s.1 s.2 s.3
+      d : Does (put_in q job) m nothing Added log
+      d = does m well long read
 
-      by : MadeOne t.log u.made w.made → Wrote ⊎ Read
-      by (inl k) = inr (k.1, ((stood t).0, sym does.replied, sym does.wrote ∙ ap not k.0))
-      by (inr k) = inl ((k.1, k.3, subst (λ log. DoesOver good words effect nothing reply log) (sym k.2) t.told), ((stood t).0, sym does.replied, sym does.wrote ∙ ap not k.0))
+      by : (b : Bool) → leb q.cells (length (contents q m)) ≡ b → contents q (overlay m log.writes) ≡ contents q m ++ job ∷ []
+      by true is =
+          let full : q.cells ≤ length (contents q m) = grind (arith, nat_tests, is) in
+          let law = (puts q m job well (subst (QueueFits q) (sym long) fits) small).2 full in
+          absurd (let no : Added ≡ NoRoom = d.replied ∙ law.0 in cc)
+      by false is =
+          let room : length (contents q m) < q.cells = grind (arith, nat_tests, is) in
+          let law = (puts q m job well (subst (QueueFits q) (sym long) fits) small).1 room in
+          ap (contents q) d.left ∙ law.1
 
-module _ (q : Queue) (words : ℕ) (u w : Known) where
-  -- what a put and a get did
-  pub gave : (job : ℕ) → job < 2 ^ 32 → Came (IsQueue q) words (put_in q job) Added u w → HasDone q words (job ∷ []) [] u.made w.made
-  gave job small t = by (came (IsQueue q) words (put_in q job) Added u w t)
+  is-taken : GetsFirst → QueueFits q words → (job : ℕ) (log : Log) → DoesOver (IsQueue q) words (got_in q) nothing (Some job) log → Did q words (Taken job) log
+  is-taken gets fits job log does m well long read = by (contents q m) refl
     where
-      by : Wrote (IsQueue q) words (put_in q job) Added u w ⊎ Read (IsQueue q) words (put_in q job) Added u w → HasDone q words (job ∷ []) [] u.made w.made
-      by (inl p) = (p.0.0 ∷ [], p.0.1, inl (job, [], refl, (small, p.0.2), (refl, refl)))
-      by (inr p) = absurd (let yes = (put-wrote q job p.1.0).0 p.1.1 in let no = p.1.2 in let both : true ≡ false = sym yes ∙ no in cc)
+      d : Does (got_in q) m nothing (Some job) log
+      d = does m well long read
 
-  pub no-room : (job : ℕ) → Came (IsQueue q) words (put_in q job) NoRoom u w → w.made ≡ u.made
-  no-room job t = by (came (IsQueue q) words (put_in q job) NoRoom u w t)
-    where
-      by : Wrote (IsQueue q) words (put_in q job) NoRoom u w ⊎ Read (IsQueue q) words (put_in q job) NoRoom u w → w.made ≡ u.made
-      by (inl p) = absurd (let no = (put-wrote q job p.1.0).1 p.1.1 in let yes = p.1.2 in let both : true ≡ false = sym yes ∙ no in cc)
-      by (inr p) = p.0
+      by : (l : List ℕ) → contents q m ≡ l → contents q m ≡ job ∷ contents q (overlay m log.writes)
+      by [] is =
+          let law = (gets q m well (subst (QueueFits q) (sym long) fits)).1 is in
+          absurd (let no : Some job ≡ None = d.replied ∙ law.0 in cc)
+      by (v ∷ vs) is =
+          let some = (gets q m well (subst (QueueFits q) (sym long) fits)).2 v vs is in
+          let both : Some job ≡ Some v = d.replied ∙ some.0 in
+          let same : job ≡ v = cc in
+          let left : contents q (overlay m log.writes) ≡ vs = ap (contents q) d.left ∙ some.1 in
+          is ∙ (ap (λ x. x ∷ vs) (sym same) ∙ ap (λ l. job ∷ l) (sym left))
 
-  pub took : (job : ℕ) → Came (IsQueue q) words (got_in q) (Some job) u w → HasDone q words [] (job ∷ []) u.made w.made
-  took job t = by (came (IsQueue q) words (got_in q) (Some job) u w t)
-    where
-      by : Wrote (IsQueue q) words (got_in q) (Some job) u w ⊎ Read (IsQueue q) words (got_in q) (Some job) u w → HasDone q words [] (job ∷ []) u.made w.made
-      by (inl p) = (p.0.0 ∷ [], p.0.1, inr (job, [], refl, p.0.2, (refl, refl)))
-      by (inr p) = absurd (let yes = (got-wrote q job p.1.0).0 p.1.1 in let no = p.1.2 in let both : true ≡ false = sym yes ∙ no in cc)
+  module _ {u w : Known} where
+    pub gave : PutsLast → QueueFits q words → (job : ℕ) → job < 2 ^ 32 → Took (IsQueue q) words (DoesOver (IsQueue q) words (put_in q job) nothing Added) u w → HasDone (Did q words) (Given job ∷ []) u.made w.made
+    gave puts fits job small = did (contents q) Moves (Given job) (changes (Given job)) (is-given puts fits job small)
 
-  pub no-job : Came (IsQueue q) words (got_in q) None u w → w.made ≡ u.made
-  no-job t = by (came (IsQueue q) words (got_in q) None u w t)
-    where
-      by : Wrote (IsQueue q) words (got_in q) None u w ⊎ Read (IsQueue q) words (got_in q) None u w → w.made ≡ u.made
-      by (inl p) = absurd (let no = (got-wrote q 0 p.1.0).1 p.1.1 in let yes = p.1.2 in let both : true ≡ false = sym yes ∙ no in cc)
-      by (inr p) = p.0
+    pub took : GetsFirst → QueueFits q words → (job : ℕ) → Took (IsQueue q) words (DoesOver (IsQueue q) words (got_in q) nothing (Some job)) u w → HasDone (Did q words) (Taken job ∷ []) u.made w.made
+    took gets fits job = did (contents q) Moves (Taken job) (changes (Taken job)) (is-taken gets fits job)
 
--- one job more
-pub range-more : (first n : ℕ) → range_with_len first (n + 1) ≡ range_with_len first n ++ (first + n) ∷ []
-range-more first zero = let at : first ≡ first + 0 = omega arith in ap (λ k. k ∷ []) at
-range-more first (suc n) =
-    let long : suc n + 1 ≡ suc (n + 1) = omega arith in
-    let at : first + 1 + n ≡ first + suc n = omega arith in
-    ap (range_with_len first) long ∙ (ap (λ l. first ∷ l) (range-more (first + 1) n) ∙ ap (λ k. first ∷ (range_with_len (first + 1) n ++ k ∷ [])) at)
+    -- one that writes nowhere where it replies so is none
+    none : {A : Type 0} (effect : List ℕ → Effect A) (reply : A) → ((m : List ℕ) → reply ≡ (effect m).reply → (effect m).wrote ≡ false)
+        → Took (IsQueue q) words (DoesOver (IsQueue q) words effect nothing reply) u w → w.made ≡ u.made
+    none effect reply reads t = by t.made
+      where
+        by : MadeOne t.log u.made w.made → w.made ≡ u.made
+        by (inl k) = k.1
+        by (inr k) =
+            let s = stood t in
+            let does : Does effect s.0 nothing reply t.log = t.told s.0 s.1 s.2 s.3 in
+            absurd (let yes : true ≡ false = sym (ap not k.0) ∙ (does.wrote ∙ reads s.0 does.replied) in cc)
+
+    pub no-room : (job : ℕ) → Took (IsQueue q) words (DoesOver (IsQueue q) words (put_in q job) nothing NoRoom) u w → w.made ≡ u.made
+    no-room job = none (put_in q job) NoRoom (λ m. by m (leb q.cells (count q m)))
+      where
+        by : (m : List ℕ) (b : Bool) → NoRoom ≡ (if b then unchanged NoRoom m else changed Added (enqueued q job m)).reply → (if b then unchanged NoRoom m else changed Added (enqueued q job m)).wrote ≡ false
+        by m true is = refl
+        by m false is = absurd cc
+
+    pub no-job : Took (IsQueue q) words (DoesOver (IsQueue q) words (got_in q) nothing None) u w → w.made ≡ u.made
+    no-job = none (got_in q) None (λ m. by m (count q m == 0))
+      where
+        by : (m : List ℕ) (b : Bool) → None ≡ (if b then unchanged None m else changed (Some (cell q m (front q m))) (dequeued q m)).reply
+            → (if b then unchanged None m else changed (Some (cell q m (front q m))) (dequeued q m)).wrote ≡ false
+        by m true is = refl
+        by m false is = absurd cc

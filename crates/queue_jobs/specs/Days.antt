@@ -1,9 +1,10 @@
--- What a day of work comes to.
-use Rattle.std.specs.Prelude.{ℕ, suc, ◌≡◌, ◌<◌, ◌≤◌, ◌+◌, ◌*◌, ◌^◌, ◌==◌, ltb, if◌then◌else◌, List, [], ◌∷◌, ◌++◌, length, map, sum, sum_by, count_by, slice_index_or, slice_set}
+-- What callers do to the queue, and what a day of work comes to.
+use Rattle.std.specs.Prelude.{ℕ, ◌≡◌, ◌<◌, ◌≤◌, ◌+◌, ◌*◌, ◌^◌, ◌==◌, ltb, if◌then◌else◌, List, [], ◌∷◌, ◌++◌, length, map, sum, sum_by, slice_index_or}
 use Rattle.std.specs.List.{range_with_len}
 use Rattle.tx_queue.specs.declared.queue.Queue.{Queue}
-use Rattle.tx_queue.specs.Queues.{contents}
+use Rattle.tx_queue.specs.Queues.{IsQueue, contents}
 use Rattle.tx_jobs.specs.declared.closed.ClosedMemory.{ClosedMemory}
+use Rattle.tx_jobs.specs.Jobs.{Entry, Log, Known, IsDeed, HasDone, InOneOrder}
 use Rattle.queue_jobs.specs.declared.hands.Hand.{Hand}
 use Rattle.queue_jobs.specs.declared.plan.Plan.{Plan}
 
@@ -28,24 +29,40 @@ first_job plan n = n * plan.each + 1
 abbrev pub given_by : Plan → ℕ → Hand → List ℕ
 given_by plan n hand = range_with_len (first_job plan n) hand.gave
 
--- what each of the callers gave, from caller n on
-abbrev pub given_from : Plan → ℕ → List Hand → List (List ℕ)
-given_from plan n [] = []
-given_from plan n (a ∷ hs) = given_by plan n a ∷ given_from plan (suc n) hs
+-- A DEED: this job was given, after those that wait, or taken, the first of them
+pub data Deed : Type 0 where
+  Given : ℕ → Deed
+  Taken : ℕ → Deed
 
-abbrev pub taken_by : Hand → List ℕ
-taken_by a = a.took.items
+abbrev pub Moves : Deed → List ℕ → List ℕ → Type 0
+Moves (Given job) a b = b ≡ a ++ job ∷ []
+Moves (Taken job) a b = a ≡ job ∷ b
 
--- what each of the callers gave, and what each took
-abbrev pub given_in : {P : Type 0} → Plan → ClosedMemory Hand P → List (List ℕ)
-given_in plan day = given_from plan 0 day.answers.items
+abbrev pub Did : Queue → ℕ → Deed → Log → Type 0
+Did q words = IsDeed (IsQueue q) words (contents q) Moves
 
-abbrev pub taken_in : {P : Type 0} → ClosedMemory Hand P → List (List ℕ)
-taken_in day = map taken_by day.answers.items
+-- what caller n did, by what it answers
+abbrev pub done_by : Plan → ℕ → Hand → List Deed
+done_by plan n hand = map Given (given_by plan n hand) ++ map Taken hand.took.items
+
+-- what a caller tells in a memory of so many words: it gave no more jobs than are its own
+abbrev pub TellsIn : Queue → ℕ → Plan → ℕ → Hand → Known → Known → Type 0
+TellsIn q words plan n hand before after = (hand.gave ≤ quota plan n) × HasDone (Did q words) (done_by plan n hand) before.made after.made
+
+-- the jobs of the deeds that give, and of those that take
+abbrev pub given : List Deed → List ℕ
+given [] = []
+given (Given job ∷ ds) = job ∷ given ds
+given (Taken job ∷ ds) = given ds
+
+abbrev pub taken : List Deed → List ℕ
+taken [] = []
+taken (Given job ∷ ds) = taken ds
+taken (Taken job ∷ ds) = job ∷ taken ds
 
 -- the numbers of the jobs that were taken, added up
 abbrev pub sum_taken : List Hand → ℕ
-sum_taken hands = sum_by (λ (a : Hand). sum (taken_by a)) hands
+sum_taken hands = sum_by (λ (a : Hand). sum a.took.items) hands
 
 -- what waits in the queue at the end
 abbrev pub left_in : {P : Type 0} → Plan → ClosedMemory Hand P → List ℕ
@@ -55,29 +72,22 @@ left_in plan day = contents (queue_of plan) day.words.items
 abbrev pub IsWhole : {P : Type 0} → Plan → ClosedMemory Hand P → Type 0
 IsWhole plan day = (length day.words.items ≡ plan.room + 2) × (length day.answers.items ≡ plan.producers + plan.workers)
 
--- the items of all the lists in one order, in which those of each list stand in its own
-abbrev pub IsMerge : List ℕ → List (List ℕ) → Type 0
-IsMerge [] lists = (n : ℕ) → slice_index_or lists n [] ≡ []
-IsMerge (x ∷ xs) lists = (n : ℕ) × (rest : List ℕ) × (slice_index_or lists n [] ≡ x ∷ rest) × IsMerge xs (slice_set lists n rest)
-
--- how often it stands in the list, and in the lists together
+-- how often a job stands in the list, and was taken
 abbrev pub times : ℕ → List ℕ → ℕ
-times x xs = count_by (λ y. y == x) xs
+times job xs = sum_by (λ (x : ℕ). if x == job then 1 else 0) xs
 
-abbrev pub times_in : ℕ → List (List ℕ) → ℕ
-times_in x lists = sum_by (λ xs. times x xs) lists
+abbrev pub times_taken : ℕ → List Hand → ℕ
+times_taken job hands = sum_by (λ (a : Hand). times job a.took.items) hands
 
--- The jobs were given in one order, in which each producer's stand in its own, and taken in one order, in which each worker's stand in its
--- own. Those that were taken are the first of those that were given; the others wait. No job was taken twice, or taken and waits.
-pub record IsDay {P : Type 0} (plan : Plan) (day : ClosedMemory Hand P) : Type 0 where
-  pub given : List ℕ
-  pub each_given : IsMerge given (given_in plan day)
-  pub taken : List ℕ
-  pub each_taken : IsMerge taken (taken_in day)
-  pub in_order : given ≡ taken ++ left_in plan day
+-- The history is one of jobs that were given and taken, and those of each caller are what it answers, in its order. From no job they lead to
+-- those that wait: so the jobs that were taken are the first of those that were given, in the same order, and the others wait. No job was
+-- taken twice, or taken and waits.
+pub record IsDay {P : Type 0} (plan : Plan) (day : ClosedMemory Hand P) (history : List Entry) : Type 0 where
+  pub order : InOneOrder (Did (queue_of plan) (plan.room + 2)) Moves (done_by plan) (plan.producers + plan.workers) day.answers.items history [] (left_in plan day)
+  pub in_order : given order.deeds ≡ taken order.deeds ++ left_in plan day
   pub own : (n : ℕ) (a : Hand) → n < length day.answers.items → (slice_index_or day.answers.items n a).gave ≤ quota plan n
-  pub once : (job : ℕ) → times_in job (taken_in day) + times job (left_in plan day) ≤ 1
+  pub once : (job : ℕ) → times_taken job day.answers.items + times job (left_in plan day) ≤ 1
 
 -- each of the jobs was taken once, and nothing else was taken
 abbrev pub EachTakenOnce : {P : Type 0} → Plan → ClosedMemory Hand P → Type 0
-EachTakenOnce plan day = (job : ℕ) → times_in job (taken_in day) ≡ times job (range_with_len 1 (plan.producers * plan.each))
+EachTakenOnce plan day = (job : ℕ) → times_taken job day.answers.items ≡ times job (range_with_len 1 (plan.producers * plan.each))

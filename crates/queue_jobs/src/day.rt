@@ -1,6 +1,7 @@
 //! What a day of work came to, from its closed memory.
-ghost use Rattle.std.specs.Prelude.{◌≡◌, ◌*◌, ◌^◌, ◌%◌, true, sum};
+ghost use Rattle.std.specs.Prelude.{◌≡◌, ◌*◌, ◌^◌, ◌%◌, true, sum, List};
 ghost use Rattle.std.specs.List.{range_with_len};
+ghost use Rattle.stm_model.specs.Histories.{Entry};
 ghost use Rattle.queue_jobs.specs.Days.{IsPlan, IsDay, EachTakenOnce, IsWhole, sum_taken};
 
 use crate::hands::Hand;
@@ -11,7 +12,7 @@ use tx_jobs::closed::ClosedMemory;
 pub fn is_done<P>(plan: &Plan, day: &ClosedMemory<Hand, P>) -> bool
     requires plan { IsPlan plan.now }
     requires whole { IsWhole plan.now day.now }
-    requires day { IsDay plan.now day.now }
+    requires day { (history : List Entry) × IsDay plan.now day.now history }
     ensures once { result ≡ true → EachTakenOnce plan.now day.now }
     ensures sum { result ≡ true
         → sum_taken day.now.answers.items

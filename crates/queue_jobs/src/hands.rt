@@ -1,8 +1,9 @@
 //! What a caller does: it gives the jobs that are its own, or takes its share of them.
-ghost use Rattle.std.specs.Prelude.{◌≡◌, ◌≤◌, ◌<◌, ◌+◌, ◌^◌, [], ◌∷◌, if◌then◌else◌};
+ghost use Rattle.std.specs.Prelude.{◌≡◌, ◌≤◌, ◌<◌, ◌+◌, ◌^◌, [], ◌∷◌, if◌then◌else◌, map};
 ghost use Rattle.std.specs.List.{range_with_len};
+ghost use Rattle.tx_jobs.specs.Deeds.{HasDone};
 ghost use Rattle.tx_queue.specs.Queues.{QueueFits};
-ghost use Rattle.queue_jobs.specs.Deeds.{HasDone, listed};
+ghost use Rattle.queue_jobs.specs.Days.{Did, Given};
 
 use crate::jobs::{Give, Jobs, Take};
 use crate::plan::Plan;
@@ -10,7 +11,9 @@ use std::alloc::Global;
 use std::sync::Wait;
 use tx_backoff::Backoff;
 use tx_jobs::calls::Calls;
+use tx_jobs::gather::{Errand, gather};
 use tx_jobs::job::Job;
+use tx_queue::laws::contents_change;
 use tx_queue::queue::Put;
 
 /// So often a caller comes again where the queue has no room, or no job.
@@ -33,15 +36,14 @@ pub struct Shift {
 impl<R: Wait> Job<R, Jobs> for Shift {
     ghost use Rattle.std.specs.Prelude.{◌≡◌, ◌≤◌};
     ghost use Rattle.tx_queue.specs.Queues.{QueueFits};
-    ghost use Rattle.queue_jobs.specs.Days.{IsPlan, given_by, quota};
-    ghost use Rattle.queue_jobs.specs.Deeds.{HasDone};
+    ghost use Rattle.queue_jobs.specs.Days.{IsPlan, TellsIn};
 
     type Output = Hand;
 
     ghost precondition = { λ shift jobs words. QueueFits jobs.waiting words × IsPlan shift.plan };
 
     // it gave the first of its jobs, no more than there are, and took the jobs that it lists
-    ghost postcondition = { λ shift jobs words caller hand before after. (hand.gave ≤ quota shift.plan caller) × HasDone jobs.waiting words (given_by shift.plan caller hand) hand.took.items before.made after.made };
+    ghost postcondition = { λ shift jobs words caller hand before after. TellsIn jobs.waiting words shift.plan caller hand before after };
 
     fn work<C: Calls<R, Jobs>>(&self, caller: &mut C) -> Hand {
         let number = caller.number();
@@ -49,11 +51,16 @@ impl<R: Wait> Job<R, Jobs> for Shift {
             let first = number as u32 * self.plan.each + 1;
             let gave = give_all(caller, first, self.plan.each);
             let took = Vec::new(self.alloc);
-            Hand { gave, took }
-        } else {
-            let share = self.plan.share(number - self.plan.producers);
-            let took = take_share(caller, self.alloc, share);
-            Hand { gave: 0, took }
+            return Hand { gave, took };
+        }
+        let share = self.plan.share(number - self.plan.producers);
+        match gather(caller, self.alloc, share, &AnyJob) {
+            Ok(took) => Hand { gave: 0, took },
+            // then not all jobs are taken, and producers may lose their patience
+            Err(_) => Hand {
+                gave: 0,
+                took: Vec::new(self.alloc),
+            },
         }
     }
 }
@@ -64,8 +71,9 @@ fn give_all<R: Wait, C: Calls<R, Jobs>>(caller: &mut C, first: u32, count: u32) 
     requires numbers { first + count < 2 ^ 32 }
     ensures keeps { C.keeps caller.old caller.new }
     ensures count { result ≤ count }
-    ensures gave { HasDone (C.seat caller.old).rule.waiting (C.seat caller.old).words
-        (range_with_len first result) [] (C.known caller.old).made (C.known caller.new).made }
+    ensures gave { HasDone (Did (C.seat caller.old).rule.waiting (C.seat caller.old).words)
+        (map Given (range_with_len first result)) (C.known caller.old).made
+        (C.known caller.new).made }
 {
     for i in 0..count {
         if !give(caller, first + i) {
@@ -80,10 +88,11 @@ fn give<R: Wait, C: Calls<R, Jobs>>(caller: &mut C, job: u32) -> bool
     requires precondition { QueueFits (C.seat caller.old).rule.waiting (C.seat caller.old).words }
     ensures keeps { C.keeps caller.old caller.new }
     ensures same { C.seat caller.new ≡ C.seat caller.old }
-    ensures gave { HasDone (C.seat caller.old).rule.waiting (C.seat caller.old).words
-        (if result then job ∷ [] else []) [] (C.known caller.old).made
+    ensures gave { HasDone (Did (C.seat caller.old).rule.waiting (C.seat caller.old).words)
+        (if result then Given job ∷ [] else []) (C.known caller.old).made
         (C.known caller.new).made }
 {
+    contents_change();
     let mut backoff = Backoff::new();
     for _ in 0..PATIENCE {
         match caller.run(&Give { job }) {
@@ -95,41 +104,34 @@ fn give<R: Wait, C: Calls<R, Jobs>>(caller: &mut C, job: u32) -> bool
     false
 }
 
-/// Takes so many jobs, whichever come, and lists them. It takes none where it is refused memory for the list: then not all
-/// jobs are taken, and producers may lose their patience.
-fn take_share<R: Wait, C: Calls<R, Jobs>>(caller: &mut C, alloc: Global, share: usize) -> Vec<u32>
-    requires precondition { QueueFits (C.seat caller.old).rule.waiting (C.seat caller.old).words }
-    ensures keeps { C.keeps caller.old caller.new }
-    ensures took { HasDone (C.seat caller.old).rule.waiting (C.seat caller.old).words []
-        result.items (C.known caller.old).made (C.known caller.new).made }
-{
-    let Ok(mut took) = Vec::with_capacity(alloc, share) else {
-        return Vec::new(alloc);
-    };
-    for _ in 0..share {
-        match take(caller) {
-            Some(job) => took.push_reserved(job),
-            None => return took,
-        }
-    }
-    took
-}
+/// Takes a job, whichever comes, as soon as there is one.
+#[derive(Drop)]
+struct AnyJob;
 
-/// Takes a job, as soon as there is one.
-fn take<R: Wait, C: Calls<R, Jobs>>(caller: &mut C) -> Option<u32>
-    requires precondition { QueueFits (C.seat caller.old).rule.waiting (C.seat caller.old).words }
-    ensures keeps { C.keeps caller.old caller.new }
-    ensures same { C.seat caller.new ≡ C.seat caller.old }
-    ensures took { HasDone (C.seat caller.old).rule.waiting (C.seat caller.old).words []
-        (listed result) (C.known caller.old).made (C.known caller.new).made }
-{
-    let mut backoff = Backoff::new();
-    for _ in 0..PATIENCE {
-        match caller.run(&Take) {
-            Some(Some(job)) => return Some(job),
-            Some(None) => backoff.wait(),
-            None => return None,
+impl<R: Wait> Errand<R, Jobs> for AnyJob {
+    ghost use Rattle.std.specs.Prelude.{map};
+    ghost use Rattle.tx_jobs.specs.Deeds.{HasDone};
+    ghost use Rattle.tx_jobs.specs.Gathered.{listed};
+    ghost use Rattle.tx_queue.specs.Queues.{QueueFits};
+    ghost use Rattle.queue_jobs.specs.Days.{Did, Taken};
+
+    type Item = u32;
+
+    ghost precondition = { λ it jobs words round. QueueFits jobs.waiting words };
+
+    // it took the job that it answers
+    ghost postcondition = { λ it jobs words caller round answer before after. HasDone (Did jobs.waiting words) (map Taken (listed answer)) before.made after.made };
+
+    fn round<C: Calls<R, Jobs>>(&self, caller: &mut C, _round: usize) -> Option<u32> {
+        contents_change();
+        let mut backoff = Backoff::new();
+        for _ in 0..PATIENCE {
+            match caller.run(&Take) {
+                Some(Some(job)) => return Some(job),
+                Some(None) => backoff.wait(),
+                None => return None,
+            }
         }
+        None
     }
-    None
 }

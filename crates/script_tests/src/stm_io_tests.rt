@@ -58,6 +58,22 @@ impl Write for FaultyWriter {
     }
 }
 
+/// A writer each call of which fails.
+#[derive(Drop)]
+struct BrokenWriter {
+    kind: ErrorKind,
+}
+
+impl Write for BrokenWriter {
+    fn write(&mut self, _buf: &[u8]) -> io::Result<usize> {
+        Err(io::Error::new(self.kind, "a fault"))
+    }
+
+    fn flush(&mut self) -> io::Result<()> {
+        Ok(())
+    }
+}
+
 /// Takes of four bytes at most from six, where the calls 1 and 3 fail.
 fn check_takes(rt: &impl Abort, source: &mut MemSource) {
     let takes: [(Result<usize, Failed>, &[u8]); 5] = [
@@ -196,4 +212,14 @@ fn write_sink_goes_on_after_a_fault(rt: HostRuntime) {
     let mut sink = WriteSink::new(FaultyWriter { calls: 0 });
     check_faulty(&rt, &mut sink);
     assert_eq!(rt; sink.into_inner().calls, 7);
+}
+
+#[test]
+fn write_sink_tells_a_closed_pipe(rt: HostRuntime) {
+    for (kind, closed) in [(ErrorKind::BrokenPipe, true), (ErrorKind::Other, false)] {
+        let mut sink = WriteSink::new(BrokenWriter { kind });
+        assert!(rt; !sink.is_closed());
+        assert_eq!(rt; put_all(&mut sink, b"ab"), Err(Failed));
+        assert_eq!(rt; sink.is_closed(), closed);
+    }
 }

@@ -8,6 +8,7 @@ use Rattle.stm_model.specs.declared.config.Config.{Config}
 use Rattle.stm_model.specs.declared.config.TheConstants.{CLOCK_LIMIT}
 use Rattle.stm_model.specs.Logs.{Reads, Keeps}
 use Rattle.stm_model.specs.Memories.{is_empty, item_at, put}
+use Rattle.rule_base.specs.declared.layout.At.TheVariants.{Clock, Heap}
 use Rattle.rule_base.specs.declared.views.View.{View}
 use Rattle.rule_base.specs.Bridge.{items, of_words}
 use Rattle.rule_base.specs.Lemmas.BridgeLemmas.{keeps-cells}
@@ -44,7 +45,7 @@ module _ (good : List ℕ → Type 0) (c : Config) (n : ℕ) where
   pub tells-load : (a x : ℕ) (l : Local) (v w : View) (o : Own) → o.committing ≡ false → a < c.words → closes_gate v.gate.algorithm ≡ true → granted_under v.gate.algorithm v.gate v.lock ≡ true → IsInside good c n l v
       → Tells (direct_load a) (Loads rule c a) v x w → HasRead good c n a (Value x) (known_of v o) (known_of w o)
   tells-load a x l v w o quiet low closes granted i t = subst (λ (u : View). HasRead good c n a (Value x) (known_of v o) (known_of u o)) (sym t.2) (
-    goes-inner v u o i.phase (record { history = refl; gate = refl; lock = refl; writer = refl; fence = refl; start = refl; rises = refl; base = refl; installs = refl; step_trace = (_ ∷ [], refl) }),
+    goes-inner v u o i.phase (λ e. (_ ∷ [], refl, ((λ p. absurd (let no : Heap a ≡ Clock = p in cc)), tt))) (record { history = refl; gate = refl; lock = refl; writer = refl; fence = refl; start = refl; rises = refl; base = refl; installs = refl; step_trace = (_ ∷ [], refl) }),
     quiet,
     subst (λ (ws : List (ℕ × ℕ)).
         Reads (record { reads = items v.attempt.reads; writes = ws }) a x
@@ -67,7 +68,7 @@ module _ (good : List ℕ → Type 0) (c : Config) (n : ℕ) where
   pub tells-store : (a x : ℕ) (l : Local) (v w : View) (o : Own) → o.committing ≡ false → closes_gate v.gate.algorithm ≡ true → granted_under v.gate.algorithm v.gate v.lock ≡ true → IsInside good c n l v
       → Tells (direct_store a x) Nothing v x w → HasWritten good c n a x Done (known_of v o) (known_of w o)
   tells-store a x l v w o quiet closes granted i t = subst (λ (u : View). HasWritten good c n a x Done (known_of v o) (known_of u o)) (sym t.2) (
-    goes-inner v u o i.phase (record { history = refl; gate = refl; lock = refl; writer = refl; fence = refl; start = refl; rises = refl; base = refl; installs = refl; step_trace = (_ ∷ [], refl) }),
+    goes-inner v u o i.phase (λ e. (_ ∷ [], refl, ((λ p. absurd (let no : Heap a ≡ Clock = p in cc)), tt))) (record { history = refl; gate = refl; lock = refl; writer = refl; fence = refl; start = refl; rises = refl; base = refl; installs = refl; step_trace = (_ ∷ [], refl) }),
     quiet,
     (refl, λ b. ap (item_at b) (written u ∙ ap (put a x) (sym (written v)))),
     opaque-at good c n u o l.start i.start i.front i.legal i.below i.sees i.reads_inside,

@@ -15,6 +15,7 @@ use Rattle.rule_base.specs.Bridge.{items, public_history}
 use Rattle.rule_base.specs.History.{member}
 use Rattle.rule_base.specs.Own.{Own}
 use Rattle.tx_answers.specs.Answers.{StartMoves, GoesOn}
+use Rattle.tx_answers.specs.Evidence.{FindsStart}
 use Rattle.tx_answers.specs.Causes.{Asked, has_item, reads_full, writes_full}
 use Rattle.tx_answers.specs.CallerState.{CallerState, known_of, fenced_of, granted_under, locked_under, written_under, is_in, is_closing, is_irrevocable}
 use Rattle.tx_answers.specs.CallerStateLaws.{grows-same}
@@ -31,17 +32,18 @@ pub record IsInner (v w : View) : Type 0 where
   pub installs : w.steps.installs ≡ v.steps.installs
   pub step_trace : (more : List TracedStep) × (w.steps.step_trace ≡ more ++ v.steps.step_trace)
 
--- a start may stay
-pub start-stays : (c : Config) (asked : Asked) (a : Alg) (v w : CallerState) → w.start ≡ v.start → StartMoves c asked a v w
-start-stays c asked Cgl v w e = e
-start-stays c asked Tml v w e = e
-start-stays c asked OrecLazy v w e = inl e
-start-stays c asked OrecEager v w e = inl e
-start-stays c asked RingSw v w e = inl e
-start-stays c asked Serial v w e = e
+-- a start may stay, under RingSW where the clock found was it
+pub start-stays : (c : Config) (asked : Asked) (a : Alg) (v w : CallerState) → (a ≡ RingSw → FindsStart v w) → w.start ≡ v.start → StartMoves c asked a v w
+start-stays c asked Cgl v w f e = e
+start-stays c asked Tml v w f e = e
+start-stays c asked OrecLazy v w f e = inl e
+start-stays c asked OrecEager v w f e = inl e
+start-stays c asked RingSw v w f e = inl (e, f refl)
+start-stays c asked Serial v w f e = e
 
-pub goes-inner : {c : Config} {asked : Asked} → (v w : View) (o : Own) → v.gate.phase ≡ In → IsInner v w → GoesOn c asked (known_of v o) (known_of w o)
-goes-inner {c} {asked} v w o inside i = record {
+pub goes-inner : {c : Config} {asked : Asked} → (v w : View) (o : Own) → v.gate.phase ≡ In → (v.gate.algorithm ≡ RingSw → FindsStart (known_of v o) (known_of w o)) → IsInner v w
+    → GoesOn c asked (known_of v o) (known_of w o)
+goes-inner {c} {asked} v w o inside finds i = record {
   continues = record {
     running = ap (λ (g : GateView). is_in g.phase) i.gate ∙ ap is_in inside;
     closing = ap (λ (g : GateView). is_closing g.phase) i.gate ∙ ap is_closing inside;
@@ -56,7 +58,7 @@ goes-inner {c} {asked} v w o inside i = record {
     depth = refl;
     locked = inl (λ k. locked_under (i.gate k).algorithm (i.lock k).taken (i.writer k));
   };
-  start = start-stays c asked v.gate.algorithm (known_of v o) (known_of w o) i.start;
+  start = start-stays c asked v.gate.algorithm (known_of v o) (known_of w o) finds i.start;
   granted = λ k. granted_under (i.gate k).algorithm (i.gate k) (i.lock k);
   holds = ap (λ (g : GateView). g.holds) i.gate;
   checked = ap (λ (g : GateView). g.checked) i.gate;

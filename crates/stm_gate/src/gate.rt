@@ -4,6 +4,7 @@
 //! A caller stores 1 in its status before it loads the gate. So whoever closes the gate and then finds a
 //! status 0 knows that this caller, should it announce later, will load a closed gate and withdraw
 //! (Spear, "Lightweight, Robust Adaptivity for Software Transactional Memory", SPAA 2010).
+ghost use Rattle.tx_bell.specs.Bells.{rung_for};
 ghost use Rattle.tx_bell.specs.Stripes.{Has};
 ghost use Rattle.stm_rule.specs.Counting.{TakesAtMost};
 ghost use Rattle.tx_answers.specs.Counting.{AddsAtMost};
@@ -125,7 +126,7 @@ pub fn reopen<K: MemRule>(desc: &mut Desc<K>, stm: &Stm<K>) -> Rung<K>
         (known desc.old) (known desc.new) }
     ensures steps { AddsAtMost 1 (known desc.old) (known desc.new) }
     ensures rung { result.at.value ≡ desc.new }
-    ensures all { (a : ℕ) → Has a result.stripes.value }
+    ensures all { (a : ℕ) → Has a (rung_for result.ring) }
 {
     let caller = desc.number;
     let fence = desc.local.fence;

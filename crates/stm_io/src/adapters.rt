@@ -1,5 +1,5 @@
 //! Sources and sinks over std's readers and writers.
-ghost use Rattle.std.specs.Prelude.{◌≡◌, ◌<◌, ◌≤◌, ◌↔◌, ℕ, [], None, take, length, IfSome, IfOk, OnOk, OnErr};
+ghost use Rattle.std.specs.Prelude.{◌≡◌, ◌<◌, ◌≤◌, ◌↔◌, ℕ, [], true, None, take, length, IfSome, IfOk, OnOk, OnErr};
 ghost use Rattle.std.specs.Io.KnownBytes.{Keeps, Consumes, Appends, IsAtEnd};
 ghost use Rattle.stm_io.specs.Ends.{next_count};
 
@@ -106,6 +106,7 @@ impl<R: Read> Source for ReadSource<R> {
 pub struct WriteSink<W> {
     writer: W,
     faults: u64,
+    is_closed: bool,
 }
 
 impl<W> WriteSink<W> {
@@ -116,7 +117,11 @@ impl<W> WriteSink<W> {
         ensures writer { write_sink_inner result ≡ writer }
         ensures faults { write_sink_faults result ≡ 0 }
     {
-        WriteSink { writer, faults: 0 }
+        WriteSink {
+            writer,
+            faults: 0,
+            is_closed: false,
+        }
     }
 
     /// How many calls have failed.
@@ -126,18 +131,25 @@ impl<W> WriteSink<W> {
         self.faults
     }
 
+    /// Whether the last call that failed found that nobody reads any more, as of a pipe; never before one failed.
+    pub fn is_closed(&self) -> bool
+        ensures { result ≡ true → 0 < write_sink_faults self.now }
+    {
+        self.is_closed && 0 < self.faults
+    }
+
     /// The writer.
     pub fn into_inner(self) -> W
         ensures { result ≡ write_sink_inner self }
     {
-        let WriteSink { writer, faults: _ } = self;
+        let WriteSink { writer, .. } = self;
         writer
     }
 }
 
 /// One write, made again where a signal interrupted it, as std's own loops do. A write that takes
-/// nothing of a piece that isn't empty failed.
-fn write_once<W: Write>(writer: &mut W, piece: &[u8]) -> Result<usize, Failed>
+/// nothing of a piece that isn't empty failed. Answers of what kind the fault is.
+fn write_once<W: Write>(writer: &mut W, piece: &[u8]) -> Result<usize, ErrorKind>
     ensures count { IfOk result (λ k. k ≤ length piece.now) }
     ensures some { IfOk result (λ k. 0 < length piece.now → 0 < k) }
     ensures appended { IfOk result (λ k.
@@ -148,18 +160,19 @@ fn write_once<W: Write>(writer: &mut W, piece: &[u8]) -> Result<usize, Failed>
         match writer.write(piece) {
             Ok(count) => {
                 if count == 0 && !piece.is_empty() {
-                    return Err(Failed);
+                    return Err(ErrorKind::WriteZero);
                 }
                 return Ok(count);
             }
             Err(error) => {
-                if error.kind() != ErrorKind::Interrupted {
-                    return Err(Failed);
+                let kind = error.kind();
+                if kind != ErrorKind::Interrupted {
+                    return Err(kind);
                 }
             }
         }
     }
-    Err(Failed)
+    Err(ErrorKind::Interrupted)
 }
 
 impl<W: Write> Sink for WriteSink<W> {
@@ -189,10 +202,13 @@ impl<W: Write> Sink for WriteSink<W> {
         ensures failed { OnErr result (
             Keeps (W.contents (write_sink_inner self.old)) (W.contents (write_sink_inner self.new))) }
     {
-        let result = write_once(&mut self.writer, piece);
-        if result.is_err() {
-            self.faults = self.faults.saturating_add(1);
+        match write_once(&mut self.writer, piece) {
+            Ok(count) => Ok(count),
+            Err(kind) => {
+                self.faults = self.faults.saturating_add(1);
+                self.is_closed = kind == ErrorKind::BrokenPipe;
+                Err(Failed)
+            }
         }
-        result
     }
 }

@@ -74,6 +74,7 @@ impl Local {
     }
 
     /// An attempt of this algorithm runs, from this start on, with empty logs, and under RingSW with empty filters.
+    #[inline(always)]
     pub fn begin(&mut self, algorithm: Alg, start: u64)
         ensures { self.new ≡ begun algorithm start self.old }
     {

@@ -6,6 +6,7 @@ use Rattle.stm_rule.specs.Callers.{Handle}
 use Rattle.stm_rule.specs.declared.rung.Rung.{Rung}
 use Rattle.tx_answers.specs.declared.answers.Commit.{Commit}
 use Rattle.tx_answers.specs.declared.answers.Commit.TheVariants.{Committed, ReadOnly, Conflict, Again, ClockFull}
+use Rattle.tx_bell.specs.Bells.{rung_for}
 use Rattle.tx_bell.specs.Stripes.{Has}
 use Rattle.stm_tx.specs.Descs.{known}
 
@@ -20,7 +21,7 @@ module _ {K : Type 0} where
   -- it rang as it stood afterwards, when all its steps were taken, and for each word that the attempt had written
   pub record Rings (rung : Rung K) (d e : Handle K) : Type 0 where
     pub last : rung.at.value ≡ e
-    pub covers : (a : ℕ) → Wrote d a → Has a rung.stripes.value
+    pub covers : (a : ℕ) → Wrote d a → Has a (rung_for rung.ring)
 
   -- who has written has rung
   abbrev pub HasRung : Commit → Option (Rung K) → Handle K → Handle K → Type 0
@@ -38,7 +39,7 @@ module _ {K : Type 0} where
   -- it rang as it stands, for each word of its write log; where that is not said to have all, for each word
   pub record RingsAs (logged : Bool) (rung : Rung K) (e : Handle K) : Type 0 where
     pub last : rung.at.value ≡ e
-    pub covers : (a : ℕ) → (logged ≡ true → touches e.own.buffered a ≡ true) → Has a rung.stripes.value
+    pub covers : (a : ℕ) → (logged ≡ true → touches e.own.buffered a ≡ true) → Has a (rung_for rung.ring)
 
   abbrev pub HasRungAs : Bool → Commit → Option (Rung K) → Handle K → Type 0
   HasRungAs logged (Committed time) (Some rung) e = RingsAs logged rung e

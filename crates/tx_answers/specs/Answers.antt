@@ -39,7 +39,7 @@ use Rattle.tx_answers.specs.declared.answers.Write.{Write}
 use Rattle.tx_answers.specs.declared.answers.Write.TheVariants.{Done, Conflict, Full, ClockFull}
 use Rattle.tx_answers.specs.Causes.{Asked, FindsFull, NamesOther, Conflicts, IsAgain, OwesValidation, reads_full, writes_full}
 use Rattle.tx_answers.specs.Causes.Asked.{ForWord, ToCommit, ToPromote}
-use Rattle.tx_answers.specs.Evidence.{Found, Exchanged}
+use Rattle.tx_answers.specs.Evidence.{Found, FindsStart, Exchanged}
 use Rattle.tx_answers.specs.CallerState.{CallerState, Grows, IsIdle, is_irrevocable, wrote, has_written, no_log, zeros}
 
 -- the entry that a commit makes of the log: the caller has made this many before
@@ -65,13 +65,14 @@ start_word OrecEager = Clock
 start_word RingSw = Done
 start_word Serial = Clock
 
--- how a start may move in a call: not at all; where a validation was owed, to a clock that was loaded and up to which all reads are valid; up to DONE, within the clock
+-- how a start moves in a call: not at all; where a validation was owed, to a clock that was loaded and up to which all reads are valid; where the clock was no
+-- longer the start, up to DONE, within the clock
 abbrev pub StartMoves : Config → Asked → Alg → CallerState → CallerState → Type 0
 StartMoves c asked Cgl v w = w.start ≡ v.start
 StartMoves c asked Tml v w = w.start ≡ v.start
 StartMoves c asked OrecLazy v w = (w.start ≡ v.start) ⊎ (Found Clock w.start v w × OwesValidation c asked v w)
 StartMoves c asked OrecEager v w = (w.start ≡ v.start) ⊎ (Found Clock w.start v w × OwesValidation c asked v w)
-StartMoves c asked RingSw v w = (w.start ≡ v.start) ⊎ ((clock done : ℕ) × Found Clock clock v w × Found Done done v w × (w.start ≡ max v.start (min done clock)))
+StartMoves c asked RingSw v w = ((w.start ≡ v.start) × FindsStart v w) ⊎ ((clock done : ℕ) × Found Clock clock v w × Found Done done v w × (w.start ≡ max v.start (min done clock)))
 StartMoves c asked Serial v w = w.start ≡ v.start
 
 -- by how much at most a call raises the clock that leaves the attempt open: TML's first write makes it odd, and the attempt irrevocable

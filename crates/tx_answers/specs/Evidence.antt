@@ -1,6 +1,7 @@
 -- What a call's own steps show: the items that it adds to the step trace are the evidence of its answer.
 use Rattle.std.specs.Prelude.{ℕ, ◌≡◌, ◌≢◌, ◌==◌, Bool, true, false, List, [], ◌∷◌, ◌++◌, Contains, Option, Some, None}
 use Rattle.rule_base.specs.declared.layout.At.{At}
+use Rattle.rule_base.specs.declared.layout.At.TheVariants.{Clock}
 use Rattle.rule_base.specs.declared.views.Act.{Act}
 use Rattle.rule_base.specs.declared.views.Act.TheVariants.{Load, Store, Exchange, Raise}
 use Rattle.rule_base.specs.declared.views.TracedStep.{TracedStep}
@@ -9,6 +10,15 @@ use Rattle.tx_answers.specs.CallerState.{CallerState}
 -- a step between the two found this number at this place
 abbrev pub Found : At → ℕ → CallerState → CallerState → Type 0
 Found place n v w = (more : List TracedStep) × (w.step_trace ≡ more ++ v.step_trace) × (act : Act) × Contains more (record { place = place; act = act; found = Some n })
+
+-- where these steps found the clock, it was this
+abbrev pub ClocksAre : ℕ → List TracedStep → Type 0
+ClocksAre n [] = Unit {0}
+ClocksAre n (i ∷ is) = (i.place ≡ Clock → i.found ≡ Some n) × ClocksAre n is
+
+-- where the steps between the two found the clock, it was the start
+abbrev pub FindsStart : CallerState → CallerState → Type 0
+FindsStart v w = (more : List TracedStep) × (w.step_trace ≡ more ++ v.step_trace) × ClocksAre v.start more
 
 -- an exchange between the two found the number that it wanted, and stored this one
 abbrev pub Exchanged : At → ℕ → ℕ → CallerState → CallerState → Type 0

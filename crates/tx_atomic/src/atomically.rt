@@ -7,6 +7,7 @@ ghost use Rattle.tx_answers.specs.Causes.{FindsFull};
 ghost use Rattle.tx_atomic.specs.Tallies.{CommitsStay, CommitsRise, failed_next};
 ghost use Rattle.tx_atomic.specs.declared.tally.Ended.TheVariants.{ClockFull};
 ghost use Rattle.tx_atomic.specs.Tries.{Ran};
+ghost use Rattle.tx_backoff.specs.Pauses.{IsRested};
 
 use crate::attempts::attempt;
 use crate::observer::Observer;
@@ -25,7 +26,7 @@ const MOST_FAILED: u32 = 16;
 /// Runs a transaction until it commits, and answers what it does. It took effect once, as the last thing that the
 /// caller did and after all that it had seen: no attempt that failed before left a trace. None where the clock was
 /// found at its limit, 2^62, and then no attempt took effect: close the memory, and open another. The pace counts it
-/// where it took effect.
+/// where it took effect, and its next pause is the shortest.
 #[inline(always)]
 pub fn atomically<R: Wait, K: MemRule, T: Transaction<K>, O: Observer>(
     rt: &R,
@@ -45,6 +46,7 @@ pub fn atomically<R: Wait, K: MemRule, T: Transaction<K>, O: Observer>(
     ensures uncounted { IfNone result (CommitsStay pace.old.tally pace.new.tally) }
     ensures full { IfNone result ((clock : ℕ) × FindsFull clock (known desc.old) (known desc.new)) }
     ensures installs { (known desc.new).installs ≡ (known desc.old).installs }
+    ensures rested { IfSome result (λ r. IsRested pace.new.backoff) }
     ensures ran { IfSome result (λ r.
         Ran (K.good stm.now.rule) stm.now.config (number desc.old) None (known desc.old)
         (known desc.new) pace.old.tally pace.new.tally) }

@@ -460,10 +460,7 @@ fn end<R: Wait, K: MemRule, C: Calls, O: Observer>(
         wake_for(stm, rung);
         match answer {
             Commit::Committed { .. } | Commit::ReadOnly { .. } => return Ok(()),
-            Commit::Again { word, .. } => {
-                pace.tell(Ended::Again, None);
-                pace.wait_at_commit(word == LOCK);
-            }
+            Commit::Again { word, .. } => pace.wait_at_commit(word == LOCK),
             Commit::Conflict(cause) => return Err(pace.refuse(Ended::Conflict(cause), None)),
             Commit::ClockFull { .. } => return Err(pace.refuse(Ended::ClockFull, None)),
         }

@@ -31,9 +31,11 @@ pub type Pace = Pacing<()>;
 
 impl Pacing<()> {
     ghost use Rattle.tx_atomic.specs.Tallies.{none};
+    ghost use Rattle.tx_backoff.specs.Pauses.{IsRested};
 
     pub fn new() -> Pace
-        ensures { result.tally ≡ none }
+        ensures tally { result.tally ≡ none }
+        ensures rested { IsRested result.backoff }
     {
         Pacing::observed(())
     }
@@ -41,11 +43,13 @@ impl Pacing<()> {
 
 impl<O> Pacing<O> {
     ghost use Rattle.tx_atomic.specs.Tallies.{none};
+    ghost use Rattle.tx_backoff.specs.Pauses.{IsRested};
 
     /// The pace of a caller whose observer this is.
     pub fn observed(observer: O) -> Pacing<O>
         ensures tally { result.tally ≡ none }
         ensures observer { result.observer ≡ observer }
+        ensures rested { IsRested result.backoff }
     {
         Pacing {
             backoff: Backoff::new(),
@@ -60,6 +64,7 @@ impl<O> Pacing<O> {
 impl<O: Observer> Pacing<O> {
     ghost use Rattle.tx_atomic.specs.Tallies.{CommitsStay, with_commit, with_promotion, noted};
     ghost use Rattle.tx_atomic.specs.declared.tally.Ended.TheVariants.{Again};
+    ghost use Rattle.tx_backoff.specs.Pauses.{IsRested};
 
     /// Tells the observer what an attempt or a call of it was refused by, and where.
     pub fn tell(&mut self, ended: Ended, at: Option<usize>)
@@ -93,11 +98,14 @@ impl<O: Observer> Pacing<O> {
         }
     }
 
-    /// Counts that another was faster at the commit, and pauses: shortly, unless that one holds the lock yet.
+    /// Tells the observer that another was faster at the commit, counts it, and pauses: shortly, unless that one holds the
+    /// lock yet.
+    #[cold]
     pub fn wait_at_commit(&mut self, locked: bool)
         ensures noted { self.new.tally ≡ noted Again self.old.tally }
         ensures commits { CommitsStay self.old.tally self.new.tally }
     {
+        self.tell(Ended::Again, None);
         self.tally.note(Ended::Again);
         if locked {
             self.backoff.wait();
@@ -108,7 +116,8 @@ impl<O: Observer> Pacing<O> {
 
     /// Counts a commit: the next pause is the shortest.
     pub fn get_on(&mut self)
-        ensures { self.new.tally ≡ with_commit self.old.tally }
+        ensures counted { self.new.tally ≡ with_commit self.old.tally }
+        ensures rested { IsRested self.new.backoff }
     {
         self.tally.commit();
         self.backoff.reset();

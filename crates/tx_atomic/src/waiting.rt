@@ -17,7 +17,7 @@ ghost use Rattle.stm_tx.specs.Descs.{known, number};
 ghost use Rattle.tx_atomic.specs.Callers.{IsReady, IsThrough, Took};
 ghost use Rattle.tx_atomic.specs.declared.tally.Ended.TheVariants.{ClockFull};
 ghost use Rattle.tx_atomic.specs.Tries.{RanAgain};
-ghost use Rattle.tx_atomic.specs.Waits.{HasLooked};
+ghost use Rattle.tx_atomic.specs.Waits.{HasLooked, since_of, stripes_of};
 
 use crate::atomically::atomically;
 use crate::observer::Observer;
@@ -101,20 +101,17 @@ pub fn until_some<R: Wait, K: MemRule, V: Drop, T: Transaction<K, Output = Optio
 #[derive(Drop)]
 pub struct Waiting<K: MemRule> {
     announced: Announced,
-    /// Of the words that it is for.
-    pub stripes: Stripes,
     /// The caller as it announced it, for proofs alone.
-    pub since: Snapshot<Desc<K>>,
+    since: Snapshot<Desc<K>>,
 }
 
 /// Announces that the caller will wait for words of these stripes, before it looks whether it has to.
 pub fn announce<K: MemRule>(desc: &Desc<K>, stm: &Stm<K>, stripes: Stripes) -> Waiting<K>
-    ensures since { result.since.value ≡ desc.now }
-    ensures stripes { result.stripes ≡ stripes }
+    ensures since { since_of result ≡ desc.now }
+    ensures stripes { stripes_of result ≡ stripes }
 {
     Waiting {
         announced: stm.bell.announce(desc.number, stripes),
-        stripes,
         since: Snapshot::of(desc),
     }
 }
@@ -130,8 +127,8 @@ pub fn sleep<R: Wait, K: MemRule, V: Drop, T: Transaction<K, Output = Option<V>>
     transaction: &T,
     waiting: Waiting<K>,
 )
-    requires looked { HasLooked K.good (T.postcondition transaction.now) stm.now waiting.stripes
-        waiting.since.value desc.now }
+    requires looked { HasLooked K.good (T.postcondition transaction.now) stm.now (stripes_of waiting)
+        (since_of waiting) desc.now }
 {
     let _ = desc;
     let _ = transaction;
@@ -146,7 +143,7 @@ fn announce_late<K: MemRule>(
     stripes: Stripes,
     backoff: &Backoff,
 ) -> Option<Waiting<K>>
-    ensures { IfSome result (λ w. w.since.value ≡ desc.now) }
+    ensures { IfSome result (λ w. since_of w ≡ desc.now) }
 {
     if backoff.is_to_sleep() {
         return Some(announce(desc, stm, stripes));
@@ -173,11 +170,11 @@ fn rest<R: Wait, K: MemRule, V: Drop, T: Transaction<K, Output = Option<V>>>(
     read: Stripes,
 )
     requires looked { IfSome waiting (λ w.
-        HasLooked K.good (T.postcondition transaction.now) stm.now read w.since.value desc.now) }
+        HasLooked K.good (T.postcondition transaction.now) stm.now read (since_of w) desc.now) }
 {
     match waiting {
         Some(waiting) => {
-            if waiting.stripes.covers(read) {
+            if waiting.announced.stripes().covers(read) {
                 sleep(rt, desc, stm, transaction, waiting);
             } else {
                 stm.bell.withdraw(waiting.announced);

@@ -3,6 +3,7 @@
 #![tactic(auto)]
 
 ghost use Rattle.std.specs.Prelude.{◌≤◌};
+ghost use Rattle.tx_backoff.specs.Pauses.{IsRested};
 
 use std::time::Duration;
 use std::{hint, thread};
@@ -77,7 +78,9 @@ pub struct Backoff {
 }
 
 impl Backoff {
-    pub fn new() -> Backoff {
+    pub fn new() -> Backoff
+        ensures { IsRested result }
+    {
         Backoff {
             next: SHORTEST,
             at_commit: SHORTEST_AT_COMMIT,
@@ -136,7 +139,9 @@ impl Backoff {
     }
 
     /// The caller got on: the next pause is the shortest.
-    pub fn reset(&mut self) {
+    pub fn reset(&mut self)
+        ensures { IsRested self.new }
+    {
         self.next = SHORTEST;
         self.at_commit = SHORTEST_AT_COMMIT;
         self.long = 0;

@@ -5,9 +5,14 @@
 //!
 //! A ring ends the waits that don't sleep yet. Who sleeps is woken by a call of the system, which a library without handles,
 //! as the one for C, may not reach: so to wake is a call of its own, and no sleep is longer than [`LONGEST_SLEEP`].
+ghost use Rattle.std.specs.Prelude.{◌≡◌, ℕ, IfSome};
+ghost use Rattle.tx_bell.specs.Bells.{rung_for, waits_for};
+ghost use Rattle.tx_bell.specs.Stripes.{Has};
+
 use crate::stripes::Stripes;
 use crossbeam_utils::CachePadded;
 use std::array;
+use std::snapshot::Snapshot;
 use std::sync::Wait;
 use std::sync::atomic::{AtomicU64, Ordering};
 use std::time::Duration;
@@ -40,12 +45,37 @@ struct Bed {
 pub struct Announced {
     bed: usize,
     low: u32,
+    stripes: Stripes,
 }
 
 impl Announced {
     /// The low 32 bits of the bed's word while the wait is on.
     pub fn low(&self) -> u32 {
         self.low
+    }
+
+    /// Of the words that the wait is for.
+    pub fn stripes(&self) -> Stripes
+        ensures { result ≡ waits_for self.now }
+    {
+        self.stripes
+    }
+}
+
+/// That a bell was rung, for proofs alone. Only a bell makes it.
+#[derive(Drop)]
+pub struct Ring {
+    stripes: Snapshot<Stripes>,
+}
+
+impl Ring {
+    #[inline(always)]
+    fn of(stripes: Stripes) -> Ring
+        ensures { rung_for result ≡ stripes }
+    {
+        Ring {
+            stripes: Snapshot::of(&stripes),
+        }
     }
 }
 
@@ -58,15 +88,27 @@ impl Bell {
         }
     }
 
-    /// Whether somebody may sleep. One load.
+    /// Where nobody waits a ring for all words is none. One load.
     #[inline(always)]
-    pub fn is_awaited(&self) -> bool {
-        self.waiting.load(Ordering::SeqCst) != 0
+    pub fn in_silence(&self) -> Option<Ring>
+        ensures { IfSome result (λ r. (a : ℕ) → Has a (rung_for r)) }
+    {
+        if self.waiting.load(Ordering::SeqCst) == 0 {
+            return Some(Ring::of(Stripes::all()));
+        }
+        None
     }
 
     /// Words of these stripes may have changed: ends each wait for one of them that was announced. Who sleeps in such a wait is
     /// to be woken ([`Bell::wake`]). To be called after the change.
-    pub fn ring(&self, stripes: Stripes) {
+    pub fn ring(&self, stripes: Stripes) -> Ring
+        ensures { rung_for result ≡ stripes }
+    {
+        self.end_waits(stripes);
+        Ring::of(stripes)
+    }
+
+    fn end_waits(&self, stripes: Stripes) {
         let waited_for = stripes_of(self.waiting.load(Ordering::SeqCst));
         if !waited_for.meet(stripes) {
             return;
@@ -104,14 +146,16 @@ impl Bell {
 
     /// Announces that the caller of this number waits for words of these stripes. It looks afterwards whether it has to wait,
     /// sleeps only then, and withdraws at last.
-    pub fn announce(&self, caller: usize, stripes: Stripes) -> Announced {
+    pub fn announce(&self, caller: usize, stripes: Stripes) -> Announced
+        ensures { waits_for result ≡ stripes }
+    {
         let bed = caller % BEDS;
         let low = self.beds[bed].announce(stripes);
         // first the number: while it isn't 0 nobody takes the stripes back
         self.waiting.fetch_add(1, Ordering::SeqCst);
         self.waiting
             .fetch_or(u64::from(stripes.bits) << 32, Ordering::SeqCst);
-        Announced { bed, low }
+        Announced { bed, low, stripes }
     }
 
     /// The wait is over. The last one takes the stripes back.

@@ -1,8 +1,9 @@
--- A range that is written down.
-use Rattle.std.proofs.Common.{◌≡◌, ℕ}
+-- What is written down of a caller that has done nothing.
+use Rattle.std.proofs.Common.{◌≡◌, ℕ, [], sym, subst, arith}
 use Rattle.std.specs.Prelude.{Some, None}
 use Rattle.tx_answers.specs.CallerState.{CallerState, Fenced, IsIdle}
 use Rattle.tx_checked.specs.declared.phase.CallerPhase.TheVariants.{Idle, Running, Beside, Committing, Closing}
+use Rattle.tx_checked.specs.Dates.{AllBy, IsDated}
 use Rattle.tx_checked.specs.Phases.{HasRange, IsInPhase}
 
 pub no-range : (words : ℕ) (f : Fenced) → HasRange None words f
@@ -17,3 +18,6 @@ idle-in_phase v h = (
   λ e. absurd (let no : Idle ≡ Committing = e in cc),
   λ e. absurd (let no : Idle ≡ Closing = e in cc),
 )
+
+pub dated-none : (v : CallerState) → v.made ≡ [] → IsDated 0 v
+dated-none v none = (subst (AllBy 0) (sym none) (λ i d lt. absurd (omega (arith, lt))), omega arith)

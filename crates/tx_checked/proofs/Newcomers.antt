@@ -17,7 +17,7 @@ use Rattle.tx_atomic.specs.Callers.{IsReady, IsThrough}
 use Rattle.tx_atomic.specs.CallerLaws.{through}
 use Rattle.tx_checked.specs.declared.checked_caller.CheckedCaller.{CheckedCaller}
 use Rattle.tx_checked.specs.Phases.{Any}
-use Rattle.tx_checked.specs.Ready.{IsFresh, AreFresh, AreHindered, IsHinderedFirst, IsUnused, AreNewWith, desc_in, descs_in, unmoved}
+use Rattle.tx_checked.specs.Ready.{IsFresh, AreFresh, AreHindered, IsHinderedFirst, IsUnused, AreNewWith, HasMadeNone, desc_in, descs_in, unmoved}
 
 -- a caller that has done nothing at all
 record IsOpened (stm : Stm AnyMem) (i : ℕ) (d : Handle AnyMem) : Type 0 where
@@ -99,6 +99,14 @@ module _ (stm : Stm AnyMem) where
   pub installed-ready : (r : Result (Unit {0}) Hindrance) (alg : Alg) (ds : List (Handle AnyMem)) → OnOk r (AreFresh stm (alg ∷ []) ds) → OnErr r (AreFresh stm [] ds) → All (IsReady stm) ds
   installed-ready (Ok u) alg ds fresh bare = fresh-ready (alg ∷ []) ds fresh
   installed-ready (Err q) alg ds fresh bare = fresh-ready [] ds bare
+
+  -- and none has made an entry
+  fresh-none : (algs : List Alg) (ds : List (Handle AnyMem)) → AreFresh stm algs ds → All HasMadeNone ds
+  fresh-none algs ds h = λ i d lt. (h i d lt).made
+
+  pub installed-none : (r : Result (Unit {0}) Hindrance) (alg : Alg) (ds : List (Handle AnyMem)) → OnOk r (AreFresh stm (alg ∷ []) ds) → OnErr r (AreFresh stm [] ds) → All HasMadeNone ds
+  installed-none (Ok u) alg ds fresh bare = fresh-none (alg ∷ []) ds fresh
+  installed-none (Err q) alg ds fresh bare = fresh-none [] ds bare
 
   -- each with its descriptor
   pub all-new : (c : Config) (algs : List Alg) (ds : List (Handle AnyMem)) (ms : List CheckedCaller) → stm.config ≡ c → AreFresh stm algs ds → descs_in ms ≡ ds → All (IsUnused stm) ms → AreNewWith c algs ms

@@ -11,10 +11,11 @@ use Rattle.atomic_table.specs.Table.{State, Allows, Enters, Act, keeps, takes, g
 use Rattle.atomic_table.proofs.Lists.{at_set, at_snoc, set_here, set_else, set_again, some_there, exchanged}
 use Rattle.stm_model.specs.declared.rule.AnyMem.{AnyMem}
 use Rattle.stm_rule.specs.Callers.{Handle}
+use Rattle.tx_checked.specs.declared.note_exchange.Letter.{Letter}
 use Rattle.tx_checked.specs.NoteExchanges.{IsOurs, Kept, Hand, Entered, Opened}
 
 abbrev Slot : Type 0
-Slot = Option (Handle AnyMem)
+Slot = Option Letter
 
 abbrev vacant : Slot
 vacant = None

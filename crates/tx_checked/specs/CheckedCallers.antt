@@ -45,3 +45,4 @@ pub record IsUntouched (m n : CheckedCaller) : Type 0 where
   pub range : n.range ≡ m.range
   pub refusal : n.refusal ≡ m.refusal
   pub counts : n.counts ≡ m.counts
+  pub latest : n.latest ≡ m.latest

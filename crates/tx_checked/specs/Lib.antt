@@ -1,4 +1,5 @@
 pub mod Phases
+pub mod Dates
 pub mod Errands
 pub mod Alone
 pub mod Counting

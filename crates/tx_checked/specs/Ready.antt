@@ -36,6 +36,9 @@ pub record IsFresh (stm : Stm AnyMem) (algs : List Alg) (i : ℕ) (d : Handle An
 abbrev pub AreFresh : Stm AnyMem → List Alg → List (Handle AnyMem) → Type 0
 AreFresh stm algs ds = (i : ℕ) (d : Handle AnyMem) → i < length ds → IsFresh stm algs i (get_or ds i d)
 
+abbrev pub HasMadeNone : Handle AnyMem → Type 0
+HasMadeNone d = (known d).made ≡ []
+
 abbrev pub desc_in : CheckedCaller → Handle AnyMem
 desc_in m = m.desc
 

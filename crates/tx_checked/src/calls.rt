@@ -12,7 +12,6 @@ ghost use Rattle.tx_checked.specs.Tells.{Tells, HasBegun, HasCommitted, HasCance
 ghost use Rattle.tx_checked.specs.Opens.{HasOpened, number_found, with_number};
 
 use crate::alone::close_alone;
-use crate::beginning::try_begin;
 use crate::checked_caller::CheckedCaller;
 use crate::errand::Errand;
 use crate::misuse::Misuse;
@@ -22,10 +21,11 @@ use stm_model::alg::Alg;
 use stm_model::rule::AnyMem;
 use stm_rule::desc::Desc;
 use stm_rule::stm::Stm;
-use stm_tx::calls;
+use stm_tx::calls::try_begin_as;
 use stm_tx::fencing::fence_seen;
 use stm_tx::gate::{install, reopen};
-use stm_tx::serving::{AnyAlgorithm, Calls};
+use stm_tx::serving::{AnyAlgorithm, Calls, Only};
+use stm_tx::{Algorithm, calls, under};
 use tx_answers::answers::{Begin, Cancel, Commit, Irrev};
 
 /// What a begin came to, without what it found.
@@ -46,6 +46,17 @@ impl CheckedCaller {
     {
         self.is_outside()?;
         let opened = self.open();
+        Ok(self.with_number(opened))
+    }
+
+    /// The same, for who expects this algorithm: where the gate names it, its begin stands in line.
+    #[inline(always)]
+    #[tactic(auto, using(crate::proofs::BeginLaws::begun_anew))]
+    pub fn begin_as<A: Algorithm>(&mut self) -> Result<Begin, Misuse>
+        ensures { Tells (outside self.old) (HasBegun self.old self.new) self.old self.new result }
+    {
+        self.is_outside()?;
+        let opened = self.open_as::<A>();
         Ok(self.with_number(opened))
     }
 
@@ -81,15 +92,26 @@ impl CheckedCaller {
         }
     }
 
-    /// Tries to begin an attempt, for a caller in none. The number that it finds is written down alone, so that the answer goes by
-    /// registers.
+    /// The same for a caller in no attempt, under the algorithm of its last.
     #[inline(never)]
-    pub(crate) fn open(&mut self) -> Opened
+    fn open(&mut self) -> Opened
+        requires idle { outside self.old ≡ None }
+        ensures { HasOpened self.old self.new result }
+    {
+        under!(
+            self.desc.local.algorithm,
+            open_under(Only::<A>::new(), self)
+        )
+    }
+
+    /// The number that it finds is written down alone, so that the answer goes by registers.
+    #[inline(always)]
+    pub(crate) fn open_as<A: Algorithm>(&mut self) -> Opened
         requires idle { outside self.old ≡ None }
         ensures { HasOpened self.old self.new result }
     {
         let stm: &Stm<AnyMem> = &self.stm;
-        match try_begin(&mut self.desc, stm) {
+        match try_begin_as::<A, AnyMem>(&mut self.desc, stm) {
             Begin::Begun(alg) => {
                 self.counts.begun = self.counts.begun.wrapping_add(1);
                 match fence_seen(&self.desc) {
@@ -143,6 +165,7 @@ impl CheckedCaller {
                 self.phase = CallerPhase::Idle;
                 self.reach = 0;
                 self.counts.committed = self.counts.committed.wrapping_add(1);
+                self.latest = time;
                 Ok(Commit::Committed { time })
             }
             Commit::ReadOnly { time } => {
@@ -265,6 +288,15 @@ impl CheckedCaller {
         self.reach = 0;
         Ok(())
     }
+}
+
+#[inline(always)]
+fn open_under<A: Algorithm>(only: Only<A>, caller: &mut CheckedCaller) -> Opened
+    requires idle { outside caller.old ≡ None }
+    ensures { HasOpened caller.old caller.new result }
+{
+    let _ = only;
+    caller.open_as::<A>()
 }
 
 /// Installs an algorithm, and reopens the gate.

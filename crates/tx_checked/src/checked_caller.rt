@@ -3,6 +3,7 @@ ghost use Rattle.std.specs.Prelude.{◌≡◌};
 ghost use Rattle.std.specs.Arc.{arc_value};
 ghost use Rattle.stm_rule.specs.Callers.{IsOf};
 ghost use Rattle.stm_tx.specs.Descs.{known};
+ghost use Rattle.tx_checked.specs.Dates.{IsDated};
 ghost use Rattle.tx_checked.specs.Phases.{IsInPhase, HasRange, reach_at};
 
 use crate::counts::Counts;
@@ -39,9 +40,12 @@ pub struct CheckedCaller {
     /// What came in the way last.
     pub refusal: Option<Refusal>,
     pub counts: Counts,
+    /// The time of the latest entry that it made, 0 while it has made none.
+    pub latest: u64,
     pub ghost own: { IsOf desc (arc_value stm) },
     pub ghost exchange_own: { IsOf (arc_value note_exchange).table.shared.key (arc_value stm) },
     pub ghost in_phase: { IsInPhase phase (known desc) },
     pub ghost reaches: { reach ≡ reach_at phase (arc_value stm).config.words },
+    pub ghost dated: { IsDated latest (known desc) },
     pub ghost ranged: { HasRange range (arc_value stm).config.words (known desc).fenced },
 }

@@ -6,7 +6,6 @@ pub mod access;
 mod alone;
 mod alone_for_range;
 pub mod asking;
-mod beginning;
 pub mod calls;
 pub mod checked_caller;
 pub mod closing;

@@ -3,10 +3,11 @@
 //! identity: pointers into two blocks can't be compared, and a number for each memory would need a source that all
 //! memories share. A place is its teller's and its word says for whom a note lies there, so a call with a stranger
 //! disturbs nobody.
-ghost use Rattle.std.specs.Prelude.{◌≡◌, ◌≢◌, ◌<◌, [], ◌∷◌, IfOk, IfSome, Option};
+ghost use Rattle.std.specs.Prelude.{◌≡◌, ◌≢◌, ◌<◌, ◌≤◌, [], ◌∷◌, IfOk, IfSome, Option};
 ghost use Rattle.stm_model.specs.declared.rule.AnyMem.{AnyMem};
-ghost use Rattle.stm_rule.specs.Callers.{Handle};
-ghost use Rattle.tx_checked.specs.NoteExchanges.{IsOfSameMemory, IsOurs};
+ghost use Rattle.stm_rule.specs.Callers.{front_of};
+ghost use Rattle.tx_checked.specs.declared.note_exchange.Letter.{Letter};
+ghost use Rattle.tx_checked.specs.NoteExchanges.{IsLetter, IsOfSameMemory, IsOurs};
 
 use atomic_table::{Play, Seat, Table, TableRule};
 use std::alloc::Global;
@@ -28,10 +29,17 @@ fn letter_to(caller: usize) -> u64
     (caller as u64).saturating_add(2)
 }
 
+/// A note on its way, with the time of its teller's latest entry.
+#[derive(Drop)]
+pub struct Letter {
+    pub note: Note<AnyMem>,
+    pub latest: u64,
+}
+
 /// Notes that lie there are of the memory that the note exchange was made for.
 pub struct SameMemory;
 
-impl TableRule<Option<Note<AnyMem>>, Desc<AnyMem>, Desc<AnyMem>> for SameMemory {
+impl TableRule<Option<Letter>, Desc<AnyMem>, Desc<AnyMem>> for SameMemory {
     ghost use Rattle.tx_checked.specs.NoteExchanges.{Kept};
 
     ghost holds = { Kept };
@@ -41,7 +49,7 @@ impl TableRule<Option<Note<AnyMem>>, Desc<AnyMem>, Desc<AnyMem>> for SameMemory 
 
 struct Enter;
 
-impl Play<Option<Note<AnyMem>>, Desc<AnyMem>> for Enter {
+impl Play<Option<Letter>, Desc<AnyMem>> for Enter {
     ghost use Rattle.tx_checked.specs.NoteExchanges.{Entered};
 
     ghost then = { Entered };
@@ -49,7 +57,7 @@ impl Play<Option<Note<AnyMem>>, Desc<AnyMem>> for Enter {
 
 struct Open;
 
-impl Play<Option<Note<AnyMem>>, Desc<AnyMem>> for Open {
+impl Play<Option<Letter>, Desc<AnyMem>> for Open {
     ghost use Rattle.tx_checked.specs.NoteExchanges.{Opened};
 
     ghost then = { Opened };
@@ -57,7 +65,7 @@ impl Play<Option<Note<AnyMem>>, Desc<AnyMem>> for Open {
 
 struct Shut;
 
-impl Play<Option<Note<AnyMem>>, Desc<AnyMem>> for Shut {
+impl Play<Option<Letter>, Desc<AnyMem>> for Shut {
     ghost use Rattle.tx_checked.specs.NoteExchanges.{Silent};
 
     ghost then = { Silent };
@@ -66,7 +74,7 @@ impl Play<Option<Note<AnyMem>>, Desc<AnyMem>> for Shut {
 /// The places for notes, one for each caller, shared by the callers.
 #[derive(Drop)]
 pub struct NoteExchange {
-    pub table: Table<Option<Note<AnyMem>>, Desc<AnyMem>, Desc<AnyMem>, SameMemory, Global>,
+    pub table: Table<Option<Letter>, Desc<AnyMem>, Desc<AnyMem>, SameMemory, Global>,
     ghost sized: { table.shared.table_id.words ≡ table.shared.table_id.slots },
 }
 
@@ -85,13 +93,13 @@ impl NoteExchange {
     }
 
     /// Opens the place, where its word is the one wanted.
-    fn open(&self, place: usize, wanted: u64) -> Option<Seat<Option<Note<AnyMem>>, Desc<AnyMem>>>
+    fn open(&self, place: usize, wanted: u64) -> Option<Seat<Option<Letter>, Desc<AnyMem>>>
         requires place { place < self.now.table.shared.table_id.words }
         requires wanted { wanted ≢ 1 }
         ensures table { IfSome result (λ s. s.table_id ≡ self.now.table.shared.table_id) }
         ensures key { IfSome result (λ s. s.me.0 ≡ self.now.table.shared.key) }
         ensures out { IfSome result (λ s.
-            (x : Option (Handle AnyMem)) × (s.me.1 ≡ (place, x) ∷ []) × IsOurs s.me.0 x) }
+            (x : Option Letter) × (s.me.1 ≡ (place, x) ∷ []) × IsOurs s.me.0 x) }
     {
         let (_, mut seat) = self.table.shared.load_new_seat::<Enter>(place);
         let found = self
@@ -101,10 +109,10 @@ impl NoteExchange {
         if found == wanted { Some(seat) } else { None }
     }
 
-    /// Lays a note into the place, for a caller, over one that nobody has fetched: the place is its teller's. It is lost
+    /// Lays a letter into the place, for a caller, over one that nobody has fetched: the place is its teller's. It is lost
     /// where there is no such place, or another has it open.
-    pub(crate) fn lay(&self, place: usize, caller: usize, note: Note<AnyMem>)
-        requires { IsOfSameMemory self.now.table.shared.key note }
+    pub(crate) fn lay(&self, place: usize, caller: usize, letter: Letter)
+        requires { IsLetter self.now.table.shared.key letter }
     {
         if place >= self.table.word_count() {
             return;
@@ -115,22 +123,36 @@ impl NoteExchange {
             return;
         }
         if let Some(mut seat) = self.open(place, left) {
-            shared.exchange(&mut seat, place, Some(note));
+            shared.exchange(&mut seat, place, Some(letter));
             shared.store::<Shut>(&mut seat, place, letter_to(caller));
         }
     }
 
-    /// Takes the note out of the place that lies there for a caller.
-    pub(crate) fn take(&self, place: usize, caller: usize) -> Option<Note<AnyMem>>
-        ensures { IfSome result (IsOfSameMemory self.now.table.shared.key) }
+    /// Takes the letter out of the place that lies there for a caller, and answers its note, where its teller's latest entry
+    /// was then.
+    pub(crate) fn take(&self, place: usize, caller: usize, latest: u64) -> Option<Note<AnyMem>>
+        ensures memory { IfSome result (IsOfSameMemory self.now.table.shared.key) }
+        ensures dated { IfSome result (λ note. latest ≤ front_of note.view) }
     {
         if place >= self.table.word_count() {
             return None;
         }
         let mut seat = self.open(place, letter_to(caller))?;
         let shared = &self.table.shared;
-        let note = shared.exchange(&mut seat, place, None);
+        let letter = shared.exchange(&mut seat, place, None);
         shared.store::<Shut>(&mut seat, place, FREE);
-        note
+        note_of(letter?, latest)
     }
+}
+
+/// The note of a letter of that time.
+fn note_of(letter: Letter, latest: u64) -> Option<Note<AnyMem>>
+    ensures note { IfSome result (λ note. letter.note ≡ note) }
+    ensures dated { IfSome result (λ note. letter.latest ≡ latest) }
+{
+    let Letter {
+        note,
+        latest: dated,
+    } = letter;
+    if dated == latest { Some(note) } else { None }
 }

@@ -4,7 +4,7 @@ ghost use Rattle.std.specs.Arc.{arc_value};
 ghost use Rattle.stm_rule.specs.Callers.{AllOpened, IsOf};
 ghost use Rattle.stm_rule.specs.Refusals.{first_fault};
 ghost use Rattle.tx_atomic.specs.Callers.{IsReady};
-ghost use Rattle.tx_checked.specs.Ready.{AreFresh, AreNew, IsUnused, IsNotOpened, IsHinderedFirst, descs_in};
+ghost use Rattle.tx_checked.specs.Ready.{AreFresh, AreNew, IsUnused, IsNotOpened, IsHinderedFirst, HasMadeNone, descs_in};
 
 use crate::checked_caller::CheckedCaller;
 use crate::counts::Counts;
@@ -99,6 +99,7 @@ fn share(
 ) -> Result<Vec<CheckedCaller>, Memory>
     requires some { 0 < length descs.items }
     requires ready { All (IsReady stm) descs.items }
+    requires none { All HasMadeNone descs.items }
     ensures descs { IfOk result (λ checked_callers. descs_in checked_callers.items ≡ descs.items) }
     ensures unused { IfOk result (λ checked_callers.
         All (IsUnused stm) checked_callers.items) }
@@ -123,6 +124,7 @@ fn enlist(
     requires note_exchange { IsOf (arc_value note_exchange.now).table.shared.key
         (arc_value stm.now) }
     requires ready { All (IsReady (arc_value stm.now)) descs.items }
+    requires none { All HasMadeNone descs.items }
     ensures descs { IfOk result (λ checked_callers. descs_in checked_callers.items ≡ descs.items) }
     ensures unused { IfOk result (λ checked_callers.
         All (IsUnused (arc_value stm.now)) checked_callers.items) }
@@ -145,6 +147,7 @@ fn enlist(
             range: None,
             refusal: None,
             counts: Counts::none(),
+            latest: 0,
         });
     }
     Ok(checked_callers)

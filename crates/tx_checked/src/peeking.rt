@@ -10,8 +10,8 @@ use crate::calls::Opened;
 use crate::checked_caller::CheckedCaller;
 use crate::misuse::Misuse;
 use stm_model::alg::Alg;
-use stm_tx::serving::{Calls, Only};
-use stm_tx::under;
+use stm_tx::Algorithm;
+use stm_tx::serving::{AnyAlgorithm, Calls, Only};
 use tx_answers::answers::Read;
 
 /// What came of a look at a word. What was in the way is written down.
@@ -34,15 +34,16 @@ pub enum Peek {
 }
 
 impl CheckedCaller {
-    /// Looks at the word at `a` outside an attempt, by one that reads this alone.
+    /// Looks at the word at `a` outside an attempt, by one that reads this alone. It is fast where the gate names the algorithm that
+    /// is expected.
     #[inline(always)]
     #[tactic(auto, using(crate::proofs::PeekLaws::found_closed, crate::proofs::PeekLaws::found_held, crate::proofs::PeekLaws::found_full))]
-    pub fn peek(&mut self, a: usize) -> Result<Peek, Misuse>
+    pub fn peek_as<A: Algorithm>(&mut self, a: usize) -> Result<Peek, Misuse>
         ensures { Tells (looking a self.old) (HasPeeked a self.old self.new) self.old self.new result }
     {
         self.may_look(a)?;
-        match self.open() {
-            Opened::Begun(alg) => Ok(read_under(alg, self, a)),
+        match self.open_as::<A>() {
+            Opened::Begun(alg) => Ok(read_as::<A>(alg, self, a)),
             Opened::Closed => Ok(Peek::Closed),
             Opened::Held => Ok(Peek::Held),
             Opened::ClockFull => Ok(Peek::ClockFull),
@@ -64,8 +65,9 @@ impl CheckedCaller {
     }
 }
 
+/// Reads the word in an attempt under `alg`, in line where that is the one that was expected.
 #[inline(always)]
-fn read_under(alg: Alg, caller: &mut CheckedCaller, a: usize) -> Peek
+fn read_as<A: Algorithm>(alg: Alg, caller: &mut CheckedCaller, a: usize) -> Peek
     requires running { IsRunning (known_to caller.old) }
     requires named { (known_to caller.old).alg ≡ alg }
     requires ungranted { (known_to caller.old).granted ≡ false }
@@ -74,11 +76,27 @@ fn read_under(alg: Alg, caller: &mut CheckedCaller, a: usize) -> Peek
     ensures same { IsSameCheckedCaller caller.old caller.new }
     ensures once { HasReadOnce a caller.old caller.new result }
 {
-    under!(alg, read_once(Only::<A>::new(), caller, a))
+    if alg == A::which() {
+        read_once(Only::<A>::new(), caller, a)
+    } else {
+        read_apart(caller, a)
+    }
+}
+
+#[cold]
+#[inline(never)]
+fn read_apart(caller: &mut CheckedCaller, a: usize) -> Peek
+    requires running { IsRunning (known_to caller.old) }
+    requires blank { (known_to caller.old).log ≡ no_log }
+    requires inside { a < (config_of caller.old).words }
+    ensures same { IsSameCheckedCaller caller.old caller.new }
+    ensures once { HasReadOnce a caller.old caller.new result }
+{
+    read_once(AnyAlgorithm, caller, a)
 }
 
 /// Reads the word, and ends the attempt.
-#[inline(never)]
+#[inline]
 fn read_once<C: Calls + Drop>(calls: C, caller: &mut CheckedCaller, a: usize) -> Peek
     requires served { IsServed C.acts_as (known_to caller.old) }
     requires running { IsRunning (known_to caller.old) }
@@ -101,7 +119,7 @@ fn read_once<C: Calls + Drop>(calls: C, caller: &mut CheckedCaller, a: usize) ->
     }
 }
 
-/// Ends an attempt that wrote nothing. That is tested, so that the commit of writes isn't compiled into it.
+/// Ends an attempt that wrote nothing and was not made irrevocable. That is tested, so that no other commit is compiled into it.
 #[inline(always)]
 fn end_unread<C: Calls + Drop>(calls: C, caller: &mut CheckedCaller)
     requires served { IsServed C.acts_as (known_to caller.old) }
@@ -111,6 +129,8 @@ fn end_unread<C: Calls + Drop>(calls: C, caller: &mut CheckedCaller)
     ensures ended { HasEndedUnread caller.old caller.new }
 {
     if caller.desc.local.wrote {
+        end_apart(calls, caller);
+    } else if caller.desc.local.granted {
         end_apart(calls, caller);
     } else {
         let _ = caller.commit_by(&calls);

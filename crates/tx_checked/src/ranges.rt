@@ -218,6 +218,7 @@ impl CheckedCaller {
                 self.phase = CallerPhase::Idle;
                 self.reach = 0;
                 self.range = None;
+                self.latest = time;
                 Ok(Ok(Give::Committed { time }))
             }
             Ok(Give::Unchanged) => {

@@ -5,3 +5,7 @@ pub mod Repeats
 pub mod Rounds
 pub mod Stories
 pub mod StoryLaws
+pub mod Gathered
+pub mod Deeds
+pub mod DeedLaws
+pub mod Jobs

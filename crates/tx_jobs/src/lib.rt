@@ -4,7 +4,9 @@
 
 pub mod calls;
 pub mod closed;
+pub mod gather;
 pub mod job;
+pub mod laws;
 pub mod repeats;
 pub mod rounds;
 pub mod sizes;

@@ -6,7 +6,7 @@ ghost use Rattle.tx_checked.specs.Misuses.{access};
 ghost use Rattle.tx_loops.specs.Accesses.{ReadSays, ReadsHere, ReadsOn, WriteSays, WritesInto};
 ghost use Rattle.tx_loops.specs.Loops.{MadeNothing};
 ghost use Rattle.tx_loops.specs.Stages.{IsSpared, is_plain};
-ghost use Rattle.tx_loops.specs.declared.stage.Stage.TheVariants.{Buffered};
+ghost use Rattle.tx_loops.specs.declared.stage.Stage.TheVariants.{Buffered, Direct};
 
 use crate::ends::end_blank;
 use crate::looping_caller::LoopingCaller;
@@ -67,6 +67,18 @@ impl LoopingCaller {
         }
     }
 
+    /// Whether a body runs in an attempt that can be taken back.
+    #[inline(always)]
+    pub fn is_direct(&self) -> bool
+        ensures direct { result ≡ true → self.now.stage ≡ Direct }
+        ensures revocable { result ≡ true → (known_to self.now.caller).granted ≡ false }
+    {
+        match self.stage {
+            Stage::Direct => true,
+            _ => false,
+        }
+    }
+
     /// Whether writes go into the buffer.
     #[inline(always)]
     pub fn is_buffered(&self) -> bool
@@ -92,9 +104,27 @@ impl LoopingCaller {
         requires served { IsServed C.acts_as (known_to self.old.caller) }
         ensures { WriteSays a x self.old self.new result }
     {
-        if !self.stage.is_plain() {
+        if !self.is_plain() {
             return self.write_apart(a, x);
         }
+        self.write_plain_by(calls, a, x)
+    }
+
+    /// Whether writes go to the attempt as they are.
+    #[inline(always)]
+    pub fn is_plain(&self) -> bool
+        ensures { result ≡ is_plain self.now.stage }
+    {
+        self.stage.is_plain()
+    }
+
+    /// The same, where they do.
+    #[inline(always)]
+    pub fn write_plain_by<C: Calls>(&mut self, calls: &C, a: usize, x: u64) -> Result<Write, Misuse>
+        requires served { IsServed C.acts_as (known_to self.old.caller) }
+        requires plain { is_plain self.old.stage ≡ true }
+        ensures { WriteSays a x self.old self.new result }
+    {
         match self.caller.write_by(calls, a, x) {
             Ok(Write::Done) => Ok(Write::Done),
             Ok(refused) => {
@@ -105,8 +135,9 @@ impl LoopingCaller {
         }
     }
 
+    /// The same, where they don't.
     #[inline(never)]
-    fn write_apart(&mut self, a: usize, x: u64) -> Result<Write, Misuse>
+    pub fn write_apart(&mut self, a: usize, x: u64) -> Result<Write, Misuse>
         requires apart { is_plain self.old.stage ≡ false }
         ensures { WriteSays a x self.old self.new result }
     {

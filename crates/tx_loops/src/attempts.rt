@@ -14,6 +14,7 @@ ghost use Rattle.tx_parts.specs.Laying.{SameLog};
 use crate::looping_caller::LoopingCaller;
 use crate::stage::Stage;
 use crate::storing::store_through;
+use stm_tx::Algorithm;
 use stm_tx::serving::Calls;
 use tx_answers::answers::{Begin, Cancel, Commit, Irrev};
 use tx_checked::checked_caller::CheckedCaller;
@@ -24,7 +25,7 @@ use tx_logs::write_log::WriteLog;
 impl LoopingCaller {
     /// Whether no body of a loop runs, which alone ends its attempt.
     #[inline(always)]
-    pub(crate) fn is_free(&self) -> Result<(), Misuse>
+    pub fn is_free(&self) -> Result<(), Misuse>
         ensures fits { OnOk result (free_misuse self.now.stage ≡ None) }
         ensures wrong { IfErr result (λ e. free_misuse self.now.stage ≡ Some e) }
     {
@@ -47,13 +48,13 @@ impl LoopingCaller {
         self.caller.begin()
     }
 
-    /// As `CheckedCaller::peek`.
+    /// As `CheckedCaller::peek_as`.
     #[inline(always)]
-    pub fn peek(&mut self, a: usize) -> Result<Peek, Misuse>
+    pub fn peek_as<A: Algorithm>(&mut self, a: usize) -> Result<Peek, Misuse>
+        requires free { free_misuse self.old.stage ≡ None }
         ensures { PassesFree (looking a) (HasPeeked a) self.old self.new result }
     {
-        self.is_free()?;
-        self.caller.peek(a)
+        self.caller.peek_as::<A>(a)
     }
 
     /// Commits it, by calls that serve its algorithm.

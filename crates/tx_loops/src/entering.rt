@@ -15,7 +15,8 @@ use crate::turn::Turn;
 use std::alloc::Global;
 use stm_model::alg::Alg;
 use stm_model::memory::Memory;
-use stm_tx::serving::AnyAlgorithm;
+use stm_tx::serving::{AnyAlgorithm, Only};
+use stm_tx::{Algorithm, under};
 use tx_answers::answers::{Begin, Irrev};
 use tx_checked::misuse::Misuse;
 
@@ -131,15 +132,24 @@ impl LoopingCaller {
         self.open()
     }
 
-    /// Begins an attempt.
-    #[inline(always)]
-    #[tactic(auto, using(crate::proofs::WatchLaws::keeps_still, crate::proofs::WatchLaws::keeps_same, crate::proofs::WatchLaws::keeps_none))]
-    pub fn open(&mut self) -> Result<Turn, Misuse>
+    /// Begins an attempt, under the algorithm of its last.
+    fn open(&mut self) -> Result<Turn, Misuse>
         requires free { self.old.stage ≡ Free }
         ensures says { OpenSays self.old self.new result }
         ensures watch { KeepsWatch self.old self.new }
     {
-        match self.caller.begin()? {
+        under!(self.caller.algorithm(), open_under(Only::<A>::new(), self))
+    }
+
+    /// The same, for who expects this algorithm.
+    #[inline(always)]
+    #[tactic(auto, using(crate::proofs::WatchLaws::keeps_still, crate::proofs::WatchLaws::keeps_same, crate::proofs::WatchLaws::keeps_none))]
+    pub fn open_as<A: Algorithm>(&mut self) -> Result<Turn, Misuse>
+        requires free { self.old.stage ≡ Free }
+        ensures says { OpenSays self.old self.new result }
+        ensures watch { KeepsWatch self.old self.new }
+    {
+        match self.caller.begin_as::<A>()? {
             Begin::Begun(alg) => {
                 if self.plan.is_urgent() {
                     self.stage = Stage::Asking;
@@ -240,4 +250,17 @@ impl LoopingCaller {
             times: self.plan.wait(),
         }
     }
+}
+
+#[inline(never)]
+fn open_under<A: Algorithm>(
+    only: Only<A>,
+    looping_caller: &mut LoopingCaller,
+) -> Result<Turn, Misuse>
+    requires free { looping_caller.old.stage ≡ Free }
+    ensures says { OpenSays looping_caller.old looping_caller.new result }
+    ensures watch { KeepsWatch looping_caller.old looping_caller.new }
+{
+    let _ = only;
+    looping_caller.open_as::<A>()
 }

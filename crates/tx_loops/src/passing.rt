@@ -88,7 +88,8 @@ impl LoopingCaller {
     /// As `CheckedCaller::learn`.
     pub fn learn(&mut self, from: &mut LoopingCaller) -> Result<(), Misuse>
         ensures tells { TellsSameMemory (meeting self.old.caller from.old.caller)
-            (HasLearned self.old.caller self.new.caller) self.old.caller self.new.caller result }
+            (HasLearned self.old.caller from.old.caller self.new.caller) self.old.caller
+            self.new.caller result }
         ensures from { IsAsked (meeting self.old.caller from.old.caller) from.old.caller
             from.new.caller }
         ensures loop_is { SameLoop self.old self.new }

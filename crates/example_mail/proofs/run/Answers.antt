@@ -12,9 +12,5 @@ pub returns-clause-each : goal.returns-clause-each
 returns-clause-each g c = by-came c.with_memory.result c.with_memory.ensures.came (λ day came. came.each ∙ c.sizes.ensures.callers)
 
 pub returns-clause-day : goal.returns-clause-day
-returns-clause-day g c =
-    let sizes = c.sizes.ensures in
-    by-came c.with_memory.result c.with_memory.ensures.came
-    (λ day came.
-    closed-day c.args.alg c.sizes.result sizes.words sizes.callers c.queues_are_apart.ensures.empty
-    c.messages_come_in_order.ensures.history c.messages_come_in_order.ensures.once _ _ _ came)
+returns-clause-day g c = by-came c.with_memory.result c.with_memory.ensures.came
+    (λ day came. closed-day c.sizes.ensures.words c.sizes.ensures.callers c.queues_are_apart.ensures.empty c.messages_come_in_order.ensures.once came)

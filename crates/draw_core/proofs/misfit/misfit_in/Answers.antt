@@ -1,4 +1,4 @@
-use Rattle.std.proofs.Common.{◌≡◌, ◌<◌, length, sym, ◌∙◌, arith}
+use Rattle.std.proofs.Common.{◌<◌, length, sym, ◌∙◌, arith}
 use Rattle.draw_core.specs.Walks.{stands_of}
 use Rattle.draw_core.proofs.Misfitting.{misfit-among, misfit-out}
 use Rattle.draw_core.proofs.Walking.{length-stands, stand-of, within-at}

@@ -6,6 +6,6 @@ use Rattle.draw_core.proofs.picture.lanes.Given as goal
 
 abbrev pub invariant-loop-line : goal.invariant-loop-line
 invariant-loop-line l = record {
-  all : max l.lanes (lanes_of (boxes_of (drop l.line-index l.lines))) ≡ lanes_of (boxes_of l.lines);
+  all : max l.lanes (lanes_of l.callers (boxes_of (drop l.line-index l.lines))) ≡ lanes_of l.callers (boxes_of l.lines);
   few : l.lanes ≤ 2 ^ 64;
 }

@@ -1,11 +1,11 @@
-use Rattle.std.proofs.Common.{ℕ, ◌≡◌, ◌+◌, ◌-◌, List, [], ◌∷◌, ◌++◌, length, length-drop, drop, refl, sym, ap, subst, ◌∙◌, arith}
-use Rattle.std.specs.Prelude.{Result, Ok, OnOk, IfErr}
+use Rattle.std.proofs.Common.{◌≡◌, ◌+◌, ◌-◌, List, [], ◌∷◌, ◌++◌, length, length-drop, drop, refl, sym, ap, subst, ◌∙◌, arith}
+use Rattle.std.specs.Prelude.{Ok}
 use Rattle.stm_text.specs.Lines.{lines_of}
 use Rattle.stm_check.specs.Grammar.{report_of}
 use Rattle.stm_trace.specs.declared.line.Line.{Line}
 use Rattle.draw_core.specs.Grammar.{read, reported, closed, IsFault}
 use Rattle.draw_core.specs.Walks.{HasRead}
-use Rattle.draw_core.proofs.ReadLaws.{ReadSoFar, ok-then, err-then, read-report, read-clock, read-wrong, read-more, read-last}
+use Rattle.draw_core.proofs.ReadLaws.{ok-then, err-then, read-report, read-clock, read-wrong, read-more, read-last}
 use Rattle.draw_core.proofs.reading.walk_lines.Goals as goal
 
 pub loop-i-init : goal.loop-i-init
@@ -19,7 +19,7 @@ loop-i-init c =
       first = omega arith;
       workload = refl;
       above = refl;
-      from = refl;
+      part = refl;
     }
 
 pub returns-then-is-clause-told : goal.returns-then-is-clause-told
@@ -99,7 +99,7 @@ loop-i-preserved c =
       first = omega arith;
       workload = c.in_ok-step-in-Some-line.ensures.workload ∙ inv.workload;
       above = c.in_ok-step-in-Some-line.ensures.above ∙ inv.above;
-      from = c.in_ok-step-in-Some-line.ensures.from ∙ inv.from;
+      part = c.in_ok-step-in-Some-line.ensures.part ∙ inv.part;
     }
 
 pub returns-clause-fault : goal.returns-clause-fault

@@ -10,7 +10,7 @@ invariant-loop-i l = record {
   first : 1 ≤ l.number;
   workload : l.walk.workload ≡ l.initial.walk.workload;
   above : l.walk.above ≡ l.initial.walk.above;
-  from : l.walk.page.from ≡ l.initial.walk.page.from;
+  part : l.walk.page.part ≡ l.initial.walk.page.part;
 }
 
 abbrev pub decreases-loop-i : goal.decreases-loop-i

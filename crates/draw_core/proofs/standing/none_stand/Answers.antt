@@ -1,4 +1,4 @@
-use Rattle.std.proofs.Common.{◌≡◌, ◌++◌, ◌-◌, ◌+◌, map, sym, ap, ◌∙◌, append_assoc}
+use Rattle.std.proofs.Common.{◌++◌, ◌-◌, ◌+◌, map, sym, ap, ◌∙◌, append_assoc}
 use Rattle.draw_core.specs.Standing.{in_lane, of_lanes, standing_of}
 use Rattle.draw_core.proofs.Slots.{lanes-more}
 use Rattle.draw_core.proofs.standing.none_stand.Goals as goal

@@ -1,27 +1,31 @@
-use Rattle.std.proofs.Common.{◌∙◌, arith, sym, true, false}
+use Rattle.std.proofs.Common.{nat_eq, ◌≡◌, ◌∙◌, length, ap, arith, sym, true, false}
+use Rattle.std.proofs.lemmas.Bool.Decides.{nat_tests}
+use Rattle.std.proofs.lemmas.Grind.{common_steps}
 use Rattle.std.proofs.lemmas.List.{get_or_default}
 use Rattle.mailbox.specs.Mail.{queue_of}
 use Rattle.mail_jobs.specs.declared.day.TheConstants.{MAILBOX}
-use Rattle.mail_jobs.specs.DayLaws.{all-received, none-counted, through-by}
-use Rattle.mail_jobs.proofs.day.each_came_once.Goals.{then-index-ne0-via-then-index-ne0, then-index-ne0-via-else-index-ne0+then-index-ne0-2}
+use Rattle.mail_jobs.specs.DayLaws.{all-received}
+use Rattle.mail_jobs.specs.Days.{IsThrough}
 use Rattle.mail_jobs.proofs.day.each_came_once.Goals as goal
 
-pub returns-then-index-ne0-clause-only : goal.returns-then-index-ne0-clause-only
-returns-then-index-ne0-clause-only g c = λ none through.
-    let words = c.args.came.now.words.items in
-    let urgent = get_or_default words 1 c.index-2.result.now 0 (let long = c.requires.words in omega (arith, long)) in
-    elim c.then-index-ne0.branch [
-      | then-index-ne0-via-then-index-ne0 w ↦ w.if-index-ne0.true (c.index-2.ensures ∙ urgent ∙ none-counted (queue_of MAILBOX true) words (through.1 true))
-      | then-index-ne0-via-else-index-ne0+then-index-ne0-2 w ↦ w.if-index-ne0-2.true (w.index-else-index-ne0.ensures ∙ get_or_default words 11 w.index-else-index-ne0.result.now 0 (let long = c.requires.words in omega (arith, long)) ∙ none-counted (queue_of MAILBOX false) words (through.1 false))
-    ]
+pub returns-then-index-eq0-clause-once : goal.returns-then-index-eq0-clause-once
+returns-then-index-eq0-clause-once g c =
+    let through : nat_eq c.index-then-index-eq0.result.now 0 ≡ true → IsThrough c.args.came.now.words.items c.args.came.now.answers.items = grind (arith, common_steps) in
+    λ none history day message low. all-received c.args.came.now.words.items c.args.came.now.answers.items history c.index.result.now (through none) day message low
 
-pub returns-clause-once : goal.returns-clause-once
-returns-clause-once g c = λ all history day message low.
+-- where none waits the word that counts is 0
+pub returns-then-index-eq0-clause-only : goal.returns-then-index-eq0-clause-only
+returns-then-index-eq0-clause-only g c = λ some through.
     let words = c.args.came.now.words.items in
-    let shares = c.args.came.now.answers.items in
-    let p = c.index.result.now in
-    let urgent = get_or_default words 1 0 c.index-2.result.now (let long = c.requires.words in omega (arith, long)) in
-    let other = get_or_default words 11 0 c.index-else-index-ne0.result.now (let long = c.requires.words in omega (arith, long)) in
-    let through = through-by words shares p c.index-else-index-ne-EACH.result.now c.requires.callers c.index.ensures c.index-else-index-ne-EACH.ensures c.if-index-ne-EACH.false c.if-index-ne-EACH-2.false
-    (urgent ∙ (sym c.index-2.ensures ∙ c.if-index-ne0.false)) (other ∙ (sym c.index-else-index-ne0.ensures ∙ c.if-index-ne0-2.false)) in
-    all-received words shares history p through day message low
+    let word = c.index-then-index-eq0.result.now in
+    let none : word ≡ 0 = c.index-then-index-eq0.ensures ∙ (get_or_default words 11 word 0 (let long = c.requires.words in omega (arith, long))
+    ∙ (sym (c.contents_change.ensures.counts (queue_of MAILBOX false) words) ∙ ap length (through.1 false))) in
+    grind (arith, nat_tests, none)
+
+pub returns-else-index-eq0-clause-only : goal.returns-else-index-eq0-clause-only
+returns-else-index-eq0-clause-only g c = λ some through.
+    let words = c.args.came.now.words.items in
+    let word = c.index-2.result.now in
+    let none : word ≡ 0 = c.index-2.ensures ∙ (get_or_default words 1 word 0 (let long = c.requires.words in omega (arith, long))
+    ∙ (sym (c.contents_change.ensures.counts (queue_of MAILBOX true) words) ∙ ap length (through.1 true))) in
+    grind (arith, nat_tests, none)

@@ -53,7 +53,7 @@ loop-preserved g c =
     let went = subst (λ r. Commits good stm.config (number c.loop.desc) r v w) c.in-Again.is c.commit-answer.ensures.commits in
     let more = again-more good stm.config n inv.again.0 (number c.loop.desc) c.commit-answer.result.answer _ _ _ u v w (same-number c.args.desc.now c.loop.desc inv.same) inv.again.1 c.in-Again.is c.commit-answer.ensures.commits in
     let again : (k : ℕ) × FindsAgain good stm.config n k u w × (c.wait_at_commit.new.self.tally ≡ noted_times k Again c.args.pace.now.tally)
-    = (suc inv.again.0, more, c.wait_at_commit.ensures.noted ∙ ap (noted Again) (c.tell.ensures ∙ inv.again.2)) in
+    = (suc inv.again.0, more, c.wait_at_commit.ensures.noted ∙ ap (noted Again) inv.again.2) in
     search (rules, grew, went, again)
 
 -- what came of the calls, and the last of them

@@ -10,8 +10,8 @@ use Rattle.stm_rule.specs.Callers.{IsOf}
 use Rattle.stm_tx.specs.Descs.{known}
 use Rattle.tx_atomic.specs.Callers.{IsReady}
 use Rattle.tx_checked.specs.declared.note_exchange.NoteExchange.{NoteExchange}
-use Rattle.tx_checked.specs.Ready.{IsUnused, desc_in, descs_in}
-use Rattle.tx_checked.proofs.Held.{no-range, idle-in_phase}
+use Rattle.tx_checked.specs.Ready.{HasMadeNone, IsUnused, desc_in, descs_in}
+use Rattle.tx_checked.proofs.Held.{dated-none, no-range, idle-in_phase}
 use Rattle.tx_checked.proofs.Newcomers.{all-head, all-tail}
 use Rattle.tx_checked.proofs.opening.enlist.Goals as goal
 
@@ -28,6 +28,7 @@ invariant_of-push_reserved c =
           (subst (λ (b : NoteExchange). IsOf b.table.shared.key stm) (sym c.in-Ok-try_clone.ensures) c.requires.note_exchange);
       in_phase = idle-in_phase (known desc) ready.idle;
       reaches = refl;
+      dated = dated-none (known desc) (all-head HasMadeNone desc rest (subst (All HasMadeNone) c.in-Some.ensures.steps.0 c.loop-desc.invariant.none));
       ranged = no-range (arc_value c.in-Ok.shared).config.words (known desc).fenced;
     }
 
@@ -42,6 +43,7 @@ loop-desc-preserved c =
     let pushed : descs_in c.push_reserved.new.self.items ≡ descs_in checked_callers ++ desc ∷ [] = ap descs_in c.push_reserved.ensures.items ∙ map-append desc_in checked_callers _ in
     record {
       ready = all-tail (IsReady stm) desc rest (subst (All (IsReady stm)) steps at.invariant.ready);
+      none = all-tail HasMadeNone desc rest (subst (All HasMadeNone) steps at.invariant.none);
       descs = ap (λ l. l ++ rest) pushed ∙ (append_assoc (descs_in checked_callers) (desc ∷ []) rest ∙ (ap (λ l. descs_in checked_callers ++ l) (sym steps) ∙ at.invariant.descs));
       unused =
           subst (All (IsUnused stm)) (sym c.push_reserved.ensures.items)

@@ -1,9 +1,8 @@
-use Rattle.std.proofs.Common.{◌≡◌, ◌<◌, ◌≤◌, ◌+◌, ◌++◌, [], ◌∷◌, List, length, refl, sym, ap, subst, ◌∙◌, arith, length-append, append_assoc, true, false}
-use Rattle.std.specs.Prelude.{Some, None, Option, if◌then◌else◌}
+use Rattle.std.proofs.Common.{◌≡◌, ◌+◌, ◌++◌, [], ◌∷◌, length, refl, sym, ap, subst, ◌∙◌, arith, length-append, append_assoc, true, false}
 use Rattle.draw_core.specs.declared.row.Row.{Row}
-use Rattle.draw_core.specs.Rows.{joins, joined, pushed, rows_of}
-use Rattle.draw_core.specs.Shapes.{Box, box_of, boxes_of}
-use Rattle.draw_core.specs.Pages.{IsPageOf, IsSettled}
+use Rattle.draw_core.specs.Rows.{joins, joined, pushed}
+use Rattle.draw_core.specs.Shapes.{Box, box_of}
+use Rattle.draw_core.specs.Parts.{IsSettled}
 use Rattle.draw_core.specs.Standing.{box_in, row_in}
 use Rattle.draw_core.proofs.Paging.{rows_of-more, none-is, pushed-last, row-is}
 use Rattle.draw_core.proofs.page.Page.add.Goals as goal

@@ -1,70 +1,41 @@
-use Rattle.std.proofs.Common.{◌≡◌, ◌<◌, ◌≤◌, ◌+◌, ◌-◌, ◌++◌, [], ◌∷◌, List, length, map, take, drop, min, sym, ap, ◌∙◌, arith, length-append, length-take}
-use Rattle.std.proofs.lemmas.List.{take_all, take-append-le, drop_all}
-use Rattle.draw_core.specs.declared.page.TheConstants.{PAGE_ROWS}
+use Rattle.std.proofs.Common.{◌≡◌, ◌++◌, [], ◌∷◌, length, map, true, false, sym, ap, ◌∙◌, arith, length-append}
 use Rattle.draw_core.specs.Shapes.{Box, box_of, boxes_of}
-use Rattle.draw_core.specs.Pages.{IsSettled}
-use Rattle.draw_core.specs.Standing.{after_row, none_stand, standing_of, stood}
-use Rattle.draw_core.proofs.Boxes.{length-boxes}
+use Rattle.draw_core.specs.Parts.{is_before, is_own, own_rows, rows_before}
+use Rattle.draw_core.specs.Standing.{after_row, none_stand, stood}
+use Rattle.draw_core.proofs.Parting.{before-is-not-own, kept-before, kept-one, left-out}
+use Rattle.draw_core.proofs.Paging.{stood-more}
 use Rattle.draw_core.proofs.Slots.{boxes-append}
-use Rattle.draw_core.proofs.Paging.{stood-more, take-before, take-after, drop-after}
 use Rattle.draw_core.proofs.page.Page.settle.Goals as goal
 
-pub returns-then-count-self-clause-is : goal.returns-then-count-self-clause-is
-returns-then-count-self-clause-is c = λ rows s.
+pub returns-then-is_after-clause-is : goal.returns-then-is_after-clause-is
+returns-then-is_after-clause-is c = λ rows s.
     let b = box_of c.args.row in
-    let from = c.args.self.now.from in
-    let n = length-append rows (b ∷ []) in
-    let count = s.count in
-    let lt = c.if-count-self.true in
-    let in-front : length rows < from = omega (arith, count, lt) in
+    let part = c.args.self.now.part in
+    let before : is_before part.lines b.number ≡ true = sym c.is_after.ensures ∙ c.if-is_after.true in
+    let same = left-out (is_own part) rows b (before-is-not-own part b before) in
+    let came = kept-one (λ (x : Box). is_before part.lines x.number) rows b before in
     record {
-      count = omega (arith, count, n);
+      count = s.count ∙ ap length (sym same);
       above = c.stand.ensures
-          ∙ (ap (map (after_row b)) s.above
-          ∙ (sym (stood-more none_stand (take from rows) b) ∙ ap (stood none_stand) (sym (take-before from rows b in-front))));
-      own = s.own ∙ (ap (take PAGE_ROWS) (drop_all from rows (omega (arith, in-front)) ∙ sym (drop_all from (rows ++ b ∷ []) (omega (arith, in-front, n)))));
-    }
-
-pub returns-then-len-ge-PAGE_ROWS-clause-is : goal.returns-then-len-ge-PAGE_ROWS-clause-is
-returns-then-len-ge-PAGE_ROWS-clause-is c = λ rows s.
-    let b = box_of c.args.row in
-    let from = c.args.self.now.from in
-    let n = length-append rows (b ∷ []) in
-    let count = s.count in
-    let ge = c.if-count-self.false in
-    let behind : from ≤ length rows = omega (arith, count, ge) in
-    let full = c.if-len-ge-PAGE_ROWS.true in
-    let len = c.len.ensures in
-    let same = length-boxes c.args.self.now.own.items in
-    let many = ap length s.own in
-    let least = length-take PAGE_ROWS (drop from rows) in
-    record {
-      count = omega (arith, count, n);
-      above = s.above ∙ ap (stood none_stand) (sym (take-after from rows b behind));
-      own = s.own ∙ sym (ap (take PAGE_ROWS) (drop-after from rows b behind) ∙ take-append-le PAGE_ROWS (drop from rows) (b ∷ []) (omega (arith, full, len, same, many, least)));
+          ∙ (ap (map (after_row b)) s.above ∙ (sym (stood-more none_stand (rows_before part rows) b) ∙ ap (stood none_stand) (sym came)));
+      own = λ k. s.own k ∙ sym same;
     }
 
 pub returns-clause-is : goal.returns-clause-is
 returns-clause-is c = λ rows s.
     let b = box_of c.args.row in
-    let from = c.args.self.now.from in
-    let n = length-append rows (b ∷ []) in
+    let part = c.args.self.now.part in
+    let apart : is_before part.lines b.number ≡ false = sym c.is_after.ensures ∙ c.if-is_after.false in
+    let mine : is_own part b ≡ true = sym c.has.ensures ∙ c.if-not-has.false in
+    let more = kept-one (is_own part) rows b mine in
+    let same = left-out (λ (x : Box). is_before part.lines x.number) rows b apart in
+    let n = length-append (own_rows part rows) (b ∷ []) in
+    let long = ap length more in
     let count = s.count in
-    let ge = c.if-count-self.false in
-    let behind : from ≤ length rows = omega (arith, count, ge) in
-    let some = c.if-len-ge-PAGE_ROWS.false in
-    let len = c.len.ensures in
-    let same = length-boxes c.args.self.now.own.items in
-    let many = ap length s.own in
-    let least = length-take PAGE_ROWS (drop from rows) in
-    let rest : List Box = drop from rows in
-    let few : length rest < PAGE_ROWS = omega (arith, some, len, same, many, least) in
-    let one = length-append rest (b ∷ []) in
     record {
-      count = omega (arith, count, n);
-      above = s.above ∙ ap (stood none_stand) (sym (take-after from rows b behind));
-      own = ap boxes_of c.in_ok-push.ensures.items
-          ∙ (boxes-append c.args.self.now.own.items (c.args.row ∷ [])
-          ∙ (ap (λ l. l ++ b ∷ []) (s.own ∙ take_all PAGE_ROWS rest (omega (arith, few)))
-          ∙ sym (ap (take PAGE_ROWS) (drop-after from rows b behind) ∙ take_all PAGE_ROWS (rest ++ b ∷ []) (omega (arith, few, one)))));
+      count = omega (arith, n, long, count);
+      above = s.above ∙ ap (stood none_stand) (sym same);
+      own = λ k.
+          ap boxes_of c.in_ok-push.ensures.items
+          ∙ (boxes-append c.args.self.now.own.items (c.args.row ∷ []) ∙ (ap (λ l. l ++ b ∷ []) (s.own (kept-before part.lines c.args.self.now.count k)) ∙ sym more));
     }

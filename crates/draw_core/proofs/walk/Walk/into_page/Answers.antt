@@ -1,4 +1,3 @@
-use Rattle.std.proofs.Common.{◌≡◌, ap, ◌∙◌}
 use Rattle.draw_core.specs.Shapes.{line_boxes}
 use Rattle.draw_core.proofs.Paging.{none-by}
 use Rattle.draw_core.proofs.WalkLaws.{unfit-all, walked-all, walked-by}

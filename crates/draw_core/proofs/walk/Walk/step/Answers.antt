@@ -1,9 +1,9 @@
-use Rattle.std.proofs.Common.{ℕ, ◌≡◌, ◌+◌, List, [], ◌∷◌, ◌++◌, length, sym, ap, subst, false, ◌∙◌, arith}
+use Rattle.std.proofs.Common.{◌≡◌, ◌+◌, List, [], ◌∷◌, ◌++◌, length, sym, ap, subst, false, ◌∙◌, arith}
 use Rattle.std.specs.Prelude.{is_some}
 use Rattle.stm_trace.specs.declared.line.Line.{Line}
 use Rattle.draw_core.specs.declared.walk.Walk.{Walk}
 use Rattle.draw_core.specs.declared.page.Page.{Page}
-use Rattle.draw_core.specs.Pages.{IsPageOf}
+use Rattle.draw_core.specs.Parts.{IsPageOf}
 use Rattle.draw_core.specs.Shapes.{Box, line_box}
 use Rattle.draw_core.specs.Walks.{IsWalk}
 use Rattle.draw_core.proofs.ReadLaws.{ok-then}
@@ -31,7 +31,7 @@ returns-clause-is c =
     let line = c.args.line in
     let step = c.in-Some.step in
     let none : is_some walk.misfit ≡ false = sym c.is_some.ensures ∙ c.if-is_some.false in
-    let now : Walk = record { workload = n.workload; above = n.above; cursors = n.cursors; page = c.add.new.self; misfit = n.misfit } in
+    let now : Walk = record { workload = n.workload; above = n.above; cursors = n.cursors; phases = n.phases; page = c.add.new.self; misfit = n.misfit } in
     ok-then c.add.result ((boxes : List Box) → IsPageOf n.page boxes → IsPageOf c.add.new.self (boxes ++ line_box (length boxes + 1) step ∷ []))
     ((lines : List Line) → IsWalk walk lines → IsWalk now (lines ++ line ∷ [])) c.add.ensures.is
     (λ f lines w.

@@ -24,6 +24,3 @@ returns-clause-kept g c =
     let fits = c.requires.precondition in
     keeps-written c.requires.good c.requires.fresh c.in_ok-guest.ensures.found c.in_ok-write_words.ensures.wrote
     (λ m s small ex. checked-out m _ _ _ _ (s.1 ∙ fits.0) fits.1 (λ none. c.if-guest-eq0.false (sym ex.0 ∙ none)) ex.1.0 ex.1.1.0 ex.1.1.1.0 s.0)
-
-pub returns-clause-keeps : goal.returns-clause-keeps
-returns-clause-keeps g c = search (rules, g.met.A.Access.keeps_trans)

@@ -15,6 +15,3 @@ returns-clause-kept g c =
     (λ m s small ex.
     let most = s.0.two c.args.self.now.room fits.1 in
     handed-key m _ _ _ (s.1 ∙ fits.0) fits.1 (λ none. c.if-guest-eq0.false (sym ex.0 ∙ none)) ex.1.0 ex.1.1.0 (let other = c.if-keys-eq2.false in omega (arith, ex.1.0)) s.0)
-
-pub returns-clause-keeps : goal.returns-clause-keeps
-returns-clause-keeps g c = search (rules, g.met.A.Access.keeps_trans)

@@ -8,6 +8,3 @@ returns-clause-kept g c =
     let fits = c.requires.precondition in
     keeps-written c.requires.good c.requires.fresh c.in_ok-guest.ensures.found c.in_ok-write_words.ensures.wrote
     (λ m s small ex. moved m _ _ _ _ (s.1 ∙ fits.0) fits.1 fits.2 c.if-guest-eq0.false ex.0 (let free = c.if-other-ne0.false in ex.1.0 ∙ free) ex.1.1.0 s.0)
-
-pub returns-clause-keeps : goal.returns-clause-keeps
-returns-clause-keeps g c = search (rules, g.met.A.Access.keeps_trans)

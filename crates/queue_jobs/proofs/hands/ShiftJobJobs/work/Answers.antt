@@ -1,11 +1,11 @@
-use Rattle.std.proofs.Common.{ℕ, suc, ◌≡◌, ◌<◌, ◌≤◌, ◌+◌, ◌*◌, ◌^◌, true, arith, ltb, subst, sym}
+use Rattle.std.proofs.Common.{ℕ, suc, ◌≡◌, ◌<◌, ◌≤◌, ◌+◌, ◌*◌, ◌^◌, ◌++◌, true, map, ap, arith, ltb, refl, subst, sym}
 use Rattle.std.specs.List.{range_with_len}
 use Rattle.std.proofs.lemmas.Bool.Decides.{nat_tests}
 use Rattle.std.proofs.lemmas.Nat.{mul-le}
 use Rattle.std.proofs.Math.Nat.{suc-mul}
 use Rattle.queue_jobs.specs.declared.plan.Plan.{Plan}
-use Rattle.queue_jobs.specs.Days.{IsPlan, first_job, quota}
-use Rattle.queue_jobs.specs.Deeds.{HasDone}
+use Rattle.tx_jobs.specs.Jobs.{Known, HasDone, done-none, done-then, gathered-did}
+use Rattle.queue_jobs.specs.Days.{IsPlan, first_job, quota, Did, Given, Taken}
 use Rattle.queue_jobs.proofs.hands.ShiftJobJobs.work.Goals as goal
 
 -- a producer's jobs are among those that the plan has numbers for
@@ -32,19 +32,25 @@ pub returns-then-number-self-clause-postcondition : goal.returns-then-number-sel
 returns-then-number-self-clause-postcondition g c =
     let plan = c.args.self.now.plan in
     let s = g.C.Calls.seat c.args.caller.now in
-    let q = s.rule.waiting in
     let n = c.number-number.result in
     let gave = c.give_all-gave.result in
-    let ts = c.new-took.result.items in
     let a = (g.C.Calls.known c.args.caller.now).made in
     let b = (g.C.Calls.known c.give_all-gave.new.caller).made in
     let lt = c.if-number-self.true in
     let is : ltb n plan.producers ≡ true = grind (arith, nat_tests, lt) in
     let own : gave ≤ quota plan n = rw is c.give_all-gave.ensures.count in
-    let did : HasDone q s.words (range_with_len (first_job plan n) gave) ts a b = subst
-    (λ l. HasDone q s.words (range_with_len (first_job plan n) gave) l a b) (sym c.new-took.ensures.items)
-    c.give_all-gave.ensures.gave in
-    subst (λ k. (gave ≤ quota plan k) × HasDone q s.words (range_with_len (first_job plan k) gave) ts a b) c.number-number.ensures.is (own, did)
+    let none = subst (λ ts. HasDone (Did s.rule.waiting s.words) (map Taken ts) b b) (sym c.new-took.ensures.items) (done-none refl) in
+    let did = done-then {does = Did s.rule.waiting s.words} c.give_all-gave.ensures.gave none in
+    subst (λ k. (gave ≤ quota plan k) × HasDone (Did s.rule.waiting s.words) (map Given (range_with_len (first_job plan k) gave) ++ map Taken c.new-took.result.items) a b) c.number-number.ensures.is (own, did)
 
-pub returns-else-number-self-clause-postcondition : goal.returns-else-number-self-clause-postcondition
-returns-else-number-self-clause-postcondition g c = ((omega arith), c.take_share-took.ensures.took)
+pub returns-in-Ok-clause-postcondition : goal.returns-in-Ok-clause-postcondition
+returns-in-Ok-clause-postcondition g c = ((omega arith), gathered-did Taken (λ k answer v w told. told) c.in-Ok.ensures.gathered)
+
+pub returns-in-Err-clause-postcondition : goal.returns-in-Err-clause-postcondition
+returns-in-Err-clause-postcondition g c =
+    let s = g.C.Calls.seat c.args.caller.now in
+    let a = (g.C.Calls.known c.args.caller.now).made in
+    let b = (g.C.Calls.known c.gather.new.caller).made in (
+      (omega arith),
+      subst (λ ts. HasDone (Did s.rule.waiting s.words) (map Taken ts) a b) (sym c.new.ensures.items) (done-none (ap (λ (k : Known). k.made) c.in-Err.ensures.refused)),
+    )

@@ -8,8 +8,8 @@ use Rattle.tx_checked.proofs.note_exchange.NoteExchange.take.Goals as goal
 pub store-requires : goal.store-requires
 store-requires c =
     let shared = c.args.self.now.table.shared in
-    let seat = c.exchange-note.new.seat in
-    let told = c.exchange-note.ensures in
+    let seat = c.exchange-letter.new.seat in
+    let told = c.exchange-letter.ensures in
     let was = c.in_ok-seat.ensures in
     let out : seat.me.1 ≡ (c.args.place, None) ∷ [] = ap (λ (m : Hand). m.1) told.3 ∙ ap (λ l. (c.args.place, None) ∷ rest l) was.out.1 in
     let known : seat.me.0 ≡ shared.key = ap (λ (m : Hand). m.0) told.3 ∙ was.key in
