@@ -248,19 +248,20 @@ NEKCHHAUL_CALL uint32_t nekchhaul_become_irrevocable(nekchhaul_caller *caller);
  * algorithm couldn't take it back. It hands on each answer that ends its attempt, and runs again; nekchhaul_begin,
  * nekchhaul_commit and nekchhaul_cancel answer IN_ATTEMPT in it. */
 
-/* Begins an attempt for a body. RUN: run it, and call nekchhaul_leave. PAUSE: another is in the way; nekchhaul_pause(pause), and
- * enter again. 0: the commit that nekchhaul_leave put off is done. Any other answer ends the loop, with nothing left:
- * CLOCK_FULL; MEMORY where a full log couldn't be made longer; IN_ATTEMPT, CLOSING. Who has waited behind a lock for three
- * milliseconds has its memory's turn, for 50 at most: meanwhile the calls of others that enter sleep. nekchhaul_begin and
- * nekchhaul_peek have no part in that. */
+/* Begins an attempt for a body. RUN: run it, and call nekchhaul_leave. PAUSE: a call was refused, by what nekchhaul_why shows,
+ * or a log was made longer; nekchhaul_pause(pause), and enter again. 0: the commit that nekchhaul_leave put off is done. Any
+ * other answer ends the loop, with nothing left: CLOCK_FULL; MEMORY where a full log couldn't be made longer; IN_ATTEMPT,
+ * CLOSING. Who has waited behind a lock for three milliseconds has its memory's turn, for 50 at most: meanwhile the calls of
+ * others that enter sleep. nekchhaul_begin and nekchhaul_peek have no part in that. */
 NEKCHHAUL_CALL uint32_t nekchhaul_enter(nekchhaul_caller *caller, nekchhaul_pause_of *pause);
 
-/* Ends that attempt by `how`, which is what the body answered: 0, the status of a call, RETRY, or NEKCHHAUL_STOP + n. 0: it took
- * effect at one moment. PAUSE: the attempt left nothing, or its commit is put off; nekchhaul_pause(pause), and enter again. Any
- * other answer ends the loop, with nothing left: what the body answered where that was STOP + n, a misuse, DEEP or RANGE_TAKEN,
- * and FENCED only where the caller has a range itself or all words are out; LOG_FULL where it writes more words than a log of
- * 1,048,576 items has; CLOCK_FULL. With IRREVOCABLE what it wrote stands: nekchhaul_become_irrevocable had answered 0, and then the
- * body didn't. After PAUSE a `how` other than 0 gives the loop up. NO_ATTEMPT: no attempt of a loop is open. */
+/* Ends that attempt by `how`, which is what the body answered: 0, the status of a call but RUN and PAUSE, RETRY, or
+ * NEKCHHAUL_STOP + n. 0: it took effect at one moment. PAUSE: the attempt left nothing, or its commit is put off;
+ * nekchhaul_pause(pause), and enter again. Any other answer ends the loop, with nothing left: what the body answered where that
+ * was STOP + n, a misuse, DEEP or RANGE_TAKEN, and FENCED only where the caller has a range itself or all words are out;
+ * LOG_FULL where it writes more words than a log of 1,048,576 items has; CLOCK_FULL. With IRREVOCABLE what it wrote stands:
+ * nekchhaul_become_irrevocable had answered 0, and then the body didn't. After PAUSE a `how` other than 0 gives the loop up.
+ * NO_ATTEMPT: no attempt of a loop is open. */
 NEKCHHAUL_CALL uint32_t nekchhaul_leave(nekchhaul_caller *caller, uint32_t how, nekchhaul_pause_of *pause);
 
 /* THE CALLS THAT MUST BE ALONE: nekchhaul_switch, nekchhaul_fence, nekchhaul_give_back and nekchhaul_close. Each closes the

@@ -23,6 +23,16 @@ struct Listener {
 }
 
 impl Observer for Listener {
+    ghost use Rattle.std.specs.Prelude.{ℕ, Option};
+    ghost use Rattle.tx_atomic.specs.declared.tally.Tally.{Tally};
+    ghost use Rattle.tx_atomic.specs.Tallies.{noted};
+
+    ghost Heard = { Tally × Option ℕ };
+
+    ghost heard = { λ l. (l.told, l.at) };
+
+    ghost hears = { λ ended at heard. (noted ended heard.0, at) };
+
     fn refused(&mut self, ended: Ended, at: Option<usize>) {
         self.told.note(ended);
         self.at = at;

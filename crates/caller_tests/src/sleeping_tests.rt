@@ -152,6 +152,10 @@ struct Listener<'a> {
 }
 
 impl<'a> Observer for Listener<'a> {
+    ghost heard = { λ _. tt };
+
+    ghost hears = { λ ended at heard. heard };
+
     fn refused(&mut self, ended: Ended, _at: Option<usize>) {
         if ended == Ended::Fenced {
             count(&self.counts.fenced, 1);

@@ -8,8 +8,6 @@ ghost use Rattle.mail_jobs.specs.Days.{IsDay};
 
 use mail_jobs::clerks::{Clerks, MESSAGES, Share};
 use mail_jobs::day::{MAILBOX, each_came_once};
-use mailbox::laws::messages_come_in_order;
-use nekchhaul::queue::queues_are_apart;
 use nekchhaul::{ALGORITHMS, Alg, ClosedMemory, Evidence, NewError, sizes, with_memory};
 use std::alloc::Global;
 use std::process::ExitCode;
@@ -31,9 +29,6 @@ fn run<R: Threads + Wait + Sync>(
     ensures day { IfOk result (λ came.
         IsDay came.words.items came.answers.items came.past.closed.history) }
 {
-    // a memory of zeros has two empty queues, and at each moment an urgent message goes before the others
-    queues_are_apart();
-    messages_come_in_order();
     with_memory(rt, alloc, sizes(20, 4), alg, MAILBOX, &Clerks { alloc })
 }
 

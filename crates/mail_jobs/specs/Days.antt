@@ -17,7 +17,7 @@ done_by n share = map (deed_of n) share.messages.items
 
 -- 300 messages at most; a producer's are the first of its own
 abbrev pub IsOwn : ℕ → Share → Type 0
-IsOwn n share = (length share.messages.items ≤ 300) × (n < 2 → share.messages.items ≡ map (λ i. n * 300 + i) (range_with_len 0 (length share.messages.items)))
+IsOwn n share = (length share.messages.items ≤ 300) × (n < 2 → share.messages.items ≡ range_with_len (n * 300) (length share.messages.items))
 
 abbrev pub TellsIn : Mailbox → ℕ → ℕ → Share → Known → Known → Type 0
 TellsIn mailbox words n share before after = HasDone (Did mailbox words) (done_by n share) before.made after.made × IsOwn n share

@@ -4,7 +4,6 @@ ghost use Rattle.tx_jobs.specs.Deeds.{HasDone};
 ghost use Rattle.tx_jobs.specs.Gathered.{listed};
 ghost use Rattle.mailbox.specs.Mail.{Fits, Did, Posted, Received};
 
-use mailbox::laws::messages_come_in_order;
 use mailbox::mail::{Mailbox, Post, Take};
 use std::alloc::Global;
 use std::sync::Wait;
@@ -87,7 +86,6 @@ fn post<R: Wait, C: Calls<R, Mailbox>>(caller: &mut C, alloc: Global, message: u
         (map (λ posted. Posted (posted % 3 == 0) posted) (listed result))
         (C.known caller.old).made (C.known caller.new).made }
 {
-    messages_come_in_order();
     let part = Post {
         urgent: message % 3 == 0,
         message,
@@ -112,7 +110,6 @@ fn receive<R: Wait, C: Calls<R, Mailbox>>(caller: &mut C, alloc: Global) -> Opti
     ensures received { HasDone (Did (C.seat caller.old).rule (C.seat caller.old).words)
         (map Received (listed result)) (C.known caller.old).made (C.known caller.new).made }
 {
-    messages_come_in_order();
     let part = OrElse {
         first: Take { urgent: true },
         second: Take { urgent: false },

@@ -7,7 +7,6 @@ ghost use Rattle.mail_jobs.specs.Days.{IsDay, IsThrough};
 use crate::clerks::{EACH, Share};
 use mailbox::mail::Mailbox;
 use tx_jobs::closed::ClosedMemory;
-use tx_queue::laws::contents_change;
 
 /// Two queues with eight cells each, in 20 words.
 pub const MAILBOX: Mailbox = Mailbox { cells: 8 };
@@ -24,11 +23,11 @@ pub fn each_came_once<P>(came: &ClosedMemory<Share, P>) -> bool
         (day : IsDay came.now.words.items came.now.answers.items history) (message : ℕ)
         → message < 600 → sum_by (receives message) day.order.deeds ≡ 1 }
 {
-    // a queue's count is the length of what waits there
-    contents_change();
     let each = EACH as usize;
     if came.answers[0].messages.len() != each || came.answers[1].messages.len() != each {
         return false;
     }
-    came.words[1] == 0 && came.words[11] == 0
+    let urgent = MAILBOX.queue(true).len_in(&came.words);
+    let others = MAILBOX.queue(false).len_in(&came.words);
+    (urgent, others) == (0, 0)
 }

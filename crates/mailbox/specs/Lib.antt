@@ -1,2 +1,2 @@
 pub mod Mail
-pub mod Orders
+pub mod MailLaws

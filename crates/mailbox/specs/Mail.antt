@@ -1,10 +1,13 @@
 -- The mailbox in a memory, what its parts do to it, and what a transaction that was done did, as a deed.
-use Rattle.std.specs.Prelude.{ℕ, ◌≡◌, ◌<◌, ◌≤◌, ◌+◌, ◌^◌, ◌⊎◌, ◌==◌, Bool, true, false, not, if◌then◌else◌, List, [], ◌∷◌, ◌++◌, length, sum_by, Option, Some, None}
-use Rattle.tx_jobs.specs.Jobs.{Log, IsDeed}
+use Rattle.std.specs.Prelude.{ℕ, ◌≡◌, ◌<◌, ◌≤◌, ◌+◌, ◌^◌, ◌⊎◌, ◌==◌, Bool, true, false, not, if◌then◌else◌, List, [], ◌∷◌, ◌++◌, Option, Some, None}
+use Rattle.tx_jobs.specs.Jobs.{Log, IsDeed, times}
+use Rattle.tx_parts.specs.Laying.{EitherTells}
+use Rattle.tx_parts.specs.ToldLaws.{Told}
 use Rattle.tx_queue.specs.declared.queue.Put.{Put}
 use Rattle.tx_queue.specs.declared.queue.Put.TheVariants.{Added, NoRoom}
 use Rattle.tx_queue.specs.declared.queue.Queue.{Queue}
 use Rattle.tx_queue.specs.Queues.{IsQueue, contents}
+use Rattle.tx_queue.specs.Statements.{Puts, Gets}
 use Rattle.mailbox.specs.declared.mail.Mailbox.{Mailbox}
 
 -- the urgent messages lie first, and the others after them
@@ -23,26 +26,31 @@ IsMailbox mailbox m = (urgent : Bool) → IsQueue (queue_of mailbox urgent) m
 abbrev pub mail_in : Mailbox → List ℕ → Bool → List ℕ
 mail_in mailbox m urgent = contents (queue_of mailbox urgent) m
 
--- the message joined those of its kind, or was the first of them and left; those of the other kind are as they were
-abbrev pub Joins : Bool → ℕ → (Bool → List ℕ) → (Bool → List ℕ) → Type 0
-Joins urgent message a b = (b urgent ≡ a urgent ++ message ∷ []) × (b (not urgent) ≡ a (not urgent))
-
-abbrev pub Leaves : Bool → ℕ → (Bool → List ℕ) → (Bool → List ℕ) → Type 0
-Leaves urgent message a b = (a urgent ≡ message ∷ b urgent) × (b (not urgent) ≡ a (not urgent))
-
--- whether there was room
-abbrev pub done_by : Put → Option (Unit {0})
-done_by Added = Some tt
-done_by NoRoom = None
+-- the messages of the other kind are as they were
+abbrev pub Spares : Bool → (Bool → List ℕ) → (Bool → List ℕ) → Type 0
+Spares urgent a b = b (not urgent) ≡ a (not urgent)
 
 -- from the memory m to n a message was posted, or there was no room; the first one was taken, or there was none
-abbrev pub Posts : Mailbox → Bool → ℕ → Option (Unit {0}) → List ℕ → List ℕ → Type 0
-Posts mailbox urgent message (Some done) m n = Joins urgent message (mail_in mailbox m) (mail_in mailbox n)
-Posts mailbox urgent message None m n = mailbox.cells ≤ length (mail_in mailbox m urgent)
+abbrev pub Posts : Mailbox → Bool → ℕ → Put → List ℕ → List ℕ → Type 0
+Posts mailbox urgent message put m n = Puts (queue_of mailbox urgent) message put m n × Spares urgent (mail_in mailbox m) (mail_in mailbox n)
 
 abbrev pub Takes : Mailbox → Bool → Option ℕ → List ℕ → List ℕ → Type 0
-Takes mailbox urgent (Some message) m n = Leaves urgent message (mail_in mailbox m) (mail_in mailbox n)
-Takes mailbox urgent None m n = mail_in mailbox m urgent ≡ []
+Takes mailbox urgent came m n = Gets (queue_of mailbox urgent) came m n × Spares urgent (mail_in mailbox m) (mail_in mailbox n)
+
+-- whether there was room
+abbrev pub put_of : Option (Unit {0}) → Put
+put_of (Some done) = Added
+put_of None = NoRoom
+
+-- what a post tells, and what a take of an urgent message, or else of another
+abbrev pub PostTells : Mailbox → ℕ → Bool → ℕ → Option (Unit {0}) → Log → Log → Type 0
+PostTells mailbox words urgent message came = Told (IsMailbox mailbox) words (Posts mailbox urgent message (put_of came))
+
+abbrev pub TakeTells : Mailbox → ℕ → Bool → Option ℕ → Log → Log → Type 0
+TakeTells mailbox words urgent came = Told (IsMailbox mailbox) words (Takes mailbox urgent came)
+
+abbrev pub ReceiveTells : Mailbox → ℕ → Option ℕ → Log → Log → Type 0
+ReceiveTells mailbox words = EitherTells (TakeTells mailbox words true) (TakeTells mailbox words false)
 
 -- A DEED: this message was posted, urgent or not, or received: it was the first urgent one, or there was none and it was the first of the others
 pub data Deed : Type 0 where
@@ -50,16 +58,13 @@ pub data Deed : Type 0 where
   Received : ℕ → Deed
 
 abbrev pub Moves : Deed → (Bool → List ℕ) → (Bool → List ℕ) → Type 0
-Moves (Posted urgent message) a b = Joins urgent message a b
-Moves (Received message) a b = Leaves true message a b ⊎ ((a true ≡ []) × Leaves false message a b)
+Moves (Posted urgent message) a b = (b urgent ≡ a urgent ++ message ∷ []) × Spares urgent a b
+Moves (Received message) a b = ((a true ≡ message ∷ b true) × Spares true a b) ⊎ ((a true ≡ []) × (a false ≡ message ∷ b false) × Spares false a b)
 
 abbrev pub Did : Mailbox → ℕ → Deed → Log → Type 0
 Did mailbox words = IsDeed (IsMailbox mailbox) words (mail_in mailbox) Moves
 
--- how often a message stands in a list, waits, is posted by a deed, and is received by one
-abbrev pub times : ℕ → List ℕ → ℕ
-times message xs = sum_by (λ (x : ℕ). if x == message then 1 else 0) xs
-
+-- how often a message waits, is posted by a deed, and is received by one
 abbrev pub waiting : ℕ → (Bool → List ℕ) → ℕ
 waiting message mail = times message (mail true) + times message (mail false)
 

@@ -1,12 +1,11 @@
 //! The mailbox: its rule, and its parts.
 ghost use Rattle.std.specs.Prelude.{◌≡◌};
-ghost use Rattle.mailbox.specs.Mail.{done_by};
+ghost use Rattle.mailbox.specs.Mail.{put_of};
 
 use stm_model::rule::MemRule;
 use stm_model::stop::Stop;
 use tx_parts::nesting::Nesting;
 use tx_parts::part::Part;
-use tx_queue::laws::{contents_change, queues_are_apart};
 use tx_queue::queue::{Put, Queue};
 
 /// A mailbox of two queues with so many cells each: the urgent messages, and after their words the others.
@@ -48,8 +47,7 @@ pub struct Post {
 }
 
 impl Part<Mailbox> for Post {
-    ghost use Rattle.tx_parts.specs.ToldLaws.{Told};
-    ghost use Rattle.mailbox.specs.Mail.{IsMailbox, Fits, Posts};
+    ghost use Rattle.mailbox.specs.Mail.{Fits, PostTells};
 
     type Output = ();
 
@@ -57,11 +55,9 @@ impl Part<Mailbox> for Post {
 
     ghost depth = { λ it. 0 };
 
-    ghost postcondition = { λ it mailbox words came before after. Told (IsMailbox mailbox) words (Posts mailbox it.urgent it.message came) before after };
+    ghost postcondition = { λ it mailbox words came before after. PostTells mailbox words it.urgent it.message came before after };
 
     fn run<N: Nesting>(&self, mailbox: &Mailbox, memory: &mut N) -> Result<Option<()>, Stop> {
-        contents_change();
-        queues_are_apart();
         let put = mailbox.queue(self.urgent).put(memory, self.message)?;
         Ok(done(put))
     }
@@ -69,7 +65,7 @@ impl Part<Mailbox> for Post {
 
 /// Whether there was room.
 fn done(put: Put) -> Option<()>
-    ensures { result ≡ done_by put }
+    ensures { put_of result ≡ put }
 {
     match put {
         Put::Added => Some(()),
@@ -84,8 +80,7 @@ pub struct Take {
 }
 
 impl Part<Mailbox> for Take {
-    ghost use Rattle.tx_parts.specs.ToldLaws.{Told};
-    ghost use Rattle.mailbox.specs.Mail.{IsMailbox, Fits, Takes};
+    ghost use Rattle.mailbox.specs.Mail.{Fits, TakeTells};
 
     type Output = u32;
 
@@ -93,11 +88,9 @@ impl Part<Mailbox> for Take {
 
     ghost depth = { λ it. 0 };
 
-    ghost postcondition = { λ it mailbox words came before after. Told (IsMailbox mailbox) words (Takes mailbox it.urgent came) before after };
+    ghost postcondition = { λ it mailbox words came before after. TakeTells mailbox words it.urgent came before after };
 
     fn run<N: Nesting>(&self, mailbox: &Mailbox, memory: &mut N) -> Result<Option<u32>, Stop> {
-        contents_change();
-        queues_are_apart();
         let message = mailbox.queue(self.urgent).get(memory)?;
         Ok(message)
     }

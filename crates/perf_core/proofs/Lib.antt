@@ -1,2 +1,3 @@
 mod CallerLaws
 pub mod EndLaws
+mod RowLaws

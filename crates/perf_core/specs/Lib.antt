@@ -1,4 +1,6 @@
+pub mod Rows
 pub mod Jobs
+pub mod Plans
 pub mod WorkRegions
 pub mod Callers
 pub mod Verdicts

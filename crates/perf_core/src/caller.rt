@@ -6,7 +6,7 @@ ghost use Rattle.stm_tx.specs.Descs.{known};
 ghost use Rattle.perf_core.specs.WorkRegions.{FitsWorkRegion};
 
 use crate::conflicts::Conflicts;
-use crate::drawing::{Bank, Count, Draw, Hash, List, Total};
+use crate::drawing::{Bank, Count, Draw, Hash, List, Scan, Total};
 use crate::looks::Looks;
 use crate::plan::{Plan, Workload};
 use crate::work_counts::WorkCounts;
@@ -93,6 +93,7 @@ impl Caller {
             Workload::List => self.commit_drawn::<R, List>(rt, stm),
             Workload::Count => self.commit_drawn::<R, Count>(rt, stm),
             Workload::Sum => self.commit_drawn::<R, Total>(rt, stm),
+            Workload::Scan => self.commit_drawn::<R, Scan>(rt, stm),
         }
     }
 
@@ -105,9 +106,9 @@ impl Caller {
         ensures idle { IsIdle (known self.new.desc) }
     {
         for _ in 0..self.share {
-            match D::commit(&mut self.draws, rt, &mut self.desc, stm, &mut self.pace) {
-                Some(came) => self.work_counts.note(came),
-                None => return,
+            let (draws, pace, counts) = (&mut self.draws, &mut self.pace, &mut self.work_counts);
+            if D::commit(draws, rt, &mut self.desc, stm, pace, counts).is_none() {
+                return;
             }
         }
     }

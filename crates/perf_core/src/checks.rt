@@ -1,9 +1,11 @@
 //! Whether a memory is what its transactions leave.
-ghost use Rattle.std.specs.Prelude.{◌≡◌, ◌==◌, ◌<◌, ◌≤◌, ◌*◌, true, take, get_or};
+ghost use Rattle.std.specs.Prelude.{◌≡◌, ◌==◌, ◌<◌, ◌≤◌, ◌*◌, true, length, take, get_or, IfSome};
 ghost use Rattle.std.specs.List.{sum};
-ghost use Rattle.perf_core.specs.Verdicts.{IsLeft};
+ghost use Rattle.perf_core.specs.Rows.{row_count, seen_by, seen_in};
+ghost use Rattle.perf_core.specs.Verdicts.{HasAllScans, IsLeft};
 
 use crate::plan::{ACCOUNTS, BALANCE, CELLS, KEYS, Plan, Workload};
+use crate::rows::{Row, row_at, row_count};
 use crate::work_counts::WorkCounts;
 
 /// Whether the words are what a run's transactions leave, by what they came to, and each of them committed.
@@ -18,6 +20,7 @@ pub fn is_right(words: &[u64], plan: &Plan, commits: u64, work_counts: &WorkCoun
         Workload::Hash => has_keys(words, 16, work_counts),
         Workload::List => has_keys(words, 1, work_counts),
         Workload::Count => first(words) == commits,
+        Workload::Scan => has_all_scans(words, commits, work_counts),
     }
 }
 
@@ -25,11 +28,52 @@ pub fn is_right(words: &[u64], plan: &Plan, commits: u64, work_counts: &WorkCoun
 fn has_all_money(words: &[u64]) -> bool
     ensures { result ≡ (sum (take ACCOUNTS words.now) == ACCOUNTS * BALANCE) }
 {
+    let accounts = &words[..ACCOUNTS.min(words.len())];
+    sum_of(accounts) == ACCOUNTS as u128 * u128::from(BALANCE)
+}
+
+/// Whether each scan added 1, and they saw together what scans see that take effect one after the other.
+fn has_all_scans(words: &[u64], commits: u64, work_counts: &WorkCounts) -> bool
+    ensures { result ≡ true → HasAllScans words.now commits work_counts.now }
+{
+    sum_of(words) == u128::from(commits)
+        && seen_in_rows(words) == Some(u128::from(work_counts.seen))
+}
+
+/// What scans see together that leave this memory, one after the other; None where a row has 2^32 or more, as no scans
+/// leave it.
+fn seen_in_rows(words: &[u64]) -> Option<u128>
+    ensures { IfSome result (λ seen. seen ≡ seen_in (row_count (length words.now)) words.now) }
+{
+    if words.is_empty() {
+        return None;
+    }
+    let mut seen: u128 = 0;
+    for i in 0..row_count(words.len()) {
+        let Row { start, end } = row_at(words.len(), i);
+        let total = u32::try_from(sum_of(&words[start..end])).ok()?;
+        seen += u128::from(seen_by(total));
+    }
+    Some(seen)
+}
+
+/// What so many scans of a row see together: half of their number by the one before it.
+fn seen_by(scans: u32) -> u64
+    ensures { result ≡ seen_by scans }
+{
+    let scans = u64::from(scans);
+    scans * scans.saturating_sub(1) / 2
+}
+
+/// The sum of these words.
+fn sum_of(words: &[u64]) -> u128
+    ensures { result ≡ sum words.now }
+{
     let mut sum: u128 = 0;
-    for i in 0..ACCOUNTS.min(words.len()) {
+    for i in 0..words.len() {
         sum += u128::from(words[i]);
     }
-    sum == ACCOUNTS as u128 * u128::from(BALANCE)
+    sum
 }
 
 /// The first word.

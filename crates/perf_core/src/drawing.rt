@@ -6,9 +6,10 @@ ghost use Rattle.stm_tx.specs.Descs.{known};
 ghost use Rattle.perf_core.specs.WorkRegions.{FitsWorkRegion};
 
 use crate::conflicts::Conflicts;
-use crate::jobs::{Add, Contains, Insert, Move, Remove, Sum};
+use crate::jobs::{Add, Contains, Insert, Move, Remove, ScanRow, Sum};
 use crate::plan::{ACCOUNTS, KEYS};
-use crate::work_counts::Came;
+use crate::rows::{row_at, row_count, row_length};
+use crate::work_counts::{Came, WorkCounts};
 use crate::work_region::WorkRegion;
 use rand_core::utils::NextWord;
 use rand_pcg::Pcg32;
@@ -20,14 +21,15 @@ use tx_atomic::pace::Pacing;
 /// The transactions of a workload. Code that is generic in that asks once which workload it is, and not for each transaction;
 /// and each kind of transaction is compiled on its own.
 pub trait Draw {
-    /// Draws a transaction, and commits it. None where the clock was found at its limit.
+    /// Draws a transaction, commits it, and counts what it came to. None where the clock was found at its limit.
     fn commit<R: Wait>(
         draws: &mut Pcg32,
         rt: &R,
         desc: &mut Desc<WorkRegion>,
         stm: &Stm<WorkRegion>,
         pace: &mut Pacing<Conflicts>,
-    ) -> Option<Came>
+        counts: &mut WorkCounts,
+    ) -> Option<()>
         requires stm { IsOf desc.old stm.now }
         requires idle { IsIdle (known desc.old) }
         requires work_region { FitsWorkRegion stm.now }
@@ -50,6 +52,9 @@ pub struct Count;
 /// Each is the sum of all accounts.
 pub struct Total;
 
+/// Each reads a row, and adds 1 to one of its words.
+pub struct Scan;
+
 impl Draw for Bank {
     #[inline(always)]
     fn commit<R: Wait>(
@@ -58,19 +63,19 @@ impl Draw for Bank {
         desc: &mut Desc<WorkRegion>,
         stm: &Stm<WorkRegion>,
         pace: &mut Pacing<Conflicts>,
-    ) -> Option<Came> {
+        counts: &mut WorkCounts,
+    ) -> Option<()> {
         // one word says all: the lowest 8 bits what, 12 how much, and 10 and 10 above them from where and where to
         let word = draws.next_word();
         if word % 256 == 255 {
-            return sum_all(rt, desc, stm, pace);
+            return sum_all(rt, desc, stm, pace, counts);
         }
         let job = Move {
             from: word / 4_096 % ACCOUNTS as u32,
             to: word / 4_194_304 % ACCOUNTS as u32,
             amount: word % 4_096 * 100 / 4_096,
         };
-        atomically(rt, desc, stm, pace, &job)?;
-        Some(Came::Done)
+        atomically(rt, desc, stm, pace, &job)
     }
 }
 
@@ -82,8 +87,9 @@ impl Draw for Hash {
         desc: &mut Desc<WorkRegion>,
         stm: &Stm<WorkRegion>,
         pace: &mut Pacing<Conflicts>,
-    ) -> Option<Came> {
-        on_set(draws, 5, rt, desc, stm, pace)
+        counts: &mut WorkCounts,
+    ) -> Option<()> {
+        on_set(draws, 5, rt, desc, stm, pace, counts)
     }
 }
 
@@ -95,8 +101,9 @@ impl Draw for List {
         desc: &mut Desc<WorkRegion>,
         stm: &Stm<WorkRegion>,
         pace: &mut Pacing<Conflicts>,
-    ) -> Option<Came> {
-        on_set(draws, 10, rt, desc, stm, pace)
+        counts: &mut WorkCounts,
+    ) -> Option<()> {
+        on_set(draws, 10, rt, desc, stm, pace, counts)
     }
 }
 
@@ -108,11 +115,11 @@ impl Draw for Count {
         desc: &mut Desc<WorkRegion>,
         stm: &Stm<WorkRegion>,
         pace: &mut Pacing<Conflicts>,
-    ) -> Option<Came> {
+        _counts: &mut WorkCounts,
+    ) -> Option<()> {
         // a word is drawn for it as for each other
         let _ = draws.next_word();
-        atomically(rt, desc, stm, pace, &Add { account: 0 })?;
-        Some(Came::Done)
+        atomically(rt, desc, stm, pace, &Add { account: 0 })
     }
 }
 
@@ -124,9 +131,29 @@ impl Draw for Total {
         desc: &mut Desc<WorkRegion>,
         stm: &Stm<WorkRegion>,
         pace: &mut Pacing<Conflicts>,
-    ) -> Option<Came> {
+        counts: &mut WorkCounts,
+    ) -> Option<()> {
         let _ = draws.next_word();
-        sum_all(rt, desc, stm, pace)
+        sum_all(rt, desc, stm, pace, counts)
+    }
+}
+
+impl Draw for Scan {
+    #[inline(always)]
+    fn commit<R: Wait>(
+        draws: &mut Pcg32,
+        rt: &R,
+        desc: &mut Desc<WorkRegion>,
+        stm: &Stm<WorkRegion>,
+        pace: &mut Pacing<Conflicts>,
+        counts: &mut WorkCounts,
+    ) -> Option<()> {
+        let words = stm.config.words;
+        let row = row_at(words, draws.next_word() as usize % row_count(words));
+        let at = row.start + draws.next_word() as usize % row_length(words);
+        let sum = atomically(rt, desc, stm, pace, &ScanRow { row, at })?;
+        counts.see(sum);
+        Some(())
     }
 }
 
@@ -135,7 +162,8 @@ fn sum_all<R: Wait>(
     desc: &mut Desc<WorkRegion>,
     stm: &Stm<WorkRegion>,
     pace: &mut Pacing<Conflicts>,
-) -> Option<Came>
+    counts: &mut WorkCounts,
+) -> Option<()>
     requires stm { IsOf desc.old stm.now }
     requires idle { IsIdle (known desc.old) }
     requires work_region { FitsWorkRegion stm.now }
@@ -145,11 +173,10 @@ fn sum_all<R: Wait>(
     let job = Sum {
         accounts: ACCOUNTS as u32,
     };
-    if atomically(rt, desc, stm, pace, &job)? {
-        Some(Came::Done)
-    } else {
-        Some(Came::Wrong)
+    if !atomically(rt, desc, stm, pace, &job)? {
+        counts.note(Came::Wrong);
     }
+    Some(())
 }
 
 /// An insertion or a removal of a key in `each` of a hundred cases, else a lookup.
@@ -161,7 +188,8 @@ fn on_set<R: Wait>(
     desc: &mut Desc<WorkRegion>,
     stm: &Stm<WorkRegion>,
     pace: &mut Pacing<Conflicts>,
-) -> Option<Came>
+    counts: &mut WorkCounts,
+) -> Option<()>
     requires stm { IsOf desc.old stm.now }
     requires idle { IsIdle (known desc.old) }
     requires work_region { FitsWorkRegion stm.now }
@@ -171,11 +199,11 @@ fn on_set<R: Wait>(
     let number = draws.next_word() % 100;
     let key = draws.next_word() % KEYS;
     if number < each {
-        atomically(rt, desc, stm, pace, &Insert { key })
+        counts.note(atomically(rt, desc, stm, pace, &Insert { key })?);
     } else if number / 2 < each {
-        atomically(rt, desc, stm, pace, &Remove { key })
+        counts.note(atomically(rt, desc, stm, pace, &Remove { key })?);
     } else {
         atomically(rt, desc, stm, pace, &Contains { key })?;
-        Some(Came::Done)
     }
+    Some(())
 }

@@ -34,7 +34,7 @@ pub fn fill<R: Wait>(
     match workload {
         Workload::Bank | Workload::Sum => fill_accounts(rt, desc, stm, &mut pace),
         Workload::Hash | Workload::List => fill_set(rt, desc, stm, &mut pace),
-        Workload::Count => {}
+        Workload::Count | Workload::Scan => {}
     }
 }
 

@@ -7,6 +7,7 @@ ghost use Rattle.tx_regions.specs.Regions.{WellFormed};
 ghost use Rattle.perf_core.specs.Jobs.{RegionFits};
 
 use crate::plan::BALANCE;
+use crate::rows::Row;
 use crate::work_counts::Came;
 use crate::work_region::WorkRegion;
 use stm_model::access::Access;
@@ -14,6 +15,7 @@ use stm_model::stop::Stop;
 use tx_atomic::transaction::Transaction;
 use tx_effects::insert::Insert as Inserted;
 use tx_regions::region::Region;
+use tx_transaction::words::{read_sum, read_words, write_words};
 
 /// The value goes to the account.
 #[derive(Clone, Copy, Drop, Debug, PartialEq, Eq)]
@@ -40,6 +42,13 @@ pub struct Sum {
 #[derive(Clone, Copy, Drop, Debug, PartialEq, Eq)]
 pub struct Add {
     pub account: u32,
+}
+
+/// The sum of a row's words, modulo 2^64; then the word `at` of it gains 1.
+#[derive(Clone, Copy, Drop, Debug, PartialEq, Eq)]
+pub struct ScanRow {
+    pub row: Row,
+    pub at: usize,
 }
 
 /// Whether the set has the key.
@@ -184,6 +193,28 @@ fn add_one<A: Access>(memory: &mut A, account: usize) -> Result<(), Stop>
 {
     let found = memory.read(account)?;
     memory.write(account, found.wrapping_add(1))
+}
+
+impl Transaction<WorkRegion> for ScanRow {
+    ghost use Rattle.perf_core.specs.Jobs.{IsInRow, IsScanned};
+
+    type Output = u64;
+
+    ghost precondition = { λ job work_region words. IsInRow job words };
+
+    ghost postcondition = { λ job work_region words sum log. IsScanned work_region.region job words sum log };
+
+    fn run<A: Access>(&self, work_region: &WorkRegion, memory: &mut A) -> Result<u64, Stop> {
+        match work_region.region {
+            Region::Counter(_) => {
+                let sum = read_sum(memory, self.row.start..self.row.end)?;
+                let [found] = read_words(memory, [self.at])?;
+                write_words(memory, [(self.at, found.wrapping_add(1))])?;
+                Ok(sum)
+            }
+            _ => Ok(0),
+        }
+    }
 }
 
 impl Transaction<WorkRegion> for Contains {

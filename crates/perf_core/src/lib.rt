@@ -1,5 +1,5 @@
-//! Transactions by the hundred thousand, to be timed from outside: four workloads over one memory, on threads
-//! under one algorithm, and a check of the memory that they leave.
+//! Transactions by the hundred thousand, to be timed from outside: six workloads over one memory, on threads under one
+//! algorithm, and a check of the memory that they leave.
 #![tactic(auto)]
 
 pub mod caller;
@@ -15,6 +15,7 @@ pub mod opening;
 pub mod plan;
 pub mod program;
 pub mod report;
+pub mod rows;
 pub mod run;
 pub mod work_counts;
 pub mod work_region;

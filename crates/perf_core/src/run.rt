@@ -1,9 +1,10 @@
 //! A run, from the opening of its memory to the check of its words.
-ghost use Rattle.std.specs.Prelude.{◌≡◌, ◌≤◌, ◌<◌, ℕ, [], length, vec_len, vec_capacity, slice_index_or, IfOk, All};
+ghost use Rattle.std.specs.Prelude.{◌≡◌, ◌≤◌, ◌<◌, ℕ, [], length, vec_len, vec_capacity, slice_index_or, IfOk, IfErr, All};
 ghost use Rattle.crossbeam_utils.specs.declared.cache_padded.CachePadded.{CachePadded};
 ghost use Rattle.tx_atomic.specs.Callers.{IsReady, IsThrough};
 ghost use Rattle.perf_core.specs.declared.caller.Caller.{Caller};
 ghost use Rattle.perf_core.specs.Callers.{desc_in, descs_in};
+ghost use Rattle.perf_core.specs.Plans.{IsOfMemory, IsPlan};
 ghost use Rattle.perf_core.specs.Verdicts.{IsTrue};
 ghost use Rattle.perf_core.specs.WorkRegions.{FitsWorkRegion};
 
@@ -25,6 +26,9 @@ use std::time::{Clock, Instant};
 use stm_tx::{Desc, Memory, NewError, Stm, close};
 use tx_atomic::tally::Tally;
 
+/// How far apart the seeds of each 32 callers are, 2^56.
+const FAR: u64 = 72_057_594_037_927_936;
+
 /// Runs a plan.
 ///
 /// # Errors
@@ -34,12 +38,14 @@ pub fn run<R: Threads + Wait + Sync + Clock>(
     alloc: Global,
     plan: &Plan,
 ) -> Result<Report, NewError>
+    requires { IsPlan plan.now }
     ensures plan { IfOk result (λ r. r.plan ≡ plan.now) }
     ensures is { IfOk result IsTrue }
+    ensures refused { IfErr result IsOfMemory }
 {
     let (stm, descs) = open(rt, alloc, plan)?;
     let room = Vec::with_capacity(alloc, descs.len())?;
-    let none_met = Conflicts::new(alloc, plan.conflicts)?;
+    let none_met = Conflicts::new(alloc, counted(plan))?;
     let mut callers = hire(alloc, descs, plan)?;
     let start = Instant::now(rt).ok();
     work_all(rt, callers.as_mut_slice(), &stm, plan);
@@ -86,13 +92,25 @@ fn hire(
         let number = callers.len() as u64;
         let extra = u32::from(number < u64::from(plan.count % threads));
         let share = (plan.count / threads).saturating_add(extra);
-        let seed = plan.seed.wrapping_mul(32).wrapping_add(number);
-        let conflicts = Conflicts::new(alloc, plan.conflicts)?;
+        let conflicts = Conflicts::new(alloc, counted(plan))?;
         let switches = if number == 0 { plan.switches } else { 0 };
-        let caller = Caller::new(desc, share, switches, seed, conflicts);
+        let caller = Caller::new(desc, share, switches, seed_of(plan.seed, number), conflicts);
         callers.push_reserved(CachePadded::new(caller));
     }
     Ok(callers)
+}
+
+/// Of how many words conflicts are to be counted.
+fn counted(plan: &Plan) -> usize {
+    if plan.conflicts { plan.words } else { 0 }
+}
+
+/// The seed of a caller's drawing. 32 callers share what a run's seed is; those after them are as the first 32 of a seed
+/// far off, so that runs of neighbouring seeds have no caller in common.
+fn seed_of(seed: u64, number: u64) -> u64 {
+    seed.wrapping_add((number / 32).wrapping_mul(FAR))
+        .wrapping_mul(32)
+        .wrapping_add(number % 32)
 }
 
 /// Has each caller do its work, on a thread of its own.

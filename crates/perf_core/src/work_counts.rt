@@ -18,6 +18,8 @@ pub struct WorkCounts {
     pub removed: u64,
     /// Sums of all accounts that were not what the accounts began with.
     pub wrong: u64,
+    /// The sums that scans saw, together.
+    pub seen: u64,
 }
 
 impl WorkCounts {
@@ -26,6 +28,7 @@ impl WorkCounts {
             inserted: 0,
             removed: 0,
             wrong: 0,
+            seen: 0,
         }
     }
 
@@ -48,12 +51,18 @@ impl WorkCounts {
         }
     }
 
+    /// Counts what a scan saw.
+    pub fn see(&mut self, sum: u64) {
+        self.seen = self.seen.saturating_add(sum);
+    }
+
     /// The counts of both.
     pub fn with(&self, other: &WorkCounts) -> WorkCounts {
         WorkCounts {
             inserted: self.inserted.saturating_add(other.inserted),
             removed: self.removed.saturating_add(other.removed),
             wrong: self.wrong.saturating_add(other.wrong),
+            seen: self.seen.saturating_add(other.seen),
         }
     }
 }

@@ -1,5 +1,5 @@
 //! What a memory is for: one region, and the rule that it is well formed.
-ghost use Rattle.std.specs.Prelude.{replicate};
+ghost use Rattle.std.specs.Prelude.{◌≤◌, replicate};
 ghost use Rattle.tx_regions.specs.Regions.{WellFormed};
 ghost use Rattle.perf_core.specs.Jobs.{RegionFits};
 
@@ -10,9 +10,6 @@ use tx_cells::hash::Hash;
 use tx_cells::laws::chains_are_apart;
 use tx_cells::list::List;
 use tx_regions::region::Region;
-
-/// The words of each memory: a hash set of 512 cells takes the most.
-pub const WORDS: usize = 1_040;
 
 /// The one region that a memory has; accounts and a count are a counter's stripes. As a rule on memory: it is
 /// well formed.
@@ -28,10 +25,11 @@ impl MemRule for WorkRegion {
 }
 
 impl WorkRegion {
-    /// The region of a workload, from the word 0 on. A memory of zeros is well formed.
-    pub fn of(workload: Workload) -> WorkRegion
-        ensures fits { RegionFits result.region WORDS }
-        ensures opening { WellFormed result.region (replicate WORDS 0) }
+    /// The region of a workload in a memory of so many words, from the word 0 on. A memory of zeros is well formed.
+    pub fn of(workload: Workload, words: usize) -> WorkRegion
+        requires { 1040 ≤ words }
+        ensures fits { RegionFits result.region words }
+        ensures opening { WellFormed result.region (replicate words 0) }
     {
         chains_are_apart();
         let region = match workload {
@@ -40,6 +38,7 @@ impl WorkRegion {
             )),
             Workload::Hash => Region::Hash(Hash::new(0, CELLS)),
             Workload::List => Region::List(List::new(0, CELLS)),
+            Workload::Scan => Region::Counter(Counter::new(0, words)),
         };
         WorkRegion { region }
     }

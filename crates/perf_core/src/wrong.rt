@@ -1,13 +1,14 @@
 //! Which word of a command line is wrong, in a sentence.
-use crate::plan::WORKLOADS;
+use crate::plan::{WORDS, WORKLOADS};
 use std::alloc::{AllocError, Global};
 use stm_model::alg::ALGORITHMS;
+use stm_model::config::{MOST_CALLERS, MOST_LOG, MOST_WORDS};
 use stm_nearest::{put_nearest, put_word};
 use stm_profile::numbers::number;
 
 /// The numbers that follow the algorithm, with their ranges.
 const NUMBERS: [(&str, u64, u64); 3] = [
-    ("THREADS", 1, 32),
+    ("THREADS", 1, MOST_CALLERS as u64),
     ("COUNT", 1, u32::MAX as u64),
     ("SEED", 0, u64::MAX),
 ];
@@ -101,16 +102,23 @@ fn put_number(
     Ok(true)
 }
 
-/// Appends what is wrong with the words after the seed: `[READS] [switches N] [conflicts]`.
+/// Appends what is wrong with the words after the seed: `[READS] [words N] [switches N] [conflicts]`.
 fn put_rest(said: &mut String, words: &[&str]) -> Result<(), AllocError> {
     let mut at = 0usize;
     if let Some(word) = words.first() {
         if number(word).is_some() {
-            if put_number(said, "READS", Some(word), 1, 4_096)? {
+            if put_number(said, "READS", Some(word), 1, MOST_LOG as u64)? {
                 return Ok(());
             }
             at = 1;
         }
+    }
+    if words.get(at) == Some(&"words") {
+        let word = words.get(at + 1);
+        if put_number(said, "N", word, WORDS as u64, MOST_WORDS as u64)? {
+            return Ok(());
+        }
+        at += 2;
     }
     if words.get(at) == Some(&"switches") {
         if put_number(said, "N", words.get(at + 1), 1, u64::from(u32::MAX))? {
@@ -128,5 +136,7 @@ fn put_rest(said: &mut String, words: &[&str]) -> Result<(), AllocError> {
         Some(word) => put_word(said, word)?,
         None => said.push_str("the last word")?,
     }
-    said.push_str(" isn't used so; here stands `SEED [READS] [switches N] [conflicts] [--time]`")
+    said.push_str(
+        " isn't used so; here stands `SEED [READS] [words N] [switches N] [conflicts] [--time]`",
+    )
 }

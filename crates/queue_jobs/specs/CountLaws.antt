@@ -1,12 +1,12 @@
 -- What jobs come to, where each counts so much: over deeds, over hands, and over a plan.
-use Rattle.std.proofs.Common.{ℕ, zero, suc, ◌≡◌, ◌<◌, ◌≤◌, ◌+◌, ◌-◌, ◌*◌, ◌∙◌, List, [], ◌∷◌, ◌++◌, length, map, get_or, refl, ap, arith}
-use Rattle.std.specs.Prelude.{◌==◌, ◌&&◌, leb, ltb, if◌then◌else◌, sum_by}
+use Rattle.std.proofs.Common.{ℕ, zero, suc, ◌≡◌, ◌≤◌, ◌+◌, ◌-◌, ◌*◌, ◌∙◌, List, ◌++◌, map, refl, ap, arith}
+use Rattle.std.specs.Prelude.{sum_by}
 use Rattle.std.specs.List.{range_with_len}
 use Rattle.std.proofs.lemmas.Bool.Decides.{nat_tests}
-use Rattle.std.proofs.lemmas.List.Sums.{sum_by-append, sum_by-cons}
-use Rattle.tx_jobs.specs.Jobs.{over}
+use Rattle.std.proofs.lemmas.List.Sums.{sum_by-append, sum_by-cons, sum_by_push}
+use Rattle.tx_jobs.specs.Jobs.{over, sum-mapped, sum-nothing, times, times-range}
 use Rattle.queue_jobs.specs.declared.plan.Plan.{Plan}
-use Rattle.queue_jobs.specs.Days.{Deed, Given, Taken, Moves, times, quota, first_job}
+use Rattle.queue_jobs.specs.Days.{Deed, Given, Taken, Moves, quota, first_job}
 
 module _ (f : ℕ → ℕ) where
   -- what a deed brings to those that wait, and what it takes
@@ -19,29 +19,15 @@ module _ (f : ℕ → ℕ) where
   takes (Taken job) = f job
 
   pub moved : (d : Deed) (a b : List ℕ) → Moves d a b → sum_by f a + brings d ≡ takes d + sum_by f b
-  moved (Given x) a b is =
-      let all = ap (sum_by f) is ∙ sum_by-append f a (x ∷ []) in
-      let one = sum_by-cons f x [] in
-      let none : sum_by f [] ≡ 0 = refl in
-      omega (arith, all, one, none)
+  moved (Given x) a b is = let all = ap (sum_by f) is ∙ sum_by_push f a x in omega (arith, all)
   moved (Taken x) a b is = let all = ap (sum_by f) is ∙ sum_by-cons f x b in omega (arith, all)
 
   -- of jobs that were given, and others that were taken
-  taken-brings : (ts : List ℕ) → sum_by brings (map Taken ts) ≡ 0
-  taken-brings [] = refl
-  taken-brings (x ∷ ts) = let more = taken-brings ts in let all = sum_by-cons brings (Taken x) (map Taken ts) in omega (arith, more, all)
-
-  taken-takes : (ts : List ℕ) → sum_by takes (map Taken ts) ≡ sum_by f ts
-  taken-takes [] = refl
-  taken-takes (x ∷ ts) = let more = taken-takes ts in let all = sum_by-cons takes (Taken x) (map Taken ts) in let list = sum_by-cons f x ts in omega (arith, more, all, list)
-
   pub brought : (xs ts : List ℕ) → sum_by brings (map Given xs ++ map Taken ts) ≡ sum_by f xs
-  brought [] ts = taken-brings ts
-  brought (x ∷ xs) ts = let more = brought xs ts in let all = sum_by-cons brings (Given x) (map Given xs ++ map Taken ts) in let list = sum_by-cons f x xs in omega (arith, more, all, list)
+  brought xs ts = omega (arith, sum_by-append brings (map Given xs) (map Taken ts), sum-mapped brings Given xs, sum-mapped brings Taken ts, sum-nothing ts)
 
   pub took : (xs ts : List ℕ) → sum_by takes (map Given xs ++ map Taken ts) ≡ sum_by f ts
-  took [] ts = taken-takes ts
-  took (x ∷ xs) ts = let more = took xs ts in let all = sum_by-cons takes (Given x) (map Given xs ++ map Taken ts) in omega (arith, more, all)
+  took xs ts = omega (arith, sum_by-append takes (map Given xs) (map Taken ts), sum-mapped takes Given xs, sum-mapped takes Taken ts, sum-nothing xs)
 
   -- a range in two parts
   parts : (a n k : ℕ) → sum_by f (range_with_len a (n + k)) ≡ sum_by f (range_with_len a n) + sum_by f (range_with_len (a + n) k)
@@ -97,37 +83,6 @@ module _ (f : ℕ → ℕ) where
         let all = ap (λ (j : ℕ). over j owned) at in
         omega (arith, more, none, all)
 
--- SUMS over callers
-pub over-same : (k : ℕ) (f g : ℕ → ℕ) → ((n : ℕ) → n < k → f n ≡ g n) → over k f ≡ over k g
-over-same zero f g same = refl
-over-same (suc k) f g same = let here = same k (omega arith) in let more = over-same k f g (λ n lt. same n (omega (arith, lt))) in omega (arith, here, more)
-
-pub over-most : (k : ℕ) (f g : ℕ → ℕ) → ((n : ℕ) → n < k → f n ≤ g n) → over k f ≤ over k g
-over-most zero f g most = omega arith
-over-most (suc k) f g most = let here = most k (omega arith) in let more = over-most k f g (λ n lt. most n (omega (arith, lt))) in omega (arith, here, more)
-
-over-first : (k : ℕ) (f : ℕ → ℕ) → over (suc k) f ≡ f 0 + over k (λ n. f (suc n))
-over-first zero f = omega arith
-over-first (suc k) f = let more = over-first k f in omega (arith, more)
-
-pub over-list : {A : Type 0} (g : A → ℕ) (d : A) (xs : List A) → over (length xs) (λ n. g (get_or xs n d)) ≡ sum_by g xs
-over-list g d [] = refl
-over-list g d (x ∷ xs) =
-    let first = over-first (length xs) (λ n. g (get_or (x ∷ xs) n d)) in
-    let more = over-list g d xs in
-    let all = sum_by-cons g x xs in
-    omega (arith, first, more, all)
-
 -- a range has each number once at most
-abbrev hit : ℕ → ℕ → ℕ → ℕ
-hit x a n = if leb a x && ltb x (a + n) then 1 else 0
-
-hits : (x a n : ℕ) → times x (range_with_len a n) ≡ hit x a n
-hits x a zero = let none : times x [] ≡ 0 = refl in grind (arith, nat_tests, none)
-hits x a (suc n) =
-    let more = hits x (a + 1) n in
-    let all = sum_by-cons (λ (y : ℕ). if y == x then 1 else 0) a (range_with_len (a + 1) n) in
-    grind (arith, nat_tests, more, all)
-
 pub once-at-most : (x a n : ℕ) → times x (range_with_len a n) ≤ 1
-once-at-most x a n = let is = hits x a n in grind (arith, nat_tests, is)
+once-at-most x a n = let is = times-range x a n in grind (arith, nat_tests, is)

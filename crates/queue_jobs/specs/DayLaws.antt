@@ -6,11 +6,11 @@ use Rattle.std.proofs.lemmas.Bool.Decides.{nat_tests}
 use Rattle.tx_queue.specs.Queues.{IsQueue, contents, count, front, values_from}
 use Rattle.tx_queue.specs.Statements.{ZerosAreEmpty}
 use Rattle.tx_jobs.specs.declared.closed.ClosedMemory.{ClosedMemory}
-use Rattle.tx_jobs.specs.Jobs.{Alg, Config, Entry, Leads, over, InOneOrder, in-one-order, conserved, Came, Past}
+use Rattle.tx_jobs.specs.Jobs.{Alg, Config, Entry, Leads, over, InOneOrder, in-one-order, conserved, Came, Past, times, over-same, over-most, over-list}
 use Rattle.queue_jobs.specs.declared.hands.Hand.{Hand}
 use Rattle.queue_jobs.specs.declared.plan.Plan.{Plan}
-use Rattle.queue_jobs.specs.Days.{IsPlan, IsWhole, IsDay, EachTakenOnce, queue_of, quota, first_job, given_by, Deed, Given, Taken, Moves, Did, done_by, TellsIn, given, taken, left_in, sum_taken, times, times_taken}
-use Rattle.queue_jobs.specs.CountLaws.{brings, takes, moved, brought, took, shorter, all-jobs, over-same, over-most, over-list, once-at-most}
+use Rattle.queue_jobs.specs.Days.{IsPlan, IsWhole, IsDay, EachTakenOnce, queue_of, quota, first_job, given_by, Deed, Given, Taken, Moves, Did, done_by, TellsIn, given, taken, left_in, sum_taken, times_taken}
+use Rattle.queue_jobs.specs.CountLaws.{brings, takes, moved, brought, took, shorter, all-jobs, once-at-most}
 
 -- jobs are taken in the order in which they were given
 in-order : (ds : List Deed) (from to : List ℕ) → Leads Moves ds from to → from ++ given ds ≡ taken ds ++ to

@@ -1,10 +1,10 @@
 -- What callers do to the queue, and what a day of work comes to.
-use Rattle.std.specs.Prelude.{ℕ, ◌≡◌, ◌<◌, ◌≤◌, ◌+◌, ◌*◌, ◌^◌, ◌==◌, ltb, if◌then◌else◌, List, [], ◌∷◌, ◌++◌, length, map, sum, sum_by, slice_index_or}
+use Rattle.std.specs.Prelude.{ℕ, ◌≡◌, ◌<◌, ◌≤◌, ◌+◌, ◌*◌, ◌^◌, ltb, if◌then◌else◌, List, [], ◌∷◌, ◌++◌, length, map, sum, sum_by, slice_index_or}
 use Rattle.std.specs.List.{range_with_len}
 use Rattle.tx_queue.specs.declared.queue.Queue.{Queue}
 use Rattle.tx_queue.specs.Queues.{IsQueue, contents}
 use Rattle.tx_jobs.specs.declared.closed.ClosedMemory.{ClosedMemory}
-use Rattle.tx_jobs.specs.Jobs.{Entry, Log, Known, IsDeed, HasDone, InOneOrder}
+use Rattle.tx_jobs.specs.Jobs.{Entry, Log, Known, IsDeed, HasDone, InOneOrder, times}
 use Rattle.queue_jobs.specs.declared.hands.Hand.{Hand}
 use Rattle.queue_jobs.specs.declared.plan.Plan.{Plan}
 
@@ -72,10 +72,7 @@ left_in plan day = contents (queue_of plan) day.words.items
 abbrev pub IsWhole : {P : Type 0} → Plan → ClosedMemory Hand P → Type 0
 IsWhole plan day = (length day.words.items ≡ plan.room + 2) × (length day.answers.items ≡ plan.producers + plan.workers)
 
--- how often a job stands in the list, and was taken
-abbrev pub times : ℕ → List ℕ → ℕ
-times job xs = sum_by (λ (x : ℕ). if x == job then 1 else 0) xs
-
+-- how often a job was taken
 abbrev pub times_taken : ℕ → List Hand → ℕ
 times_taken job hands = sum_by (λ (a : Hand). times job a.took.items) hands
 

@@ -13,7 +13,6 @@ use tx_backoff::Backoff;
 use tx_jobs::calls::Calls;
 use tx_jobs::gather::{Errand, gather};
 use tx_jobs::job::Job;
-use tx_queue::laws::contents_change;
 use tx_queue::queue::Put;
 
 /// So often a caller comes again where the queue has no room, or no job.
@@ -92,7 +91,6 @@ fn give<R: Wait, C: Calls<R, Jobs>>(caller: &mut C, job: u32) -> bool
         (if result then Given job ∷ [] else []) (C.known caller.old).made
         (C.known caller.new).made }
 {
-    contents_change();
     let mut backoff = Backoff::new();
     for _ in 0..PATIENCE {
         match caller.run(&Give { job }) {
@@ -123,7 +121,6 @@ impl<R: Wait> Errand<R, Jobs> for AnyJob {
     ghost postcondition = { λ it jobs words caller round answer before after. HasDone (Did jobs.waiting words) (map Taken (listed answer)) before.made after.made };
 
     fn round<C: Calls<R, Jobs>>(&self, caller: &mut C, _round: usize) -> Option<u32> {
-        contents_change();
         let mut backoff = Backoff::new();
         for _ in 0..PATIENCE {
             match caller.run(&Take) {

@@ -1,5 +1,5 @@
-//! `stm_perf WORKLOAD ALGORITHM THREADS COUNT SEED [READS] [switches N] [conflicts] [--time]`: so many transactions. All
-//! that it does is perf_core's `program`.
+//! `stm_perf WORKLOAD ALGORITHM THREADS COUNT SEED [READS] [words N] [switches N] [conflicts] [--time]`: so many
+//! transactions. All that it does is perf_core's `program`.
 #![tactic(auto)]
 
 use perf_core::program::program;

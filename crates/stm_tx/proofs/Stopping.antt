@@ -1,5 +1,5 @@
 -- What the answers of a read and of a write come to for an access.
-use Rattle.std.proofs.Common.{ℕ, ◌≡◌, List, true, false, sym, subst, inl, inr}
+use Rattle.std.proofs.Common.{ℕ, ◌≡◌, List, true, false, refl, sym, subst, inl, inr}
 use Rattle.std.specs.Prelude.{Option, Ok, Err, Some, None}
 use Rattle.stm_model.specs.declared.config.Config.{Config}
 use Rattle.stm_model.specs.declared.stop.Stop.{Stop}
@@ -11,7 +11,8 @@ use Rattle.tx_answers.specs.declared.answers.Write.TheVariants as writes
 use Rattle.tx_answers.specs.Answers.{HasRead, HasWritten, Stops, Quits}
 use Rattle.tx_answers.specs.CallerState.{CallerState}
 use Rattle.tx_answers.specs.CallerStateLaws.{Carries, carries-refl, carries-quits}
-use Rattle.stm_tx.specs.Descs.{as_read, as_write, Since}
+use Rattle.stm_tx.specs.declared.live.Halt.{Halt}
+use Rattle.stm_tx.specs.Descs.{as_read, as_write, stop_of, Since}
 
 module _ (good : List ℕ → Type 0) (c : Config) (n a : ℕ) (v w : CallerState) where
   pub read-stopped : (r : Read) (stop : Stop) → as_read r ≡ Err stop → HasRead good c n a r v w → Stops good c n a stop v w
@@ -43,11 +44,16 @@ module _ (good : List ℕ → Type 0) (c : Config) (n a : ℕ) (v w : CallerStat
   stops-quits (stops.ClockFull clock) h = h.0
 
   -- right after the call
-  pub since-stopped : (stop : Stop) → v.running ≡ true → v.closing ≡ false → Stops good c n a stop v w → Since good c n None v (Some stop) w
-  since-stopped stop running closing h = (carries-quits v w running closing (stops-quits stop h), record { before = v; carries = carries-refl v; running = running; address = a; stops = h })
+  pub since-stopped : (stop : Stop) → v.running ≡ true → v.closing ≡ false → Stops good c n a stop v w → Since good c n None v (Some record { at = a; stop = stop }) w
+  since-stopped stop running closing h = (carries-quits v w running closing (stops-quits stop h), record { before = v; carries = carries-refl v; running = running; stops = h })
 
-pub since-at : (good : List ℕ → Type 0) (c : Config) (n : ℕ) (p q : Option Stop) (v w : CallerState) → p ≡ None → Since good c n None v q w → Since good c n p v q w
-since-at good c n p q v w e h = subst (λ (o : Option Stop). Since good c n o v q w) (sym e) h
+-- who wasn't stopped hasn't halted
+pub going : (p : Option Halt) → stop_of p ≡ None → p ≡ None
+going None e = refl
+going (Some halt) e = absurd cc
 
-pub since-going : (good : List ℕ → Type 0) (c : Config) (n : ℕ) (p : Option Stop) (v w : CallerState) → p ≡ None → Carries v w → Since good c n p v p w
-since-going good c n p v w e h = subst (λ (o : Option Stop). Since good c n o v o w) (sym e) h
+pub since-at : (good : List ℕ → Type 0) (c : Config) (n : ℕ) (p q : Option Halt) (v w : CallerState) → p ≡ None → Since good c n None v q w → Since good c n p v q w
+since-at good c n p q v w e h = subst (λ (o : Option Halt). Since good c n o v q w) (sym e) h
+
+pub since-going : (good : List ℕ → Type 0) (c : Config) (n : ℕ) (p : Option Halt) (v w : CallerState) → p ≡ None → Carries v w → Since good c n p v p w
+since-going good c n p v w e h = subst (λ (o : Option Halt). Since good c n o v o w) (sym e) h

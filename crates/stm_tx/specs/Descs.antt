@@ -17,6 +17,7 @@ use Rattle.rule_base.specs.Own.{Own}
 use Rattle.stm_rule.specs.declared.stm.Stm.{Stm}
 use Rattle.stm_model.specs.declared.config.Config.{Config}
 use Rattle.stm_model.specs.declared.stop.Stop.{Stop}
+use Rattle.stm_tx.specs.declared.live.Halt.{Halt}
 use Rattle.stm_rule.specs.Callers.{Handle, IsSameCaller}
 use Rattle.tx_answers.specs.Answers.{Stops}
 use Rattle.tx_answers.specs.CallerState.{CallerState, known_of, caller_of, written_under}
@@ -33,6 +34,15 @@ as_write writes.Done = Ok tt
 as_write (writes.Conflict cause) = Err (stops.Conflict cause)
 as_write (writes.Full limit) = Err (stops.Full limit)
 as_write (writes.ClockFull clock) = Err (stops.ClockFull clock)
+
+abbrev pub stop_of : Option Halt → Option Stop
+stop_of None = None
+stop_of (Some halt) = Some halt.stop
+
+-- the address of the access that was refused
+abbrev pub address_of : Option Halt → Option ℕ
+address_of None = None
+address_of (Some halt) = Some halt.at
 
 module _ {K : Type 0} where
   abbrev pub known : Handle K → CallerState
@@ -54,49 +64,47 @@ abbrev pub Reserves : ℕ → ℕ → CallerState → CallerState → Type 0
 Reserves reads writes v w = (w.reads_limit ≡ max v.reads_limit reads) × (w.writes_limit ≡ max v.writes_limit writes)
 
 module _ (good : List ℕ → Type 0) (c : Config) (n : ℕ) where
-  -- an attempt was stopped so: what was known right before the refused call, and the address that it asked for
-  pub record StoppedAt (stop : Stop) (v w : CallerState) : Type 0 where
+  -- an attempt was stopped there and so: what was known right before the refused call
+  pub record StoppedAt (halt : Halt) (v w : CallerState) : Type 0 where
     pub before : CallerState
     pub carries : Carries v before
     pub running : before.running ≡ true
-    pub address : ℕ
-    pub stops : Stops good c n address stop before w
+    pub stops : Stops good c n halt.at halt.stop before w
 
   -- what a caller knows since it knew v: an attempt that goes on carries it; one that was stopped says where; and after that nothing changes
-  abbrev pub Since : Option Stop → CallerState → Option Stop → CallerState → Type 0
+  abbrev pub Since : Option Halt → CallerState → Option Halt → CallerState → Type 0
   Since None v None w = Carries v w
-  Since None v (Some stop) w = Carries v w × StoppedAt stop v w
-  Since (Some stop) v after w = (after ≡ Some stop) × (w ≡ v)
+  Since None v (Some halt) w = Carries v w × StoppedAt halt v w
+  Since (Some halt) v after w = (after ≡ Some halt) × (w ≡ v)
 
-  pub since-refl : (p : Option Stop) (v : CallerState) → Since p v p v
+  pub since-refl : (p : Option Halt) (v : CallerState) → Since p v p v
   since-refl None v = carries-refl v
-  since-refl (Some stop) v = (refl, refl)
+  since-refl (Some halt) v = (refl, refl)
 
-  pub since-trans : (p q r : Option Stop) (u v w : CallerState) → Since p u q v → Since q v r w → Since p u r w
+  pub since-trans : (p q r : Option Halt) (u v w : CallerState) → Since p u q v → Since q v r w → Since p u r w
   since-trans None None None u v w a b = carries-trans u v w a b
-  since-trans None None (Some stop) u v w a b = (
+  since-trans None None (Some halt) u v w a b = (
     carries-trans u v w a b.0,
     record {
       before = b.1.before;
       carries = carries-trans u v b.1.before a b.1.carries;
       running = b.1.running;
-      address = b.1.address;
       stops = b.1.stops;
     },
   )
-  since-trans None (Some stop) r u v w a b = subst (λ (o : Option Stop). Since None u o w) (sym b.0) (subst (λ (k : CallerState). Since None u (Some stop) k) (sym b.1) a)
-  since-trans (Some stop) q r u v w a b = let c = subst (λ (o : Option Stop). Since o v r w) a.0 b in (c.0, c.1 ∙ a.1)
+  since-trans None (Some halt) r u v w a b = subst (λ (o : Option Halt). Since None u o w) (sym b.0) (subst (λ (k : CallerState). Since None u (Some halt) k) (sym b.1) a)
+  since-trans (Some halt) q r u v w a b = let c = subst (λ (o : Option Halt). Since o v r w) a.0 b in (c.0, c.1 ∙ a.1)
 
 module _ {K : Type 0} where
   -- what the calls of an access leave alone, by whether it had been stopped, and is
-  abbrev pub Frames : (List ℕ → Type 0) → Config → Option Stop → Handle K → Option Stop → Handle K → Type 0
+  abbrev pub Frames : (List ℕ → Type 0) → Config → Option Halt → Handle K → Option Halt → Handle K → Type 0
   Frames good c p d q e = IsSameCaller d e × Since good c (number d) p (known d) q (known e)
 
-  pub frames-refl : (good : List ℕ → Type 0) (c : Config) (p : Option Stop) (d : Handle K) → Frames good c p d p d
+  pub frames-refl : (good : List ℕ → Type 0) (c : Config) (p : Option Halt) (d : Handle K) → Frames good c p d p d
   frames-refl good c p d = (record { table = refl; who = refl }, since-refl good c (number d) p (known d))
 
   -- for two accesses to one memory
-  pub frames-trans : (good : K → List ℕ → Type 0) (s t : Stm K) (p q r : Option Stop) (d e f : Handle K) → t ≡ s
+  pub frames-trans : (good : K → List ℕ → Type 0) (s t : Stm K) (p q r : Option Halt) (d e f : Handle K) → t ≡ s
       → Frames (good s.rule) s.config p d q e → Frames (good t.rule) t.config q e r f → Frames (good s.rule) s.config p d r f
   frames-trans good s t p q r d e f same a b =
       let c = subst (λ (m : Stm K). Since (good m.rule) m.config (number e) q (known e) r (known f)) same b.1 in

@@ -1,8 +1,8 @@
 //! The access over a running attempt.
-ghost use Rattle.std.specs.Prelude.{◌≡◌, is_none, true, false};
+ghost use Rattle.std.specs.Prelude.{◌≡◌, ◌<◌, is_none, true, false};
 ghost use Rattle.std.proofs.Common.{refl, ◌∙◌};
 ghost use Rattle.stm_rule.specs.Callers.{IsOf};
-ghost use Rattle.stm_tx.specs.Descs.{known, as_read, as_write, Frames, frames-refl, frames-trans, Serves};
+ghost use Rattle.stm_tx.specs.Descs.{known, address_of, as_read, as_write, Serves};
 
 use crate::serving::Calls;
 use stm_model::access::Access;
@@ -12,16 +12,23 @@ use stm_rule::desc::Desc;
 use stm_rule::stm::Stm;
 use tx_answers::answers::{Read, Write};
 
+/// Where and why an attempt was stopped: the address of the read or write that was refused.
+#[derive(Clone, Copy, Drop)]
+pub struct Halt {
+    pub at: usize,
+    pub stop: Stop,
+}
+
 /// Reads and writes of a running attempt. A value, or that a write was done, is Ok; any other answer is
-/// the Stop of the same name, which is kept in `stopped` from then on. The good memories are those of the
-/// memory's rule. Its frame says where and why the attempt was stopped.
+/// the Stop of the same name, which is kept in `stopped` from then on with the address. The good memories are those of
+/// the memory's rule. Its frame says what was known where the attempt was stopped.
 #[derive(Drop)]
 pub struct Live<'a, K: MemRule, C: Calls> {
     /// By what it reads and writes: it must serve the attempt.
     pub calls: &'a C,
     pub desc: &'a mut Desc<K>,
     pub stm: &'a Stm<K>,
-    pub stopped: Option<Stop>,
+    pub stopped: Option<Halt>,
     pub ghost own: { IsOf desc.now stm.now },
     pub ghost runs: { (known desc.now).running ≡ is_none stopped },
     pub ghost served: { is_none stopped ≡ true → Serves C.acts_as (known desc.now) },
@@ -30,7 +37,7 @@ pub struct Live<'a, K: MemRule, C: Calls> {
 }
 
 impl<'a, K: MemRule, C: Calls> Access for Live<'a, K, C> {
-    ghost use Rattle.stm_tx.specs.Descs.{known, Frames, frames-refl, frames-trans, log-once};
+    ghost use Rattle.stm_tx.specs.Descs.{known, Frames, frames-refl, frames-trans, log-once, stop_of};
     ghost use Rattle.std.proofs.Common.{◌≡◌, refl, ◌∙◌};
 
     ghost log = { λ s. (known s.desc.now).log };
@@ -39,7 +46,7 @@ impl<'a, K: MemRule, C: Calls> Access for Live<'a, K, C> {
 
     ghost words = { λ s. s.stm.now.config.words };
 
-    ghost stopped = { λ s. s.stopped };
+    ghost stopped = { λ s. stop_of s.stopped };
 
     ghost keeps = { λ s t. Frames (K.good s.stm.now.rule) s.stm.now.config s.stopped s.desc.now t.stopped t.desc.now × (t.stm ≡ s.stm) × (t.desc.ghost_name ≡ s.desc.ghost_name) };
 
@@ -51,11 +58,11 @@ impl<'a, K: MemRule, C: Calls> Access for Live<'a, K, C> {
 
     #[inline(always)]
     fn read(&mut self, a: usize) -> Result<u64, Stop> {
+        address_within(self.stm.config.words, a);
         match as_read(self.calls.read(self.desc, self.stm, a)) {
             Ok(value) => Ok(value),
             Err(stop) => {
-                self.calls.refused(a);
-                self.stopped = Some(stop);
+                self.stopped = Some(Halt { at: a, stop });
                 Err(stop)
             }
         }
@@ -63,15 +70,37 @@ impl<'a, K: MemRule, C: Calls> Access for Live<'a, K, C> {
 
     #[inline(always)]
     fn write(&mut self, a: usize, v: u64) -> Result<(), Stop> {
+        address_within(self.stm.config.words, a);
         match as_write(self.calls.write(self.desc, self.stm, a, v)) {
             Ok(()) => Ok(()),
             Err(stop) => {
-                self.calls.refused(a);
-                self.stopped = Some(stop);
+                self.stopped = Some(Halt { at: a, stop });
                 Err(stop)
             }
         }
     }
+}
+
+impl<'a, K: MemRule, C: Calls> Live<'a, K, C> {
+    /// The address of the read or write that was refused, None where none was.
+    #[inline]
+    pub fn address(&self) -> Option<usize>
+        ensures { result ≡ address_of self.now.stopped }
+    {
+        match self.stopped {
+            Some(halt) => Some(halt.at),
+            None => None,
+        }
+    }
+}
+
+/// Stops a run that nothing has proved where the memory has no word at `a`: the difference is checked there. Else it does
+/// nothing, in no time, since nobody reads the difference.
+#[inline(always)]
+fn address_within(words: usize, a: usize)
+    requires { a < words }
+{
+    let _rest = words - 1 - a;
 }
 
 /// The answer of a read as an access gives it.

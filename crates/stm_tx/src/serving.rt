@@ -66,13 +66,6 @@ pub trait Calls {
         ensures rung { HasRung result.answer result.rung desc.old desc.new }
         ensures steps { AddsAtMost (costs stm.now.config (known desc.old)).commit (known desc.old)
             (known desc.new) };
-
-    /// Is told that the read or write of the word at `a` was refused: so who keeps the address does nothing at an access that
-    /// was served.
-    #[inline]
-    fn refused(&self, a: usize) {
-        let _ = a;
-    }
 }
 
 /// Serves all, and looks at each call which algorithm the attempt runs under. An access of CGL is one load or store, less

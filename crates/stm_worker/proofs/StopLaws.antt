@@ -8,8 +8,10 @@ use Rattle.stm_model.specs.declared.stop.Stop.TheVariants as stops
 use Rattle.stm_script.specs.declared.op.Op.{Op}
 use Rattle.stm_script.specs.declared.op.Op.TheVariants as ops
 use Rattle.stm_script.specs.Operations.{OnlyReads}
+use Rattle.tx_answers.specs.Answers.{Stops}
 use Rattle.tx_answers.specs.CallerState.{CallerState}
-use Rattle.stm_tx.specs.Descs.{Since}
+use Rattle.stm_tx.specs.declared.live.Halt.{Halt}
+use Rattle.stm_tx.specs.Descs.{Since, stop_of}
 use Rattle.stm_trace.specs.Places.{may_write}
 use Rattle.stm_worker.specs.Tellings.{StoppedBy}
 
@@ -43,16 +45,18 @@ only-writers (ops.MapGet r key) clock h = absurd (h tt)
 only-writers (ops.MapSum r lo hi) clock h = absurd (h tt)
 
 -- an operation that an access stopped
-pub stopped-by : (good : List ℕ → Type 0) (c : Config) (n : ℕ) (op : Op) (result : Result ℕ Stop) (stopped : Option Stop) (v w : CallerState)
-    → IfErr result (λ stop. stopped ≡ Some stop) → Since good c n None v stopped w → (OnlyReads op → IfErr result IsReadStop) → IfErr result (λ stop. StoppedBy good c n op stop v w)
+pub stopped-by : (good : List ℕ → Type 0) (c : Config) (n : ℕ) (op : Op) (result : Result ℕ Stop) (stopped : Option Halt) (v w : CallerState)
+    → IfErr result (λ stop. stop_of stopped ≡ Some stop) → Since good c n None v stopped w → (OnlyReads op → IfErr result IsReadStop) → IfErr result (λ stop. StoppedBy good c n op stop v w)
 stopped-by good c n op (Ok r) stopped v w is since cause = tt
-stopped-by good c n op (Err stop) stopped v w is since cause =
-    let at = (subst (λ (o : Option Stop). Since good c n None v o w) is since).1 in
+stopped-by good c n op (Err stop) None v w is since cause = absurd cc
+stopped-by good c n op (Err stop) (Some halt) v w is since cause =
+    let at = since.1 in
+    let same : halt.stop ≡ stop = cc in
     record {
       before = at.before;
       carries = at.carries;
       running = at.running;
-      address = at.address;
-      stops = at.stops;
+      address = halt.at;
+      stops = subst (λ (s : Stop). Stops good c n halt.at s at.before w) same at.stops;
       writes = λ clock e. only-writers op clock (λ r. subst IsReadStop e (cause r));
     }

@@ -18,7 +18,8 @@ use Rattle.tx_answers.specs.declared.answers.Irrev.TheVariants as grants
 use Rattle.tx_answers.specs.Answers.{Cancels, Commits, Irrevs, Stops}
 use Rattle.tx_answers.specs.CallerState.{CallerState, Grows, IsIdle, caller_of, is_irrevocable}
 use Rattle.tx_answers.specs.CallerStateLaws.{grows-trans}
-use Rattle.stm_tx.specs.Descs.{Since, number}
+use Rattle.stm_tx.specs.declared.live.Halt.{Halt}
+use Rattle.stm_tx.specs.Descs.{Since, number, stop_of}
 use Rattle.tx_atomic.specs.Attempts.{TookEffect}
 
 -- no call changes a caller's number
@@ -123,7 +124,6 @@ module _ (good : List ℕ → Type 0) (c : Config) (n : ℕ) where
   stop-idle a (stops.ClockFull clock) v w h = h.0.ends.idle
 
   -- an attempt that was stopped is over
-  pub stopped-idle : (stop : Stop) (stopped : Option Stop) (v w : CallerState) → stopped ≡ Some stop → Since good c n None v stopped w → IsIdle w
-  stopped-idle stop stopped v w is since =
-      let at = (subst (λ (o : Option Stop). Since good c n None v o w) is since).1 in
-      stop-idle at.address stop at.before w at.stops
+  pub stopped-idle : (stop : Stop) (stopped : Option Halt) (v w : CallerState) → stop_of stopped ≡ Some stop → Since good c n None v stopped w → IsIdle w
+  stopped-idle stop None v w is since = absurd cc
+  stopped-idle stop (Some halt) v w is since = stop-idle halt.at halt.stop since.1.before w since.1.stops

@@ -1,6 +1,9 @@
+pub mod Accounts
 pub mod Attempts
 pub mod AttemptLaws
 pub mod Callers
+pub mod Courses
+pub mod CourseLaws
 pub mod CallerLaws
 pub mod Tallies
 pub mod Tries

@@ -1,5 +1,5 @@
 -- What came of a caller's attempts.
-use Rattle.std.specs.Prelude.{ℕ, zero, suc, ◌≡◌, ◌+◌, ◌-◌, ◌^◌, min}
+use Rattle.std.specs.Prelude.{ℕ, ◌≡◌, ◌+◌, ◌-◌, ◌^◌, min}
 use Rattle.tx_atomic.specs.declared.tally.Ended.{Ended}
 use Rattle.tx_atomic.specs.declared.tally.Ended.TheVariants as ends
 use Rattle.tx_atomic.specs.declared.tally.Tally.{Tally}
@@ -28,11 +28,6 @@ noted ends.Busy t = record t { busy = total t.busy 1 }
 noted ends.Taken t = record t { taken = total t.taken 1 }
 noted ends.Again t = record t { again = total t.again 1 }
 noted ends.ClockFull t = t
-
--- with so many more of its kind
-abbrev pub noted_times : ℕ → Ended → Tally → Tally
-noted_times zero e t = t
-noted_times (suc k) e t = noted e (noted_times k e t)
 
 -- the counts of both
 abbrev pub both : Tally → Tally → Tally

@@ -1,5 +1,5 @@
 -- What came of attempts at a transaction, by the answers of the calls that they made.
-use Rattle.std.specs.Prelude.{ℕ, zero, suc, ◌≡◌, ◌≢◌, ◌+◌, ◌⊎◌, ◌&&◌, ◌||◌, leb, Bool, true, false, if◌then◌else◌, List, [], ◌∷◌, Option, Some, None}
+use Rattle.std.specs.Prelude.{ℕ, zero, suc, ◌≡◌, ◌≢◌, ◌+◌, ◌⊎◌, ◌&&◌, ◌||◌, leb, Bool, true, false, List, [], ◌∷◌, Option, Some, None}
 use Rattle.stm_model.specs.declared.alg.Alg.{Alg}
 use Rattle.stm_model.specs.declared.config.Config.{Config}
 use Rattle.stm_model.specs.declared.stop.Stop.TheVariants as stops
@@ -10,35 +10,19 @@ use Rattle.tx_answers.specs.Answers.{Begins, Commits, Irrevs, Stops}
 use Rattle.tx_answers.specs.CallerState.{CallerState, Grows}
 use Rattle.tx_atomic.specs.declared.tally.Ended.{Ended}
 use Rattle.tx_atomic.specs.declared.tally.Ended.TheVariants as ends
-use Rattle.tx_atomic.specs.declared.tally.Tally.{Tally}
-use Rattle.tx_atomic.specs.Tallies.{noted, noted_times, with_commit, with_promotion}
+use Rattle.tx_atomic.specs.Accounts.{Account, ended_in, met_times, promoted_in, told}
 
--- one attempt: whether it was to be irrevocable before it did anything, how often that found another in an attempt, how often another was faster at its commit, and how it ended, None where it committed
+-- one attempt: whether it was to be irrevocable before it did anything, how often that found another in an attempt, how often another was faster at its commit, and how it ended, None where it committed; and the address of the read or write that was refused
 pub record Try : Type 0 where
   pub irrevocable : Bool
   pub busy : ℕ
   pub again : ℕ
   pub ended : Option Ended
+  pub at : Option ℕ
 
 abbrev pub has_committed : Option Ended → Bool
 has_committed None = true
 has_committed (Some e) = false
-
--- the tally after its calls, and after it; who was to be irrevocable and committed was promoted
-abbrev pub waited : Try → Tally → Tally
-waited x t = noted_times x.again ends.Again (if x.irrevocable && has_committed x.ended then with_promotion (noted_times x.busy ends.Busy t) else noted_times x.busy ends.Busy t)
-
-abbrev pub counted_end : Option Ended → Tally → Tally
-counted_end None t = with_commit t
-counted_end (Some e) t = noted e t
-
-abbrev pub counted : Try → Tally → Tally
-counted x t = counted_end x.ended (waited x t)
-
--- the tally after attempts, of which the latest stands first
-abbrev pub counted_all : List Try → Tally → Tally
-counted_all [] t = t
-counted_all (x ∷ xs) t = counted x (counted_all xs t)
 
 -- a log had its length; another was in the way of an attempt that had begun
 abbrev pub ran_full : Option Ended → Bool
@@ -65,6 +49,19 @@ crossed (x ∷ xs) = was_crossed x.ended + crossed xs
 abbrev pub is_due : List Try → Bool
 is_due xs = any_full xs || leb 16 (crossed xs)
 
+-- what is kept after its calls, of what its end is told only, and after it; who was to be irrevocable and committed was promoted
+module _ {H : Type 0} (hears : Ended → Option ℕ → H → H) where
+  abbrev pub tried : Try → Account H → Account H
+  tried x a = told hears x.ended x.at (met_times hears x.again ends.Again (promoted_in (x.irrevocable && has_committed x.ended) (met_times hears x.busy ends.Busy a)))
+
+  abbrev pub counted : Try → Account H → Account H
+  counted x a = ended_in x.ended (tried x a)
+
+  -- after attempts, of which the latest stands first
+  abbrev pub counted_all : List Try → Account H → Account H
+  counted_all [] a = a
+  counted_all (x ∷ xs) a = counted x (counted_all xs a)
+
 -- good is what the user keeps true of memory; c is the memory's configuration, and n the caller
 module _ (good : List ℕ → Type 0) (c : Config) (n : ℕ) where
   -- the attempt that was to begin didn't
@@ -82,12 +79,12 @@ module _ (good : List ℕ → Type 0) (c : Config) (n : ℕ) where
   EndsPromotion ends.ClockFull v w = (clock : ℕ) × Irrevs good c n (grants.ClockFull clock) v w
   EndsPromotion e v w = ⊥
 
-  -- a read or a write was
-  abbrev pub EndsAccess : Ended → CallerState → CallerState → Type 0
-  EndsAccess (ends.Conflict cause) v w = (a : ℕ) × Stops good c n a (stops.Conflict cause) v w
-  EndsAccess ends.Full v w = (a : ℕ) × (limit : ℕ) × Stops good c n a (stops.Full limit) v w
-  EndsAccess ends.ClockFull v w = (a : ℕ) × (clock : ℕ) × Stops good c n a (stops.ClockFull clock) v w
-  EndsAccess e v w = ⊥
+  -- a read or a write at a was
+  abbrev pub EndsAccess : ℕ → Ended → CallerState → CallerState → Type 0
+  EndsAccess a (ends.Conflict cause) v w = Stops good c n a (stops.Conflict cause) v w
+  EndsAccess a ends.Full v w = (limit : ℕ) × Stops good c n a (stops.Full limit) v w
+  EndsAccess a ends.ClockFull v w = (clock : ℕ) × Stops good c n a (stops.ClockFull clock) v w
+  EndsAccess a e v w = ⊥
 
   -- a commit was
   abbrev pub EndsCommit : Ended → CallerState → CallerState → Type 0
@@ -95,10 +92,12 @@ module _ (good : List ℕ → Type 0) (c : Config) (n : ℕ) where
   EndsCommit ends.ClockFull v w = (clock : ℕ) × Commits good c n (commits.ClockFull clock) v w
   EndsCommit e v w = ⊥
 
-  -- the last call of an attempt that ran: it committed, or it was refused
-  abbrev pub EndsRun : Option Ended → CallerState → CallerState → Type 0
-  EndsRun None v w = (time : ℕ) × (Commits good c n (commits.Committed time) v w ⊎ Commits good c n (commits.ReadOnly time) v w)
-  EndsRun (Some e) v w = EndsAccess e v w ⊎ EndsCommit e v w
+  -- the last call of an attempt that ran: it committed, or its commit was refused, or a read or a write at that address
+  abbrev pub EndsRun : Option ℕ → Option Ended → CallerState → CallerState → Type 0
+  EndsRun None None v w = (time : ℕ) × (Commits good c n (commits.Committed time) v w ⊎ Commits good c n (commits.ReadOnly time) v w)
+  EndsRun None (Some e) v w = EndsCommit e v w
+  EndsRun (Some a) None v w = ⊥
+  EndsRun (Some a) (Some e) v w = EndsAccess a e v w
 
   -- so many calls, one after the other: each asked to be irrevocable and found another in an attempt; each asked to commit and another was faster
   abbrev pub FindsBusy : ℕ → CallerState → CallerState → Type 0
@@ -122,6 +121,7 @@ module _ (good : List ℕ → Type 0) (c : Config) (n : ℕ) where
   pub record WasUnbegun (x : Try) (u w : CallerState) : Type 0 where
     pub busy : x.busy ≡ 0
     pub again : x.again ≡ 0
+    pub at : x.at ≡ None
     pub ended : Ended
     pub is : x.ended ≡ Some ended
     pub last : EndsBegin ended u w
@@ -134,6 +134,7 @@ module _ (good : List ℕ → Type 0) (c : Config) (n : ℕ) where
     pub asked : CallerState
     pub busy : FindsBusy x.busy begun asked
     pub again : x.again ≡ 0
+    pub at : x.at ≡ None
     pub ended : Ended
     pub is : x.ended ≡ Some ended
     pub last : EndsPromotion ended asked w
@@ -148,7 +149,7 @@ module _ (good : List ℕ → Type 0) (c : Config) (n : ℕ) where
     pub acts : Grows opened acted
     pub before : CallerState
     pub again : FindsAgain x.again acted before
-    pub last : EndsRun x.ended before w
+    pub last : EndsRun x.at x.ended before w
     pub irrevocable : x.irrevocable ≡ true → has_committed x.ended ≡ true
 
   abbrev pub WasTried : Try → CallerState → CallerState → Type 0
@@ -169,86 +170,92 @@ module _ (good : List ℕ → Type 0) (c : Config) (n : ℕ) where
   LastEnded last [] = ⊥
   LastEnded last (x ∷ xs) = (x.ended ≡ last) × AllFailed xs
 
-  -- one attempt, and the tally after its calls
-  pub record Tried (irrevocable : Bool) (ended : Option Ended) (u w : CallerState) (s t : Tally) : Type 0 where
-    pub busy : ℕ
-    pub again : ℕ
-    pub was : WasTried (record { irrevocable = irrevocable; busy = busy; again = again; ended = ended }) u w
-    pub counted : t ≡ waited (record { irrevocable = irrevocable; busy = busy; again = again; ended = ended }) s
+  module _ {H : Type 0} (hears : Ended → Option ℕ → H → H) where
+    -- one attempt, and what is kept after its calls
+    pub record Tried (irrevocable : Bool) (ended : Option Ended) (u w : CallerState) (s t : Account H) : Type 0 where
+      pub busy : ℕ
+      pub again : ℕ
+      pub at : Option ℕ
+      pub was : WasTried (record { irrevocable = irrevocable; busy = busy; again = again; ended = ended; at = at }) u w
+      pub counted : t ≡ tried hears (record { irrevocable = irrevocable; busy = busy; again = again; ended = ended; at = at }) s
 
-  -- a run of attempts from u to w of which the last ended so, and the tally after it: each call that was refused is counted once
-  pub record Ran (last : Option Ended) (u w : CallerState) (s t : Tally) : Type 0 where
-    pub tries : List Try
-    pub were : WereTried tries u w
-    pub ended : LastEnded last tries
-    pub counted : t ≡ counted_all tries s
+    -- a run of attempts from u to w of which the last ended so, and what is kept after it: each call that was refused is told and counted once
+    pub record Ran (last : Option Ended) (u w : CallerState) (s t : Account H) : Type 0 where
+      pub tries : List Try
+      pub were : WereTried tries u w
+      pub ended : LastEnded last tries
+      pub counted : t ≡ counted_all hears tries s
 
-  -- attempts that failed, with the count of those that another was in the way of
-  pub record Failing (failed : ℕ) (u w : CallerState) (s t : Tally) : Type 0 where
-    pub tries : List Try
-    pub were : WereTried tries u w
-    pub all : AllFailed tries
-    pub counted : t ≡ counted_all tries s
-    pub due : leb 16 failed ≡ is_due tries
-    pub low : is_due tries ≡ false → failed ≡ crossed tries
+    -- attempts that failed, with the count of those that another was in the way of
+    pub record Failing (failed : ℕ) (u w : CallerState) (s t : Account H) : Type 0 where
+      pub tries : List Try
+      pub were : WereTried tries u w
+      pub all : AllFailed tries
+      pub counted : t ≡ counted_all hears tries s
+      pub due : leb 16 failed ≡ is_due tries
+      pub low : is_due tries ≡ false → failed ≡ crossed tries
 
-  -- so many runs from u to w, one after the other, each of which committed, and the tally after them
-  abbrev pub HaveRun : ℕ → CallerState → CallerState → Tally → Tally → Type 0
-  HaveRun zero u w s t = (w ≡ u) × (t ≡ s)
-  HaveRun (suc k) u w s t = (v : CallerState) × (r : Tally) × HaveRun k u v s r × Ran None v w r t
+    -- so many runs from u to w, one after the other, each of which committed, and what is kept after them
+    abbrev pub HaveRun : ℕ → CallerState → CallerState → Account H → Account H → Type 0
+    HaveRun zero u w s t = (w ≡ u) × (t ≡ s)
+    HaveRun (suc k) u w s t = (v : CallerState) × (r : Account H) × HaveRun k u v s r × Ran None v w r t
 
-  -- so many runs that committed, and after them one of which the last attempt ended so
-  pub record RanAgain (last : Option Ended) (u w : CallerState) (s t : Tally) : Type 0 where
-    pub before : ℕ
-    pub since : CallerState
-    pub tally : Tally
-    pub runs : HaveRun before u since s tally
-    pub ran : Ran last since w tally t
+    -- so many runs that committed, and after them one of which the last attempt ended so
+    pub record RanAgain (last : Option Ended) (u w : CallerState) (s t : Account H) : Type 0 where
+      pub before : ℕ
+      pub since : CallerState
+      pub account : Account H
+      pub runs : HaveRun before u since s account
+      pub ran : Ran last since w account t
 
-  -- an attempt began, and was made irrevocable where it was to be
-  pub record Opens (irrevocable : Bool) (u w : CallerState) (s t : Tally) : Type 0 where
-    pub busy : ℕ
-    pub begun : CallerState
-    pub begins : HasBegun u begun
-    pub granted : IsGranted irrevocable busy begun w
-    pub counted : t ≡ (if irrevocable then with_promotion (noted_times busy ends.Busy s) else noted_times busy ends.Busy s)
+    -- an attempt began, and was made irrevocable where it was to be
+    pub record Opens (irrevocable : Bool) (u w : CallerState) (s t : Account H) : Type 0 where
+      pub busy : ℕ
+      pub begun : CallerState
+      pub begins : HasBegun u begun
+      pub granted : IsGranted irrevocable busy begun w
+      pub counted : t ≡ promoted_in irrevocable (met_times hears busy ends.Busy s)
 
-  -- it asked to be irrevocable, and the last such call granted that or ended it
-  abbrev pub AsksBy : Option Ended → CallerState → CallerState → Type 0
-  AsksBy None v w = Irrevs good c n grants.Granted v w
-  AsksBy (Some e) v w = EndsPromotion e v w
+    -- it asked to be irrevocable, and the last such call granted that or ended it
+    abbrev pub AsksBy : Option Ended → CallerState → CallerState → Type 0
+    AsksBy None v w = Irrevs good c n grants.Granted v w
+    AsksBy (Some e) v w = EndsPromotion e v w
 
-  pub record Asks (ended : Option Ended) (u w : CallerState) (s t : Tally) : Type 0 where
-    pub busy : ℕ
-    pub asked : CallerState
-    pub waits : FindsBusy busy u asked
-    pub last : AsksBy ended asked w
-    pub counted : t ≡ (if has_committed ended then with_promotion (noted_times busy ends.Busy s) else noted_times busy ends.Busy s)
+    pub record Asks (ended : Option Ended) (u w : CallerState) (s t : Account H) : Type 0 where
+      pub busy : ℕ
+      pub asked : CallerState
+      pub waits : FindsBusy busy u asked
+      pub last : AsksBy ended asked w
+      pub counted : t ≡ told hears ended None (promoted_in (has_committed ended) (met_times hears busy ends.Busy s))
 
-  -- what it did was refused
-  pub record IsStopped (e : Ended) (u w : CallerState) : Type 0 where
-    pub before : CallerState
-    pub goes : Grows u before
-    pub last : EndsAccess e before w
+    -- it didn't begin
+    pub record IsTurnedBack (e : Ended) (u w : CallerState) (s t : Account H) : Type 0 where
+      pub last : EndsBegin e u w
+      pub counted : t ≡ told hears (Some e) None s
 
-  -- it asked to commit, and the last such call did or ended it
-  abbrev pub FinishesBy : Option Ended → CallerState → CallerState → Type 0
-  FinishesBy None v w = EndsRun None v w
-  FinishesBy (Some e) v w = EndsCommit e v w
+    -- what it did was refused
+    pub record IsStopped (e : Ended) (u w : CallerState) (s t : Account H) : Type 0 where
+      pub before : CallerState
+      pub goes : Grows u before
+      pub at : ℕ
+      pub last : EndsAccess at e before w
+      pub counted : t ≡ told hears (Some e) (Some at) s
 
-  pub record Finishes (ended : Option Ended) (u w : CallerState) (s t : Tally) : Type 0 where
-    pub again : ℕ
-    pub before : CallerState
-    pub waits : FindsAgain again u before
-    pub last : FinishesBy ended before w
-    pub counted : t ≡ noted_times again ends.Again s
+    -- it asked to commit, and the last such call did or ended it
+    pub record Finishes (ended : Option Ended) (u w : CallerState) (s t : Account H) : Type 0 where
+      pub again : ℕ
+      pub before : CallerState
+      pub waits : FindsAgain again u before
+      pub last : EndsRun None ended before w
+      pub counted : t ≡ told hears ended None (met_times hears again ends.Again s)
 
-  -- it did what it does, and asked to commit; or what it did was refused
-  pub record Runs (ended : Option Ended) (u w : CallerState) (s t : Tally) : Type 0 where
-    pub acted : CallerState
-    pub acts : Grows u acted
-    pub again : ℕ
-    pub before : CallerState
-    pub waits : FindsAgain again acted before
-    pub last : EndsRun ended before w
-    pub counted : t ≡ noted_times again ends.Again s
+    -- it did what it does, and asked to commit; or what it did was refused
+    pub record Runs (ended : Option Ended) (u w : CallerState) (s t : Account H) : Type 0 where
+      pub acted : CallerState
+      pub acts : Grows u acted
+      pub again : ℕ
+      pub before : CallerState
+      pub waits : FindsAgain again acted before
+      pub at : Option ℕ
+      pub last : EndsRun at ended before w
+      pub counted : t ≡ told hears ended at (met_times hears again ends.Again s)

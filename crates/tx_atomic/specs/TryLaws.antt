@@ -1,6 +1,6 @@
 -- Laws of what came of attempts.
 use Rattle.std.proofs.Common.{ℕ, zero, suc, ◌≡◌, ◌≢◌, ◌<◌, ◌+◌, ◌∙◌, List, [], ◌∷◌, ◌++◌, Bool, true, false, refl, sym, ap, subst, arith, inl, inr, append_assoc}
-use Rattle.std.specs.Prelude.{◌⊎◌, ◌&&◌, ◌||◌, if◌then◌else◌, leb, min, Option, Some, None, Ok, Err, OnErr, MatchResult}
+use Rattle.std.specs.Prelude.{◌⊎◌, ◌&&◌, ◌||◌, leb, min, Option, Some, None, Ok, Err, OnErr, MatchResult}
 use Rattle.std.specs.declared.result.Result.{Result}
 use Rattle.std.proofs.lemmas.Bool.Decides.{nat_tests}
 use Rattle.std.proofs.lemmas.List.Elements.{Contains-append_left}
@@ -21,14 +21,15 @@ use Rattle.tx_answers.specs.Causes.{FindsFull}
 use Rattle.tx_answers.specs.Evidence.{Found}
 use Rattle.tx_answers.specs.CallerState.{CallerState, Grows, is_irrevocable}
 use Rattle.tx_answers.specs.CallerStateLaws.{carries-refl, grows-trans}
-use Rattle.stm_tx.specs.Descs.{Since}
+use Rattle.stm_tx.specs.declared.live.Halt.{Halt}
+use Rattle.stm_tx.specs.Descs.{Since, address_of, stop_of}
 use Rattle.tx_atomic.specs.declared.tally.Ended.{Ended}
 use Rattle.tx_atomic.specs.declared.tally.Ended.TheVariants as ends
-use Rattle.tx_atomic.specs.declared.tally.Tally.{Tally}
+use Rattle.tx_atomic.specs.Accounts.{Account, ended_in, met_times, promoted_in, told}
 use Rattle.tx_atomic.specs.Attempts.{ended_by}
 use Rattle.tx_atomic.specs.AttemptLaws.{irrevs-grow, commits-grow}
-use Rattle.tx_atomic.specs.Tallies.{failed_next, noted, noted_times, with_promotion}
-use Rattle.tx_atomic.specs.Tries.{Try, EndsBegin, EndsPromotion, EndsAccess, EndsCommit, EndsRun, FinishesBy, IsGranted, FindsBusy, FindsAgain, HasBegun, WasTried, Tried, Ran, RanAgain, HaveRun, Failing, Opens, Asks, IsStopped, Finishes, Runs, has_committed, counted_end, waited, ran_full, was_crossed, any_full, crossed}
+use Rattle.tx_atomic.specs.Tallies.{failed_next}
+use Rattle.tx_atomic.specs.Tries.{Try, EndsBegin, EndsPromotion, EndsAccess, EndsCommit, EndsRun, IsGranted, FindsBusy, FindsAgain, HasBegun, WasTried, Tried, Ran, RanAgain, HaveRun, Failing, Opens, Asks, IsStopped, IsTurnedBack, Finishes, Runs, has_committed, tried, ran_full, was_crossed, any_full, crossed}
 
 pub grows-refl : (v : CallerState) → Grows v v
 grows-refl v = (carries-refl v).grows
@@ -39,7 +40,7 @@ found-earlier p x u v w g f = (f.0 ++ g.more, f.1 ∙ (ap (λ t. f.0 ++ t) g.ste
 pub full-earlier : (clock : ℕ) (u v w : CallerState) → Grows u v → FindsFull clock v w → FindsFull clock u w
 full-earlier clock u v w g f = record { limit = f.limit; found = found-earlier Clock clock u v w g f.found; top = f.top }
 
-some-same : {d e : Ended} → Some d ≡ Some e → d ≡ e
+some-same : {A : Type 0} {d e : A} → Some d ≡ Some e → d ≡ e
 some-same is = cc
 
 -- the count of those that another was in the way of says when the next one is due
@@ -68,15 +69,10 @@ module _ (good : List ℕ → Type 0) (c : Config) (n : ℕ) where
   granted-grows false busy u v h = subst (λ (w : CallerState). Grows u w) (sym h.1) (grows-refl u)
 
   -- an access that was stopped, as the end of its attempt
-  stop-refused : (a : ℕ) (stop : Stop) (v w : CallerState) → Stops good c n a stop v w → EndsAccess good c n (ended_by stop) v w
-  stop-refused a (stops.Conflict cause) v w h = (a, h)
-  stop-refused a (stops.Full limit) v w h = (a, limit, h)
-  stop-refused a (stops.ClockFull clock) v w h = (a, clock, h)
-
-  pub stopped : (stop : Stop) (o : Option Stop) (v w : CallerState) → o ≡ Some stop → Since good c n None v o w → IsStopped good c n (ended_by stop) v w
-  stopped stop o v w is since =
-      let at = (subst (λ (p : Option Stop). Since good c n None v p w) is since).1 in
-      record { before = at.before; goes = at.carries.grows; last = stop-refused at.address stop at.before w at.stops }
+  stop-refused : (a : ℕ) (stop : Stop) (v w : CallerState) → Stops good c n a stop v w → EndsAccess good c n a (ended_by stop) v w
+  stop-refused a (stops.Conflict cause) v w h = h
+  stop-refused a (stops.Full limit) v w h = (limit, h)
+  stop-refused a (stops.ClockFull clock) v w h = (clock, h)
 
   -- a clock that ended an attempt was found in it
   clock-found : (x : Try) (u w : CallerState) → x.ended ≡ Some ends.ClockFull → WasTried good c n x u w → (clock : ℕ) × FindsFull clock u w
@@ -86,150 +82,168 @@ module _ (good : List ℕ → Type 0) (c : Config) (n : ℕ) where
   clock-found x u w full (inr (inl t)) = (h.0, full-earlier h.0 u t.asked w (grows-trans u t.begun t.asked t.begins.1.grows (busy-grows x.busy t.begun t.asked t.busy)) h.1.2) where
     h : EndsPromotion good c n ends.ClockFull t.asked w
     h = let same : t.ended ≡ ends.ClockFull = some-same (sym t.is ∙ full) in subst (λ (e : Ended). EndsPromotion good c n e t.asked w) same t.last
-  clock-found x u w full (inr (inr t)) = by (subst (λ (o : Option Ended). EndsRun good c n o t.before w) full t.last) where
+  clock-found x u w full (inr (inr t)) = by x.at (subst (λ (o : Option Ended). EndsRun good c n x.at o t.before w) full t.last) where
     grew : Grows u t.before
     grew =
         let opened = grows-trans u t.begun t.opened t.begins.1.grows (granted-grows x.irrevocable x.busy t.begun t.opened t.granted) in
         grows-trans u t.acted t.before (grows-trans u t.opened t.acted opened t.acts) (again-grows x.again t.acted t.before t.again)
 
-    by : EndsAccess good c n ends.ClockFull t.before w ⊎ EndsCommit good c n ends.ClockFull t.before w → (clock : ℕ) × FindsFull clock u w
-    by (inl h) = (h.1, full-earlier h.1 u t.before w grew h.2.2)
-    by (inr h) = (h.0, full-earlier h.0 u t.before w grew h.1.3)
+    by : (at : Option ℕ) → EndsRun good c n at (Some ends.ClockFull) t.before w → (clock : ℕ) × FindsFull clock u w
+    by (Some a) h = (h.0, full-earlier h.0 u t.before w grew h.1.2)
+    by None h = (h.0, full-earlier h.0 u t.before w grew h.1.3)
 
-  pub tried-full : (irrevocable : Bool) (s t : Tally) (u w : CallerState) → Tried good c n irrevocable (Some ends.ClockFull) u w s t → (clock : ℕ) × FindsFull clock u w
-  tried-full irrevocable s t u w h = clock-found _ u w refl h.was
+  module _ {H : Type 0} (hears : Ended → Option ℕ → H → H) where
+    pub tried-full : (irrevocable : Bool) (s t : Account H) (u w : CallerState) → Tried good c n hears irrevocable (Some ends.ClockFull) u w s t → (clock : ℕ) × FindsFull clock u w
+    tried-full irrevocable s t u w h = clock-found _ u w refl h.was
 
-  -- none was tried yet
-  pub failing-none : (v : CallerState) (s : Tally) → Failing good c n 0 v v s s
-  failing-none v s = record { tries = []; were = refl; all = tt; counted = refl; due = refl; low = λ less. refl }
+    -- none was tried yet
+    pub failing-none : (v : CallerState) (s : Account H) → Failing good c n hears 0 v v s s
+    failing-none v s = record { tries = []; were = refl; all = tt; counted = refl; due = refl; low = λ less. refl }
 
-  -- one more, which failed
-  pub failing-more : (failed : ℕ) (irrevocable : Bool) (e : Ended) (u v w : CallerState) (r s t : Tally) → e ≢ ends.ClockFull
-      → irrevocable ≡ leb 16 failed → Failing good c n failed u v r s → Tried good c n irrevocable (Some e) v w s t
-      → Failing good c n (failed_next failed e) u w r (noted e t)
-  failing-more failed irrevocable e u v w r s t apart is h x = record {
-    tries = this ∷ h.tries;
-    were = (v, h.were, x.was, is ∙ h.due);
-    all = ((e, refl, apart), h.all);
-    counted = ap (noted e) (x.counted ∙ ap (λ (q : Tally). waited this q) h.counted);
-    due = (next e).0;
-    low = (next e).1;
-  }
-    where
-      this : Try
-      this = record { irrevocable = irrevocable; busy = x.busy; again = x.again; ended = Some e }
+    -- one more, which failed
+    pub failing-more : (failed : ℕ) (irrevocable : Bool) (e : Ended) (u v w : CallerState) (r s t : Account H) → e ≢ ends.ClockFull
+        → irrevocable ≡ leb 16 failed → Failing good c n hears failed u v r s → Tried good c n hears irrevocable (Some e) v w s t
+        → Failing good c n hears (failed_next failed e) u w r (ended_in (Some e) t)
+    failing-more failed irrevocable e u v w r s t apart is h x = record {
+      tries = this ∷ h.tries;
+      were = (v, h.were, x.was, is ∙ h.due);
+      all = ((e, refl, apart), h.all);
+      counted = ap (ended_in (Some e)) (x.counted ∙ ap (λ (q : Account H). tried hears this q) h.counted);
+      due = (next e).0;
+      low = (next e).1;
+    }
+      where
+        this : Try
+        this = record { irrevocable = irrevocable; busy = x.busy; again = x.again; ended = Some e; at = x.at }
 
-      same : (leb 16 failed ≡ (any_full h.tries || leb 16 (0 + crossed h.tries))) × ((any_full h.tries || leb 16 (0 + crossed h.tries)) ≡ false → failed ≡ 0 + crossed h.tries)
-      same = let z : 0 + crossed h.tries ≡ crossed h.tries = omega arith in rw z (h.due, h.low)
+        same : (leb 16 failed ≡ (any_full h.tries || leb 16 (0 + crossed h.tries))) × ((any_full h.tries || leb 16 (0 + crossed h.tries)) ≡ false → failed ≡ 0 + crossed h.tries)
+        same = let z : 0 + crossed h.tries ≡ crossed h.tries = omega arith in rw z (h.due, h.low)
 
-      next : (d : Ended)
-          → (leb 16 (failed_next failed d) ≡ ((ran_full (Some d) || any_full h.tries) || leb 16 (was_crossed (Some d) + crossed h.tries)))
-          × (((ran_full (Some d) || any_full h.tries) || leb 16 (was_crossed (Some d) + crossed h.tries)) ≡ false
-          → failed_next failed d ≡ was_crossed (Some d) + crossed h.tries)
-      next ends.Closed = same
-      next ends.Held = same
-      next ends.Fenced = same
-      next (ends.Conflict cause) = due-full failed (any_full h.tries) (crossed h.tries) h.due h.low
-      next ends.Full = (refl, λ less. absurd cc)
-      next ends.Busy = due-full failed (any_full h.tries) (crossed h.tries) h.due h.low
-      next ends.Taken = due-full failed (any_full h.tries) (crossed h.tries) h.due h.low
-      next ends.Again = due-full failed (any_full h.tries) (crossed h.tries) h.due h.low
-      next ends.ClockFull = due-full failed (any_full h.tries) (crossed h.tries) h.due h.low
+        next : (d : Ended)
+            → (leb 16 (failed_next failed d) ≡ ((ran_full (Some d) || any_full h.tries) || leb 16 (was_crossed (Some d) + crossed h.tries)))
+            × (((ran_full (Some d) || any_full h.tries) || leb 16 (was_crossed (Some d) + crossed h.tries)) ≡ false
+            → failed_next failed d ≡ was_crossed (Some d) + crossed h.tries)
+        next ends.Closed = same
+        next ends.Held = same
+        next ends.Fenced = same
+        next (ends.Conflict cause) = due-full failed (any_full h.tries) (crossed h.tries) h.due h.low
+        next ends.Full = (refl, λ less. absurd cc)
+        next ends.Busy = due-full failed (any_full h.tries) (crossed h.tries) h.due h.low
+        next ends.Taken = due-full failed (any_full h.tries) (crossed h.tries) h.due h.low
+        next ends.Again = due-full failed (any_full h.tries) (crossed h.tries) h.due h.low
+        next ends.ClockFull = due-full failed (any_full h.tries) (crossed h.tries) h.due h.low
 
-  -- the last one
-  pub ran : (failed : ℕ) (irrevocable : Bool) (o : Option Ended) (u v w : CallerState) (r s t : Tally) → irrevocable ≡ leb 16 failed
-      → Failing good c n failed u v r s → Tried good c n irrevocable o v w s t → Ran good c n o u w r (counted_end o t)
-  ran failed irrevocable o u v w r s t is h x = record {
-    tries = this ∷ h.tries;
-    were = (v, h.were, x.was, is ∙ h.due);
-    ended = (refl, h.all);
-    counted = ap (counted_end o) (x.counted ∙ ap (λ (q : Tally). waited this q) h.counted);
-  }
-    where
-      this : Try
-      this = record { irrevocable = irrevocable; busy = x.busy; again = x.again; ended = o }
+    -- the last one
+    pub ran : (failed : ℕ) (irrevocable : Bool) (o : Option Ended) (u v w : CallerState) (r s t : Account H) → irrevocable ≡ leb 16 failed
+        → Failing good c n hears failed u v r s → Tried good c n hears irrevocable o v w s t → Ran good c n hears o u w r (ended_in o t)
+    ran failed irrevocable o u v w r s t is h x = record {
+      tries = this ∷ h.tries;
+      were = (v, h.were, x.was, is ∙ h.due);
+      ended = (refl, h.all);
+      counted = ap (ended_in o) (x.counted ∙ ap (λ (q : Account H). tried hears this q) h.counted);
+    }
+      where
+        this : Try
+        this = record { irrevocable = irrevocable; busy = x.busy; again = x.again; ended = o; at = x.at }
 
-  -- runs, one after the other
-  pub run-more : (k : ℕ) (u v w : CallerState) (r s t : Tally) → HaveRun good c n k u v r s → Ran good c n None v w s t → HaveRun good c n (suc k) u w r t
-  run-more k u v w r s t h ran = (v, s, h, ran)
+    -- runs, one after the other
+    pub run-more : (k : ℕ) (u v w : CallerState) (r s t : Account H) → HaveRun good c n hears k u v r s → Ran good c n hears None v w s t → HaveRun good c n hears (suc k) u w r t
+    run-more k u v w r s t h ran = (v, s, h, ran)
 
-  pub ran-again : (last : Option Ended) (u v w : CallerState) (r s t : Tally) → (k : ℕ) × HaveRun good c n k u v r s → Ran good c n last v w s t → RanAgain good c n last u w r t
-  ran-again last u v w r s t h ran = record { before = h.0; since = v; tally = s; runs = h.1; ran = ran }
+    pub ran-again : (last : Option Ended) (u v w : CallerState) (r s t : Account H) → (k : ℕ) × HaveRun good c n hears k u v r s → Ran good c n hears last v w s t → RanAgain good c n hears last u w r t
+    ran-again last u v w r s t h ran = record { before = h.0; since = v; account = s; runs = h.1; ran = ran }
 
-  -- an attempt from its parts: it didn't begin
-  pub tried-unbegun : (irrevocable : Bool) (e : Ended) (u w : CallerState) (t : Tally) → EndsBegin good c n e u w → Tried good c n irrevocable (Some e) u w t t
-  tried-unbegun true e u w t h = record { busy = 0; again = 0; was = inl (record { busy = refl; again = refl; ended = e; is = refl; last = h }); counted = refl }
-  tried-unbegun false e u w t h = record { busy = 0; again = 0; was = inl (record { busy = refl; again = refl; ended = e; is = refl; last = h }); counted = refl }
+    -- an attempt from its parts: it didn't begin
+    pub tried-unbegun : (irrevocable : Bool) (e : Ended) (u w : CallerState) (s t : Account H) → IsTurnedBack good c n hears e u w s t → Tried good c n hears irrevocable (Some e) u w s t
+    tried-unbegun irrevocable e u w s t h = by irrevocable
+      where
+        by : (i : Bool) → Tried good c n hears i (Some e) u w s t
+        by true = record { busy = 0; again = 0; at = None; was = inl (record { busy = refl; again = refl; at = refl; ended = e; is = refl; last = h.last }); counted = h.counted }
+        by false = record { busy = 0; again = 0; at = None; was = inl (record { busy = refl; again = refl; at = refl; ended = e; is = refl; last = h.last }); counted = h.counted }
 
-  -- it was not made irrevocable
-  pub tried-asked : (irrevocable : Bool) (e : Ended) (u v w : CallerState) (s t : Tally) → irrevocable ≡ true → HasBegun good c n u v → Asks good c n (Some e) v w s t → Tried good c n irrevocable (Some e) u w s t
-  tried-asked true e u v w s t is b a =
-      record {
-        busy = a.busy;
-        again = 0;
-        was = inr (inl (record
-            { irrevocable = refl; begun = v; begins = b; asked = a.asked; busy = a.waits; again = refl; ended = e; is = refl; last = a.last }));
-        counted = a.counted;
-      }
-  tried-asked false e u v w s t is b a = absurd cc
+    -- it was not made irrevocable
+    pub tried-asked : (irrevocable : Bool) (e : Ended) (u v w : CallerState) (s t : Account H) → irrevocable ≡ true → HasBegun good c n u v → Asks good c n hears (Some e) v w s t → Tried good c n hears irrevocable (Some e) u w s t
+    tried-asked true e u v w s t is b a =
+        record {
+          busy = a.busy;
+          again = 0;
+          at = None;
+          was = inr (inl (record
+              { irrevocable = refl; begun = v; begins = b; asked = a.asked; busy = a.waits; again = refl; at = refl; ended = e; is = refl; last = a.last }));
+          counted = a.counted;
+        }
+    tried-asked false e u v w s t is b a = absurd cc
 
-  -- it was
-  pub opens-asked : (irrevocable : Bool) (u v w : CallerState) (s t : Tally) → irrevocable ≡ true → HasBegun good c n u v → Asks good c n None v w s t → Opens good c n irrevocable u w s t
-  opens-asked true u v w s t is b a = record { busy = a.busy; begun = v; begins = b; granted = (a.asked, a.waits, a.last); counted = a.counted }
-  opens-asked false u v w s t is b a = absurd cc
+    -- it was
+    pub opens-asked : (irrevocable : Bool) (u v w : CallerState) (s t : Account H) → irrevocable ≡ true → HasBegun good c n u v → Asks good c n hears None v w s t → Opens good c n hears irrevocable u w s t
+    opens-asked true u v w s t is b a = record { busy = a.busy; begun = v; begins = b; granted = (a.asked, a.waits, a.last); counted = a.counted }
+    opens-asked false u v w s t is b a = absurd cc
 
-  -- it was not to be
-  pub opens-plain : (irrevocable : Bool) (u w : CallerState) (t : Tally) → irrevocable ≡ false → HasBegun good c n u w → Opens good c n irrevocable u w t t
-  opens-plain true u w t is b = absurd cc
-  opens-plain false u w t is b = record { busy = 0; begun = w; begins = b; granted = (refl, refl); counted = refl }
+    -- it was not to be
+    pub opens-plain : (irrevocable : Bool) (u w : CallerState) (t : Account H) → irrevocable ≡ false → HasBegun good c n u w → Opens good c n hears irrevocable u w t t
+    opens-plain true u w t is b = absurd cc
+    opens-plain false u w t is b = record { busy = 0; begun = w; begins = b; granted = (refl, refl); counted = refl }
 
-  -- what it did was refused
-  pub runs-stopped : (e : Ended) (u w : CallerState) (s t : Tally) → t ≡ s → IsStopped good c n e u w → Runs good c n (Some e) u w s t
-  runs-stopped e u w s t same x = record { acted = x.before; acts = x.goes; again = 0; before = x.before; waits = refl; last = inl x.last; counted = same }
+    -- what it did was refused, at the address that the access keeps
+    pub stopped : (stop : Stop) (o : Option Halt) (v w : CallerState) (s t : Account H) → stop_of o ≡ Some stop → Since good c n None v o w
+        → t ≡ told hears (Some (ended_by stop)) (address_of o) s → IsStopped good c n hears (ended_by stop) v w s t
+    stopped stop None v w s t is since counted = absurd cc
+    stopped stop (Some halt) v w s t is since counted =
+        let at = since.1 in
+        let same : halt.stop ≡ stop = some-same is in
+        record {
+          before = at.before;
+          goes = at.carries.grows;
+          at = halt.at;
+          last = stop-refused halt.at stop at.before w (subst (λ (x : Stop). Stops good c n halt.at x at.before w) same at.stops);
+          counted = counted;
+        }
 
-  -- it did what it does, and asked to commit
-  pub runs-finished : (o : Option Ended) (u v w : CallerState) (s t : Tally) → Grows u v → Finishes good c n o v w s t → Runs good c n o u w s t
-  runs-finished None u v w s t grew f = record { acted = v; acts = grew; again = f.again; before = f.before; waits = f.waits; last = f.last; counted = f.counted }
-  runs-finished (Some e) u v w s t grew f = record { acted = v; acts = grew; again = f.again; before = f.before; waits = f.waits; last = inr f.last; counted = f.counted }
+    pub runs-stopped : (e : Ended) (u w : CallerState) (s t : Account H) → IsStopped good c n hears e u w s t → Runs good c n hears (Some e) u w s t
+    runs-stopped e u w s t x = record { acted = x.before; acts = x.goes; again = 0; before = x.before; waits = refl; at = Some x.at; last = x.last; counted = x.counted }
 
-  -- it ran
-  tried-run : (irrevocable : Bool) (o : Option Ended) (u v w : CallerState) (r s t : Tally) → (irrevocable ≡ true → has_committed o ≡ true)
-      → Opens good c n irrevocable u v r s → Runs good c n o v w s t → Tried good c n irrevocable o u w r t
-  tried-run irrevocable o u v w r s t stays opens runs = record {
-    busy = opens.busy;
-    again = runs.again;
-    was =
-        inr (inr (record {
-          begun = opens.begun;
-          begins = opens.begins;
-          opened = v;
-          granted = opens.granted;
-          acted = runs.acted;
-          acts = runs.acts;
-          before = runs.before;
-          again = runs.waits;
-          last = runs.last;
-          irrevocable = stays;
-        }));
-    counted = runs.counted ∙ ap (noted_times runs.again ends.Again) (opens.counted ∙ promoted irrevocable o stays);
-  }
-    where
-      promoted : (i : Bool) (p : Option Ended) → (i ≡ true → has_committed p ≡ true)
-          → (if i then with_promotion (noted_times opens.busy ends.Busy r) else noted_times opens.busy ends.Busy r)
-          ≡ (if i && has_committed p then with_promotion (noted_times opens.busy ends.Busy r) else noted_times opens.busy ends.Busy r)
-      promoted true p h = rw (h refl) refl
-      promoted false p h = refl
+    -- it did what it does, and asked to commit
+    pub runs-finished : (o : Option Ended) (u v w : CallerState) (s t : Account H) → Grows u v → Finishes good c n hears o v w s t → Runs good c n hears o u w s t
+    runs-finished o u v w s t grew f = record { acted = v; acts = grew; again = f.again; before = f.before; waits = f.waits; at = None; last = f.last; counted = f.counted }
 
-  -- by what the attempt answered
-  pub tried-ran : {A E : Type 0} (result : Result A E) (irrevocable : Bool) (e : Ended) (u v w : CallerState) (r s t : Tally)
-      → (irrevocable ≡ true → is_irrevocable v ≡ true) → OnErr result (is_irrevocable v ≡ false) → Opens good c n irrevocable u v r s
-      → MatchResult result (λ _. Runs good c n None v w s t) (λ _. Runs good c n (Some e) v w s t)
-      → MatchResult result (λ _. Tried good c n irrevocable None u w r t) (λ _. Tried good c n irrevocable (Some e) u w r t)
-  tried-ran (Ok x) irrevocable e u v w r s t stays unrefused o runs = tried-run irrevocable None u v w r s t (λ is. refl) o runs
-  tried-ran (Err y) irrevocable e u v w r s t stays unrefused o runs =
-      tried-run irrevocable (Some e) u v w r s t (λ is.
-      let yes : is_irrevocable v ≡ true = stays is in
-      let no : is_irrevocable v ≡ false = unrefused in let wrong : true ≡ false = sym yes ∙ no in absurd cc) o runs
+    -- it ran
+    tried-run : (irrevocable : Bool) (o : Option Ended) (u v w : CallerState) (r s t : Account H) → (irrevocable ≡ true → has_committed o ≡ true)
+        → Opens good c n hears irrevocable u v r s → Runs good c n hears o v w s t → Tried good c n hears irrevocable o u w r t
+    tried-run irrevocable o u v w r s t stays opens runs = record {
+      busy = opens.busy;
+      again = runs.again;
+      at = runs.at;
+      was =
+          inr (inr (record {
+            begun = opens.begun;
+            begins = opens.begins;
+            opened = v;
+            granted = opens.granted;
+            acted = runs.acted;
+            acts = runs.acts;
+            before = runs.before;
+            again = runs.waits;
+            last = runs.last;
+            irrevocable = stays;
+          }));
+      counted = runs.counted ∙ ap (λ (a : Account H). told hears o runs.at (met_times hears runs.again ends.Again a)) (opens.counted ∙ promoted irrevocable o stays);
+    }
+      where
+        promoted : (i : Bool) (p : Option Ended) → (i ≡ true → has_committed p ≡ true)
+            → promoted_in i (met_times hears opens.busy ends.Busy r) ≡ promoted_in (i && has_committed p) (met_times hears opens.busy ends.Busy r)
+        promoted true p h = rw (h refl) refl
+        promoted false p h = refl
+
+    -- by what the attempt answered
+    pub tried-ran : {A E : Type 0} (result : Result A E) (irrevocable : Bool) (e : Ended) (u v w : CallerState) (r s t : Account H)
+        → (irrevocable ≡ true → is_irrevocable v ≡ true) → OnErr result (is_irrevocable v ≡ false) → Opens good c n hears irrevocable u v r s
+        → MatchResult result (λ _. Runs good c n hears None v w s t) (λ _. Runs good c n hears (Some e) v w s t)
+        → MatchResult result (λ _. Tried good c n hears irrevocable None u w r t) (λ _. Tried good c n hears irrevocable (Some e) u w r t)
+    tried-ran (Ok x) irrevocable e u v w r s t stays unrefused o runs = tried-run irrevocable None u v w r s t (λ is. refl) o runs
+    tried-ran (Err y) irrevocable e u v w r s t stays unrefused o runs =
+        tried-run irrevocable (Some e) u v w r s t (λ is.
+        let yes : is_irrevocable v ≡ true = stays is in
+        let no : is_irrevocable v ≡ false = unrefused in let wrong : true ≡ false = sym yes ∙ no in absurd cc) o runs
 
   -- one call more that left it going, made by the same caller
   pub busy-more : (k m : ℕ) (r : Irrev) (caller status : ℕ) (u v w : CallerState) → m ≡ n → FindsBusy good c n k u v → r ≡ grants.Busy caller status → Irrevs good c m r v w → FindsBusy good c n (suc k) u w
@@ -260,6 +274,6 @@ module _ (good : List ℕ → Type 0) (c : Config) (n : ℕ) where
   pub commit-full : (r : Commit) (clock : ℕ) (v w : CallerState) → r ≡ commits.ClockFull clock → Commits good c n r v w → EndsCommit good c n ends.ClockFull v w
   commit-full r clock v w is h = (clock, subst (λ a. Commits good c n a v w) is h)
 
-  pub commit-done : (r : Commit) (v w : CallerState) → ((t : ℕ) × (r ≡ commits.Committed t)) ⊎ ((t : ℕ) × (r ≡ commits.ReadOnly t)) → Commits good c n r v w → FinishesBy good c n None v w
+  pub commit-done : (r : Commit) (v w : CallerState) → ((t : ℕ) × (r ≡ commits.Committed t)) ⊎ ((t : ℕ) × (r ≡ commits.ReadOnly t)) → Commits good c n r v w → EndsRun good c n None None v w
   commit-done r v w (inl p) h = (p.0, inl (subst (λ a. Commits good c n a v w) p.1 h))
   commit-done r v w (inr p) h = (p.0, inr (subst (λ a. Commits good c n a v w) p.1 h))

@@ -2,6 +2,7 @@
 ghost use Rattle.std.specs.Prelude.{◌≡◌, ℕ, IfSome, IfNone, Some, None};
 ghost use Rattle.tx_answers.specs.CallerState.{Grows};
 ghost use Rattle.stm_tx.specs.Descs.{known, number};
+ghost use Rattle.tx_atomic.specs.Accounts.{account};
 ghost use Rattle.tx_atomic.specs.Callers.{IsReady, IsThrough, Took};
 ghost use Rattle.tx_answers.specs.Causes.{FindsFull};
 ghost use Rattle.tx_atomic.specs.Tallies.{CommitsStay, CommitsRise, failed_next};
@@ -48,10 +49,11 @@ pub fn atomically<R: Wait, K: MemRule, T: Transaction<K>, O: Observer>(
     ensures installs { (known desc.new).installs ≡ (known desc.old).installs }
     ensures rested { IfSome result (λ r. IsRested pace.new.backoff) }
     ensures ran { IfSome result (λ r.
-        Ran (K.good stm.now.rule) stm.now.config (number desc.old) None (known desc.old)
-        (known desc.new) pace.old.tally pace.new.tally) }
-    ensures gave_up { IfNone result (Ran (K.good stm.now.rule) stm.now.config (number desc.old)
-        (Some ClockFull) (known desc.old) (known desc.new) pace.old.tally pace.new.tally) }
+        Ran (K.good stm.now.rule) stm.now.config (number desc.old) O.hears None (known desc.old)
+        (known desc.new) (account O.heard pace.old) (account O.heard pace.new)) }
+    ensures gave_up { IfNone result (Ran (K.good stm.now.rule) stm.now.config (number desc.old) O.hears
+        (Some ClockFull) (known desc.old) (known desc.new) (account O.heard pace.old)
+        (account O.heard pace.new)) }
 {
     // most transactions commit at once: the first attempt stands before the loop, and is asked for nothing
     if let Ok(output) = attempt(rt, desc, stm, pace, transaction, false) {

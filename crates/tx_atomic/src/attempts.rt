@@ -4,12 +4,13 @@ ghost use Rattle.stm_rule.specs.Callers.{IsOf, IsSameCaller};
 ghost use Rattle.tx_answers.specs.Answers.{KeepsRule, Commits};
 ghost use Rattle.tx_answers.specs.CallerState.{Grows, IsIdle, is_irrevocable};
 ghost use Rattle.stm_tx.specs.Descs.{known, number, Serves};
+ghost use Rattle.tx_atomic.specs.Accounts.{account, told};
 ghost use Rattle.tx_atomic.specs.Tallies.{CommitsStay};
+ghost use Rattle.tx_atomic.specs.declared.tally.Ended.TheVariants.{Fenced};
 ghost use Rattle.tx_atomic.specs.Attempts.{IsFresh, MayCommit, TookEffect};
 ghost use Rattle.tx_atomic.specs.Callers.{IsReady, IsThrough, Took};
-ghost use Rattle.tx_atomic.specs.Tries.{Tried, Opens, Asks, HasBegun, EndsBegin, IsStopped, Finishes, Runs};
+ghost use Rattle.tx_atomic.specs.Tries.{Tried, Opens, Asks, HasBegun, IsStopped, IsTurnedBack, Finishes, Runs};
 
-use crate::noting::Noting;
 use crate::observer::Observer;
 use crate::pace::{Pacing, Refused};
 use crate::tally::Ended;
@@ -55,10 +56,12 @@ pub fn attempt<R: Wait, K: MemRule, T: Transaction<K>, O: Observer>(
     ensures installs { (known desc.new).installs ≡ (known desc.old).installs }
     ensures tried { MatchResult result
         (λ r.
-        Tried (K.good stm.now.rule) stm.now.config (number desc.old) irrevocable None
-        (known desc.old) (known desc.new) pace.old.tally pace.new.tally) (λ e.
-        Tried (K.good stm.now.rule) stm.now.config (number desc.old) irrevocable
-        (Some pace.new.last) (known desc.old) (known desc.new) pace.old.tally pace.new.tally) }
+        Tried (K.good stm.now.rule) stm.now.config (number desc.old) O.hears irrevocable None
+        (known desc.old) (known desc.new) (account O.heard pace.old)
+        (account O.heard pace.new)) (λ e.
+        Tried (K.good stm.now.rule) stm.now.config (number desc.old) O.hears irrevocable
+        (Some pace.new.last) (known desc.old) (known desc.new) (account O.heard pace.old)
+        (account O.heard pace.new)) }
 {
     if irrevocable {
         return attempt_irrevocable(rt, desc, stm, pace, transaction);
@@ -92,10 +95,12 @@ fn attempt_by<R: Wait, K: MemRule, T: Transaction<K>, A: Algorithm, O: Observer>
     ensures installs { (known desc.new).installs ≡ (known desc.old).installs }
     ensures tried { MatchResult result
         (λ r.
-        Tried (K.good stm.now.rule) stm.now.config (number desc.old) false None
-        (known desc.old) (known desc.new) pace.old.tally pace.new.tally) (λ e.
-        Tried (K.good stm.now.rule) stm.now.config (number desc.old) false
-        (Some pace.new.last) (known desc.old) (known desc.new) pace.old.tally pace.new.tally) }
+        Tried (K.good stm.now.rule) stm.now.config (number desc.old) O.hears false None
+        (known desc.old) (known desc.new) (account O.heard pace.old)
+        (account O.heard pace.new)) (λ e.
+        Tried (K.good stm.now.rule) stm.now.config (number desc.old) O.hears false
+        (Some pace.new.last) (known desc.old) (known desc.new) (account O.heard pace.old)
+        (account O.heard pace.new)) }
 {
     begin::<A, K, O>(desc, stm, pace)?;
     run(calls, rt, desc, stm, pace, transaction)
@@ -122,10 +127,12 @@ fn attempt_irrevocable<R: Wait, K: MemRule, T: Transaction<K>, O: Observer>(
     ensures installs { (known desc.new).installs ≡ (known desc.old).installs }
     ensures tried { MatchResult result
         (λ r.
-        Tried (K.good stm.now.rule) stm.now.config (number desc.old) true None
-        (known desc.old) (known desc.new) pace.old.tally pace.new.tally) (λ e.
-        Tried (K.good stm.now.rule) stm.now.config (number desc.old) true
-        (Some pace.new.last) (known desc.old) (known desc.new) pace.old.tally pace.new.tally) }
+        Tried (K.good stm.now.rule) stm.now.config (number desc.old) O.hears true None
+        (known desc.old) (known desc.new) (account O.heard pace.old)
+        (account O.heard pace.new)) (λ e.
+        Tried (K.good stm.now.rule) stm.now.config (number desc.old) O.hears true
+        (Some pace.new.last) (known desc.old) (known desc.new) (account O.heard pace.old)
+        (account O.heard pace.new)) }
 {
     open(rt, desc, stm, pace)?;
     run_looking_up(rt, desc, stm, pace, transaction)
@@ -150,11 +157,12 @@ fn open<R: Wait, K: MemRule, O: Observer>(
     ensures over { OnErr result (IsIdle (known desc.new)) }
     ensures installs { (known desc.new).installs ≡ (known desc.old).installs }
     ensures opens { OnOk result
-        (Opens (K.good stm.now.rule) stm.now.config (number desc.old) true (known desc.old)
-        (known desc.new) pace.old.tally pace.new.tally) }
+        (Opens (K.good stm.now.rule) stm.now.config (number desc.old) O.hears true (known desc.old)
+        (known desc.new) (account O.heard pace.old) (account O.heard pace.new)) }
     ensures tried { OnErr result
-        (Tried (K.good stm.now.rule) stm.now.config (number desc.old) true (Some pace.new.last)
-        (known desc.old) (known desc.new) pace.old.tally pace.new.tally) }
+        (Tried (K.good stm.now.rule) stm.now.config (number desc.old) O.hears true (Some pace.new.last)
+        (known desc.old) (known desc.new) (account O.heard pace.old)
+        (account O.heard pace.new)) }
 {
     begin::<Cgl, K, O>(desc, stm, pace)?;
     promote(rt, desc, stm, pace)?;
@@ -173,7 +181,8 @@ fn begin<A: Algorithm, K: MemRule, O: Observer>(
     ensures same { IsSameCaller desc.old desc.new }
     ensures made { (known desc.new).made ≡ (known desc.old).made }
     ensures grew { Grows (known desc.old) (known desc.new) }
-    ensures uncounted { pace.new.tally ≡ pace.old.tally }
+    ensures uncounted { CommitsStay pace.old.tally pace.new.tally }
+    ensures untold { OnOk result (account O.heard pace.new ≡ account O.heard pace.old) }
     ensures fresh { OnOk result (IsFresh (known desc.new)) }
     ensures later { OnOk result ((known desc.old).front ≤ (known desc.new).start) }
     ensures over { OnErr result (IsIdle (known desc.new)) }
@@ -182,8 +191,9 @@ fn begin<A: Algorithm, K: MemRule, O: Observer>(
         (HasBegun (K.good stm.now.rule) stm.now.config (number desc.old) (known desc.old)
         (known desc.new)) }
     ensures refused { OnErr result
-        (EndsBegin (K.good stm.now.rule) stm.now.config (number desc.old) pace.new.last
-        (known desc.old) (known desc.new)) }
+        (IsTurnedBack (K.good stm.now.rule) stm.now.config (number desc.old) O.hears pace.new.last
+        (known desc.old) (known desc.new) (account O.heard pace.old)
+        (account O.heard pace.new)) }
 {
     match try_begin_as::<A, K>(desc, stm) {
         Begin::Begun(_) => {
@@ -214,8 +224,9 @@ fn turn_back<K: MemRule, O: Observer>(
     ensures commits { (answer : Commit)
         × Commits (K.good stm.now.rule) stm.now.config (number desc.old) answer (known desc.old)
         (known desc.new) }
-    ensures tally { pace.new.tally ≡ pace.old.tally }
-    ensures last { pace.new.last ≡ Ended.Fenced }
+    ensures told { account O.heard pace.new
+        ≡ told O.hears (Some Fenced) None (account O.heard pace.old) }
+    ensures last { pace.new.last ≡ Fenced }
 {
     commit(desc, stm);
     pace.refuse(Ended::Fenced, None)
@@ -244,10 +255,11 @@ fn promote<R: Wait, K: MemRule, O: Observer>(
     ensures installs { (known desc.new).installs ≡ (known desc.old).installs }
     ensures asks { MatchResult result
         (λ r.
-        Asks (K.good stm.now.rule) stm.now.config (number desc.old) None (known desc.old)
-        (known desc.new) pace.old.tally pace.new.tally) (λ e.
-        Asks (K.good stm.now.rule) stm.now.config (number desc.old) (Some pace.new.last)
-        (known desc.old) (known desc.new) pace.old.tally pace.new.tally) }
+        Asks (K.good stm.now.rule) stm.now.config (number desc.old) O.hears None (known desc.old)
+        (known desc.new) (account O.heard pace.old) (account O.heard pace.new)) (λ e.
+        Asks (K.good stm.now.rule) stm.now.config (number desc.old) O.hears (Some pace.new.last)
+        (known desc.old) (known desc.new) (account O.heard pace.old)
+        (account O.heard pace.new)) }
 {
     for _ in rt.forever() {
         match try_irrevocable(desc, stm) {
@@ -297,10 +309,11 @@ fn run<R: Wait, K: MemRule, T: Transaction<K>, A: Algorithm, O: Observer>(
     ensures installs { (known desc.new).installs ≡ (known desc.old).installs }
     ensures runs { MatchResult result
         (λ r.
-        Runs (K.good stm.now.rule) stm.now.config (number desc.old) None (known desc.old)
-        (known desc.new) pace.old.tally pace.new.tally) (λ e.
-        Runs (K.good stm.now.rule) stm.now.config (number desc.old) (Some pace.new.last)
-        (known desc.old) (known desc.new) pace.old.tally pace.new.tally) }
+        Runs (K.good stm.now.rule) stm.now.config (number desc.old) O.hears None (known desc.old)
+        (known desc.new) (account O.heard pace.old) (account O.heard pace.new)) (λ e.
+        Runs (K.good stm.now.rule) stm.now.config (number desc.old) O.hears (Some pace.new.last)
+        (known desc.old) (known desc.new) (account O.heard pace.old)
+        (account O.heard pace.new)) }
     ensures unrefused { OnErr result (is_irrevocable (known desc.old) ≡ false) }
 {
     if algorithm(desc) == A::which() {
@@ -335,10 +348,11 @@ fn run_looking_up<R: Wait, K: MemRule, T: Transaction<K>, O: Observer>(
     ensures installs { (known desc.new).installs ≡ (known desc.old).installs }
     ensures runs { MatchResult result
         (λ r.
-        Runs (K.good stm.now.rule) stm.now.config (number desc.old) None (known desc.old)
-        (known desc.new) pace.old.tally pace.new.tally) (λ e.
-        Runs (K.good stm.now.rule) stm.now.config (number desc.old) (Some pace.new.last)
-        (known desc.old) (known desc.new) pace.old.tally pace.new.tally) }
+        Runs (K.good stm.now.rule) stm.now.config (number desc.old) O.hears None (known desc.old)
+        (known desc.new) (account O.heard pace.old) (account O.heard pace.new)) (λ e.
+        Runs (K.good stm.now.rule) stm.now.config (number desc.old) O.hears (Some pace.new.last)
+        (known desc.old) (known desc.new) (account O.heard pace.old)
+        (account O.heard pace.new)) }
     ensures unrefused { OnErr result (is_irrevocable (known desc.old) ≡ false) }
 {
     run_by(AnyAlgorithm, rt, desc, stm, pace, transaction)
@@ -370,22 +384,22 @@ fn run_by<R: Wait, K: MemRule, T: Transaction<K>, C: Calls + Drop, O: Observer>(
     ensures installs { (known desc.new).installs ≡ (known desc.old).installs }
     ensures runs { MatchResult result
         (λ r.
-        Runs (K.good stm.now.rule) stm.now.config (number desc.old) None (known desc.old)
-        (known desc.new) pace.old.tally pace.new.tally) (λ e.
-        Runs (K.good stm.now.rule) stm.now.config (number desc.old) (Some pace.new.last)
-        (known desc.old) (known desc.new) pace.old.tally pace.new.tally) }
+        Runs (K.good stm.now.rule) stm.now.config (number desc.old) O.hears None (known desc.old)
+        (known desc.new) (account O.heard pace.old) (account O.heard pace.new)) (λ e.
+        Runs (K.good stm.now.rule) stm.now.config (number desc.old) O.hears (Some pace.new.last)
+        (known desc.old) (known desc.new) (account O.heard pace.old)
+        (account O.heard pace.new)) }
     ensures unrefused { OnErr result (is_irrevocable (known desc.old) ≡ false) }
 {
-    let noting = Noting::of(calls);
-    let output = act(&noting, desc, stm, pace, transaction)?;
-    end(&noting.calls, rt, desc, stm, pace)?;
+    let output = act(&calls, desc, stm, pace, transaction)?;
+    end(&calls, rt, desc, stm, pace)?;
     Ok(output)
 }
 
 /// Does the transaction in a running attempt, by these reads and writes.
 #[inline(always)]
 fn act<K: MemRule, T: Transaction<K>, C: Calls, O: Observer>(
-    calls: &Noting<C>,
+    calls: &C,
     desc: &mut Desc<K>,
     stm: &Stm<K>,
     pace: &mut Pacing<O>,
@@ -398,7 +412,8 @@ fn act<K: MemRule, T: Transaction<K>, C: Calls, O: Observer>(
     ensures same { IsSameCaller desc.old desc.new }
     ensures made { (known desc.new).made ≡ (known desc.old).made }
     ensures grew { Grows (known desc.old) (known desc.new) }
-    ensures uncounted { pace.new.tally ≡ pace.old.tally }
+    ensures uncounted { CommitsStay pace.old.tally pace.new.tally }
+    ensures untold { OnOk result (account O.heard pace.new ≡ account O.heard pace.old) }
     ensures later { OnOk result ((known desc.old).start ≤ (known desc.new).start) }
     ensures algorithm { OnOk result ((known desc.new).alg ≡ (known desc.old).alg) }
     ensures granted { OnOk result ((known desc.new).granted ≡ (known desc.old).granted) }
@@ -408,8 +423,9 @@ fn act<K: MemRule, T: Transaction<K>, C: Calls, O: Observer>(
     ensures over { OnErr result (IsIdle (known desc.new)) }
     ensures installs { (known desc.new).installs ≡ (known desc.old).installs }
     ensures stopped { OnErr result
-        (IsStopped (K.good stm.now.rule) stm.now.config (number desc.old) pace.new.last
-        (known desc.old) (known desc.new)) }
+        (IsStopped (K.good stm.now.rule) stm.now.config (number desc.old) O.hears pace.new.last
+        (known desc.old) (known desc.new) (account O.heard pace.old)
+        (account O.heard pace.new)) }
     ensures unrefused { OnErr result (is_irrevocable (known desc.old) ≡ false) }
     ensures irrevocable { OnOk result
         (is_irrevocable (known desc.old) ≡ true → is_irrevocable (known desc.new) ≡ true) }
@@ -422,7 +438,7 @@ fn act<K: MemRule, T: Transaction<K>, C: Calls, O: Observer>(
     };
     match transaction.run(&stm.rule, &mut memory) {
         Ok(output) => Ok(output),
-        Err(stop) => Err(pace.refuse(Ended::by(stop), calls.at.get())),
+        Err(stop) => Err(pace.refuse(Ended::by(stop), memory.address())),
     }
 }
 
@@ -449,10 +465,11 @@ fn end<R: Wait, K: MemRule, C: Calls, O: Observer>(
     ensures installs { (known desc.new).installs ≡ (known desc.old).installs }
     ensures finishes { MatchResult result
         (λ r.
-        Finishes (K.good stm.now.rule) stm.now.config (number desc.old) None (known desc.old)
-        (known desc.new) pace.old.tally pace.new.tally) (λ e.
-        Finishes (K.good stm.now.rule) stm.now.config (number desc.old) (Some pace.new.last)
-        (known desc.old) (known desc.new) pace.old.tally pace.new.tally) }
+        Finishes (K.good stm.now.rule) stm.now.config (number desc.old) O.hears None (known desc.old)
+        (known desc.new) (account O.heard pace.old) (account O.heard pace.new)) (λ e.
+        Finishes (K.good stm.now.rule) stm.now.config (number desc.old) O.hears (Some pace.new.last)
+        (known desc.old) (known desc.new) (account O.heard pace.old)
+        (account O.heard pace.new)) }
     ensures unrefused { OnErr result (is_irrevocable (known desc.old) ≡ false) }
 {
     for _ in rt.forever() {

@@ -7,7 +7,6 @@ pub mod atomically;
 pub mod attempts;
 pub mod laws;
 mod napping;
-pub mod noting;
 pub mod observer;
 pub mod pace;
 pub mod switching;

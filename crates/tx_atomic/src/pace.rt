@@ -62,13 +62,16 @@ impl<O> Pacing<O> {
 }
 
 impl<O: Observer> Pacing<O> {
-    ghost use Rattle.tx_atomic.specs.Tallies.{CommitsStay, with_commit, with_promotion, noted};
+    ghost use Rattle.std.specs.Prelude.{true, Some, None};
+    ghost use Rattle.tx_atomic.specs.Accounts.{account, ended_in, met, promoted_in, told};
+    ghost use Rattle.tx_atomic.specs.Tallies.{CommitsStay};
     ghost use Rattle.tx_atomic.specs.declared.tally.Ended.TheVariants.{Again};
     ghost use Rattle.tx_backoff.specs.Pauses.{IsRested};
 
     /// Tells the observer what an attempt or a call of it was refused by, and where.
     pub fn tell(&mut self, ended: Ended, at: Option<usize>)
-        ensures { self.new.tally ≡ self.old.tally }
+        ensures { account O.heard self.new
+            ≡ told O.hears (Some ended) at (account O.heard self.old) }
     {
         self.observer.refused(ended, at);
     }
@@ -76,7 +79,8 @@ impl<O: Observer> Pacing<O> {
     /// Tells the observer what an attempt was refused by, and where, and keeps it.
     #[cold]
     pub fn refuse(&mut self, ended: Ended, at: Option<usize>) -> Refused
-        ensures tally { self.new.tally ≡ self.old.tally }
+        ensures told { account O.heard self.new
+            ≡ told O.hears (Some ended) at (account O.heard self.old) }
         ensures last { self.new.last ≡ ended }
     {
         self.tell(ended, at);
@@ -87,7 +91,8 @@ impl<O: Observer> Pacing<O> {
     /// Counts what an attempt or a call of it came to, and pauses: longer where a lock was held. Where another has closed the
     /// gate, or a range is out, that may last: the caller sleeps after a while, until the gate is reopened.
     pub fn wait<R: Wait, K: MemRule>(&mut self, rt: &R, stm: &Stm<K>, caller: usize, ended: Ended)
-        ensures noted { self.new.tally ≡ noted ended self.old.tally }
+        ensures noted { account O.heard self.new
+            ≡ ended_in (Some ended) (account O.heard self.old) }
         ensures commits { CommitsStay self.old.tally self.new.tally }
     {
         self.tally.note(ended);
@@ -102,7 +107,7 @@ impl<O: Observer> Pacing<O> {
     /// lock yet.
     #[cold]
     pub fn wait_at_commit(&mut self, locked: bool)
-        ensures noted { self.new.tally ≡ noted Again self.old.tally }
+        ensures noted { account O.heard self.new ≡ met O.hears Again (account O.heard self.old) }
         ensures commits { CommitsStay self.old.tally self.new.tally }
     {
         self.tell(Ended::Again, None);
@@ -116,7 +121,7 @@ impl<O: Observer> Pacing<O> {
 
     /// Counts a commit: the next pause is the shortest.
     pub fn get_on(&mut self)
-        ensures counted { self.new.tally ≡ with_commit self.old.tally }
+        ensures counted { account O.heard self.new ≡ ended_in None (account O.heard self.old) }
         ensures rested { IsRested self.new.backoff }
     {
         self.tally.commit();
@@ -125,7 +130,7 @@ impl<O: Observer> Pacing<O> {
 
     /// Counts an attempt that was made irrevocable.
     pub fn promote(&mut self)
-        ensures { self.new.tally ≡ with_promotion self.old.tally }
+        ensures { account O.heard self.new ≡ promoted_in true (account O.heard self.old) }
     {
         self.tally.promote();
     }

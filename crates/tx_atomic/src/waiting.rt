@@ -14,6 +14,7 @@ ghost use Rattle.stm_model.specs.Logs.{Log};
 ghost use Rattle.tx_answers.specs.Causes.{FindsFull};
 ghost use Rattle.tx_answers.specs.CallerState.{Grows};
 ghost use Rattle.stm_tx.specs.Descs.{known, number};
+ghost use Rattle.tx_atomic.specs.Accounts.{account};
 ghost use Rattle.tx_atomic.specs.Callers.{IsReady, IsThrough, Took};
 ghost use Rattle.tx_atomic.specs.declared.tally.Ended.TheVariants.{ClockFull};
 ghost use Rattle.tx_atomic.specs.Tries.{RanAgain};
@@ -58,10 +59,11 @@ pub fn until_some<R: Wait, K: MemRule, V: Drop, T: Transaction<K, Output = Optio
     ensures full { IfNone result ((clock : ℕ) × FindsFull clock (known desc.old) (known desc.new)) }
     ensures installs { (known desc.new).installs ≡ (known desc.old).installs }
     ensures ran { IfSome result (λ v.
-        RanAgain (K.good stm.now.rule) stm.now.config (number desc.old) None (known desc.old)
-        (known desc.new) pace.old.tally pace.new.tally) }
-    ensures gave_up { IfNone result (RanAgain (K.good stm.now.rule) stm.now.config (number desc.old)
-        (Some ClockFull) (known desc.old) (known desc.new) pace.old.tally pace.new.tally) }
+        RanAgain (K.good stm.now.rule) stm.now.config (number desc.old) O.hears None (known desc.old)
+        (known desc.new) (account O.heard pace.old) (account O.heard pace.new)) }
+    ensures gave_up { IfNone result (RanAgain (K.good stm.now.rule) stm.now.config (number desc.old) O.hears
+        (Some ClockFull) (known desc.old) (known desc.new) (account O.heard pace.old)
+        (account O.heard pace.new)) }
 {
     let watched = Watched { transaction };
     let mut backoff = Backoff::new();

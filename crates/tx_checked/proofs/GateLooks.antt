@@ -60,23 +60,6 @@ module _ (c : Config) (n : ℕ) where
     unentered = λ e. out.clear.unentered;
   })
 
-  pub outside-again : (gate : ℕ) (v s t w : View) → IsOutside v → Tells (announce n) Nothing v 1 s → Tells load_gate (FindsGate c n) s gate t → Tells (depart n) Nothing t 0 w → IsOutside w
-  outside-again gate v s t w out a l d = subst IsOutside (sym (left-at gate v s t w a l d)) (record {
-    phase = idle-then (holder_of gate == 0);
-    reopened = out.reopened;
-    ungranted = out.ungranted;
-    clear =
-        record {
-          unlocked = out.clear.unlocked;
-          unfixed = out.clear.unfixed;
-          disowned = out.clear.disowned;
-          unwritten = out.clear.unwritten;
-          uncommitted = out.clear.uncommitted;
-          unentered = out.clear.unentered;
-        };
-    unentered = refl;
-  })
-
   pub looks : (gate : ℕ) (v s t w : View) (o : Own) → n < c.callers → IsOutside v → Tells (announce n) Nothing v 1 s → Tells load_gate (FindsGate c n) s gate t → Tells (depart n) Nothing t 0 w
       → LooksAtGate c n gate (known_of v o) (known_of w o)
   looks gate v s t w o low out a l d = subst (λ (y : View). LooksAtGate c n gate (known_of v o) (known_of y o)) (sym (left-at gate v s t w a l d)) (record {
@@ -135,17 +118,6 @@ module _ (c : Config) (n : ℕ) where
     sole = λ one. k.sole one ∙ l.stays.sole one;
   }
   closes-after (Taken found) gate u v w l k = (stays-after u v w l.stays k.0, found-earlier Gate found u v w k.1 l.steps l.step_trace, k.2, k.3)
-
-  -- what a look that lets nobody through tells
-  pub gate-closed : (closing : Bool) (gate : ℕ) (v w : CallerState) → closing ≡ false → LooksAtGate c n gate v w → holder_of gate ≢ 0 → IsTakeRefused c n closing (refusals.GateClosed gate) v w
-  gate-closed closing gate v w first l other = (first, (l.stays, (l.steps, l.step_trace, Load, l.found), (l.closer other).0, (l.closer other).1))
-
-  pub range-seen : (closing : Bool) (gate : ℕ) (v w : CallerState) → closing ≡ false → LooksAtGate c n gate v w → holder_of gate ≡ 0 → fence_of gate ≢ 0 → IsTakeRefused c n closing (refusals.RangeTaken gate) v w
-  range-seen closing gate v w first l zero out = inl (first, record { looks = l; open_gate = zero; out = out })
-
-  pub none-seen : (closing : Bool) (gate : ℕ) (v w : CallerState) → closing ≡ false → LooksAtGate c n gate v w → fence_of gate ≡ 0 → HasLookedBy c n closing v w
-  none-seen true gate v w first l zero = absurd (let no : true ≡ false = first in cc)
-  none-seen false gate v w first l zero = (gate, l, zero)
 
   -- and the closing after one that does
   pub closed-after : (closing : Bool) (u v w : CallerState) → HasLookedBy c n closing u v → HasClosedBy c n closing v w → HasClosedBy c n closing u w

@@ -13,6 +13,7 @@ use Rattle.stm_model.specs.HistoryLaws.{memory_at-early, memory_at-past, memory_
 use Rattle.stm_model.specs.Logs.{Log}
 use Rattle.stm_model.specs.Memories.{overlay, Explains, is_empty}
 use Rattle.stm_model.specs.Overlays.{overlay-length}
+use Rattle.tx_jobs.specs.Counts.{over-same, numbered}
 use Rattle.tx_jobs.specs.Deeds.{IsDeed, AreDeeds, HasDone, deeds_by, Leads, over, InOrder, InOneOrder}
 use Rattle.tx_jobs.specs.Gathered.{listed, Listed, none_yet, one_more, Gathered}
 use Rattle.tx_jobs.specs.Known.{Known}
@@ -94,6 +95,11 @@ gathered-are {V} {tells} {count} {u} {xs} {w} f is gathered = by xs gathered.las
         let more = map-range_with_len_more f 0 (length ys) (length ys) (omega arith) in
         ap (λ l. l ++ x ∷ []) (by ys v each) ∙ (ap (λ y. map f (range_with_len 0 (length ys)) ++ y ∷ []) (is (length ys) x v w told)
         ∙ (sym more ∙ ap (λ k. map f (range_with_len 0 k)) (sym (length-append ys (x ∷ [])))))
+
+-- so where they are numbers from one on
+pub gathered-range : {tells : ℕ → Option ℕ → Known → Known → Type 0} {count : ℕ} {u : Known} {xs : List ℕ} {w : Known} (from : ℕ)
+    → ((k x : ℕ) (v w : Known) → tells k (Some x) v w → x ≡ from + k) → Gathered tells count u xs w → xs ≡ range_with_len from (length xs)
+gathered-range {xs = xs} from is gathered = gathered-are (λ i. from + i) is gathered ∙ numbered from (length xs)
 
 -- of a caller that had made nothing, the entries that it has made
 all-made : {D : Type 0} {does : D → Log → Type 0} {ds : List D} {before after : List Entry} (es : List Entry) → HasDone does ds before after → before ≡ [] → after ≡ es → AreDeeds does es ds
@@ -200,10 +206,6 @@ in-order good words view moves opening floor history own long legal are =
     }
 
 -- SUMS over callers
-over-same : (k : ℕ) (f g : ℕ → ℕ) → ((n : ℕ) → n < k → f n ≡ g n) → over k f ≡ over k g
-over-same zero f g same = refl
-over-same (suc k) f g same = let here = same k (omega arith) in let more = over-same k f g (λ n lt. same n (omega (arith, lt))) in omega (arith, here, more)
-
 over-none : (k : ℕ) → over k (λ n. 0) ≡ 0
 over-none zero = refl
 over-none (suc k) = let more = over-none k in omega (arith, more)

@@ -13,4 +13,5 @@ pub use Rattle.tx_jobs.specs.Gathered.{listed, Gathered}
 pub use Rattle.tx_jobs.specs.Stories.{Past, IsStory, Came}
 pub use Rattle.tx_jobs.specs.StoryLaws.{story, by-came}
 pub use Rattle.tx_jobs.specs.Deeds.{IsDeed, AreDeeds, HasDone, deeds_by, Leads, over, InOrder, InOneOrder}
-pub use Rattle.tx_jobs.specs.DeedLaws.{done-none, done-then, did, did-nothing, gathered-did, gathered-are, in-order, in-one-order, conserved}
+pub use Rattle.tx_jobs.specs.DeedLaws.{done-none, done-then, did, did-nothing, gathered-did, gathered-are, gathered-range, in-order, in-one-order, conserved}
+pub use Rattle.tx_jobs.specs.Counts.{sum-mapped, sum-nothing, times, times-first, times-last, hit, times-range, over-same, over-most, over-list}

@@ -7,5 +7,6 @@ pub mod Stories
 pub mod StoryLaws
 pub mod Gathered
 pub mod Deeds
+pub mod Counts
 pub mod DeedLaws
 pub mod Jobs

@@ -34,7 +34,7 @@ granted m k h =
     let told : IsIrrevocable m k grants.Granted = h.2 in
     let tries : TriesIrrevocable Any (config_of m) (number_of m) (known_to m) (known_to k) = told.0 in
     record {
-      nothing = record { same = h.1; made = tries.continues.made; grows = tries.continues.grows };
+      nothing = record { same = h.1; made = tries.continues.made; grows = tries.continues.grows; holds = (told.1, tries.continues.installs) };
       runs = (tries.continues.running, tries.uncommitted);
       irrevocable = tries.irrevocable;
       log = tries.log;

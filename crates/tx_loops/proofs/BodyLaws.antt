@@ -2,7 +2,7 @@
 use Rattle.std.proofs.Common.{ℕ, ◌≡◌, ◌∙◌, ◌<◌, List, [], ◌∷◌, length, get_or, take, true, false, refl, sym, ap, subst, arith}
 use Rattle.std.proofs.lemmas.List.{get_or-map, length-map}
 use Rattle.std.proofs.lemmas.List.Elements.{All-cons, All-get_or, All-head, All-nil, All-same, All-tail, All-take}
-use Rattle.std.specs.Prelude.{Bool, None, not, if◌then◌else◌, ◌==◌}
+use Rattle.std.specs.Prelude.{Bool, Option, None, not, if◌then◌else◌, ◌==◌}
 use Rattle.tx_logs.specs.LogStates.{firsts}
 use Rattle.stm_model.specs.Algorithms.{irrevocable_under}
 use Rattle.stm_model.specs.declared.alg.Alg.{Alg}
@@ -16,7 +16,9 @@ use Rattle.tx_answers.specs.CallerState.{CallerState, Grows, IsIdle, IsRunning, 
 use Rattle.tx_checked.specs.declared.phase.CallerPhase.{CallerPhase}
 use Rattle.tx_checked.specs.declared.phase.CallerPhase.TheVariants as phases
 use Rattle.tx_checked.specs.Misuses.{access_at, inside_at, running_at}
+use Rattle.tx_checked.specs.declared.refusal.Refusal.{Refusal}
 use Rattle.tx_checked.specs.Phases.{IsInPhase}
+use Rattle.tx_checked.specs.Tells.{commit_refusal}
 use Rattle.tx_loops.specs.Stages.{EachSpared, IsDirect, IsSpared, takes_back}
 
 -- a caller that runs stands so
@@ -59,12 +61,12 @@ blank-wrote v blank = ap (λ ws. not (is_empty ws)) blank
 
 module _ (good : List ℕ → Type 0) (c : Config) (n : ℕ) where
   -- the commit of an attempt that has written nothing ends it
-  pub blank-commits : (r : Commit) (v w : CallerState) → v.log.writes ≡ [] → Commits good c n r v w → IsIdle w × (w.made ≡ v.made) × Grows v w
+  pub blank-commits : (r : Commit) (v w : CallerState) → v.log.writes ≡ [] → Commits good c n r v w → IsIdle w × (w.made ≡ v.made) × Grows v w × (w.installs ≡ v.installs) × ((o : Option Refusal) → commit_refusal r o ≡ o)
   blank-commits (commits.Committed time) v w blank h = absurd (let no : false ≡ true = sym (blank-wrote v blank) ∙ h.wrote in cc)
-  blank-commits (commits.ReadOnly time) v w blank h = (h.0.ends.idle, h.0.made, h.0.ends.grows)
-  blank-commits (commits.Conflict cause) v w blank h = (h.0.ends.idle, h.0.made, h.0.ends.grows)
+  blank-commits (commits.ReadOnly time) v w blank h = (h.0.ends.idle, h.0.made, h.0.ends.grows, h.0.ends.installs, λ o. refl)
+  blank-commits (commits.Conflict cause) v w blank h = absurd (let no : false ≡ true = sym (blank-wrote v blank) ∙ h.3 in cc)
   blank-commits (commits.Again word had now) v w blank h = absurd (let no : false ≡ true = sym (blank-wrote v blank) ∙ h.8 in cc)
-  blank-commits (commits.ClockFull clock) v w blank h = (h.0.ends.idle, h.0.made, h.0.ends.grows)
+  blank-commits (commits.ClockFull clock) v w blank h = absurd (let no : false ≡ true = sym (blank-wrote v blank) ∙ h.2 in cc)
 
 -- addresses that are spared
 pub spared-put : (words fence a x : ℕ) (ws : List (ℕ × ℕ)) → IsSpared words fence a → EachSpared words fence ws → EachSpared words fence (put a x ws)

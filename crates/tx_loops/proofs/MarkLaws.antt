@@ -22,9 +22,10 @@ pub record StaysMarked (v w : CallerState) : Type 0 where
   pub running : w.running ≡ v.running
   pub committing : w.committing ≡ v.committing
   pub irrevocable : is_irrevocable w ≡ is_irrevocable v
+  pub installs : w.installs ≡ v.installs
 
 stays-same : (v : CallerState) → StaysMarked v v
-stays-same v = record { made = refl; grows = grows-refl v; log = refl; running = refl; committing = refl; irrevocable = refl }
+stays-same v = record { made = refl; grows = grows-refl v; log = refl; running = refl; committing = refl; irrevocable = refl; installs = refl }
 
 stays-marked : (r : Check) (v w : CallerState) → Checks r v w → StaysMarked v w
 stays-marked (checks.Deep limit) v w h = subst (λ (u : CallerState). StaysMarked v u) (sym h.2) (stays-same v)
@@ -48,6 +49,7 @@ stays-marked (checks.Marked depth) v w h =
       running = refl;
       committing = refl;
       irrevocable = refl;
+      installs = refl;
     })
 
 -- made or not, a mark leaves all but the marks
@@ -59,5 +61,5 @@ pub marked : (m n : CheckedCaller) (r : Result Check Misuse) → Tells (running 
 marked m n (Ok answer) h =
     let told : HasMarked m n answer = h.2 in
     let stays = stays-marked answer (known_to m) (known_to n) told.0 in
-    record { nothing = record { same = h.1; made = stays.made; grows = stays.grows }; stays = stays }
+    record { nothing = record { same = h.1; made = stays.made; grows = stays.grows; holds = (told.1, stays.installs) }; stays = stays }
 marked m n (Err e) h = subst (λ (k : CheckedCaller). Marked m k) (sym h.1) (record { nothing = nothing-refl m; stays = stays-same (known_to m) })

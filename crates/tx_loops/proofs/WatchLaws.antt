@@ -1,17 +1,17 @@
 -- Laws of a wait that was announced.
-use Rattle.std.proofs.Common.{◌≡◌, ◌≢◌, ◌≤◌, ◌∙◌, true, false, refl, sym, ap, subst, inl, inr}
+use Rattle.std.proofs.Common.{◌≡◌, ◌≢◌, ◌∙◌, true, false, refl, sym, ap, subst, inl, inr}
 use Rattle.std.specs.Prelude.{Bool, ◌⊎◌, IfSome, Option, None, Some, is_some, Result, Ok, Err}
-use Rattle.tx_checked.specs.CheckedCallers.{known_to}
 use Rattle.tx_checked.specs.declared.checked_caller.CheckedCaller.{CheckedCaller}
 use Rattle.tx_checked.specs.declared.misuse.Misuse.{Misuse}
 use Rattle.tx_checked.specs.declared.refusal.Refusal.{Refusal}
+use Rattle.tx_checked.specs.declared.refusal.Refusal.TheVariants as refusals
 use Rattle.tx_checked.specs.Misuses.{outside}
 use Rattle.tx_loops.specs.declared.looping_caller.LoopingCaller.{LoopingCaller}
 use Rattle.tx_loops.specs.declared.turn.Turn.{Turn}
 use Rattle.tx_loops.specs.declared.turn.Turn.TheVariants as turns
 use Rattle.tx_loops.specs.declared.watch.Watch.{Watch}
-use Rattle.tx_loops.specs.Loops.{DoneSays, FinishSays, IsOut, MadeNothing, MayRun, OpenSays}
-use Rattle.tx_loops.specs.Turns.{IsAfterRefusal}
+use Rattle.tx_loops.specs.Loops.{DoneSays, FinishSays, OpenSays, Opens}
+use Rattle.tx_loops.specs.Turns.{IsAfter, IsAfterRefusal, IsPause}
 use Rattle.tx_loops.specs.declared.plan.Plan.{Plan}
 use Rattle.tx_loops.specs.Stages.{has_body}
 use Rattle.tx_loops.specs.Waits.{HasLooked, KeepsWatch}
@@ -66,24 +66,9 @@ since m k (Some w) same from out (inr q) = inr (q.0 ∙ same, out)
 pub keeps_after : (m k n : LoopingCaller) → k.caller ≡ m.caller → WatchesFrom m.caller k.plan.watch → outside m.caller ≡ None → KeepsWatch k n → KeepsWatch m n
 keeps_after m k n same from out h = since m k n.plan.watch same from out h
 
-still-out : (m k n : LoopingCaller) → k.caller ≡ m.caller → k.stage ≡ m.stage → IsOut k n → IsOut m n
-still-out m k n same stage h = record {
-  nothing = subst (λ (c : CheckedCaller). MadeNothing c n.caller) same h.nothing;
-  stage = h.stage;
-  idle = λ i. h.idle (λ e. i (sym stage ∙ e));
-}
-
-pub open_after : (m k n : LoopingCaller) (r : Result Turn Misuse) → k.caller ≡ m.caller → k.stage ≡ m.stage → outside m.caller ≡ None → OpenSays k n r → OpenSays m n r
-open_after m k n (Ok turns.Run) same stage out h = subst (λ (c : CheckedCaller). MadeNothing c n.caller × MayRun n × ((known_to c).front ≤ (known_to n.caller).start)) same h
-open_after m k n (Ok (turns.Pause times)) same stage out h = (subst (λ (c : CheckedCaller). MadeNothing c n.caller) same h.0, h.1)
-open_after m k n (Ok turns.ClockFull) same stage out h = (still-out m k n same stage h.0, h.1)
-open_after m k n (Ok turns.Full) same stage out h = (still-out m k n same stage h.0, h.1)
-open_after m k n (Ok turns.Done) same stage out h = absurd h
-open_after m k n (Ok turns.Over) same stage out h = absurd h
-open_after m k n (Ok turns.Memory) same stage out h = absurd h
-open_after m k n (Ok turns.Irrevocable) same stage out h = absurd h
-open_after m k n (Ok turns.Sleep) same stage out h = absurd h
-open_after m k n (Err e) same stage out h = absurd (let no : None ≡ Some e = sym out ∙ (sym (ap outside same) ∙ h.0) in cc)
+pub open_after : (m k n : LoopingCaller) (r : Result Turn Misuse) → k.caller ≡ m.caller → outside m.caller ≡ None → OpenSays k n r → OpenSays m n r
+open_after m k n (Ok t) same out h = subst (λ (c : CheckedCaller). Opens c n t) same h
+open_after m k n (Err e) same out h = absurd (let no : None ≡ Some e = sym out ∙ (sym (ap outside same) ∙ h.0) in cc)
 
 -- WHO SLEEPS
 pub awake_looks : (ran : Bool) (o p : Option Watch) (t : Turn) → t ≢ turns.Sleep → SleepsBy ran o p t
@@ -116,35 +101,35 @@ looked ran m k l n t is plan by ends =
     let b = subst (λ (p : Plan). SleepsBy ran p.watch l.plan.watch t) plan by in
     subst (λ (r : Bool). SleepsBy r m.plan.watch n.plan.watch t) is (ends_sleeps ran m.plan.watch l.plan.watch n.plan.watch t b ends)
 
-pub finish_looks : (ran : Bool) (o p : Option Watch) (m n : LoopingCaller) (t : Turn) → FinishSays m n t → SleepsBy ran o p t
-finish_looks ran o p m n turns.Sleep h = absurd h
-finish_looks ran o p m n turns.Run h = tt
-finish_looks ran o p m n (turns.Pause times) h = tt
-finish_looks ran o p m n turns.Done h = tt
-finish_looks ran o p m n turns.Over h = tt
-finish_looks ran o p m n turns.Full h = tt
-finish_looks ran o p m n turns.ClockFull h = tt
-finish_looks ran o p m n turns.Memory h = tt
-finish_looks ran o p m n turns.Irrevocable h = tt
+-- nobody sleeps after a refusal
+none-sleeps : (e : Refusal) → IsAfter e turns.Sleep → ⊥
+none-sleeps (refusals.Conflict cause) h = h
+none-sleeps (refusals.GateClosed gate) h = h
+none-sleeps (refusals.Held word) h = h
+none-sleeps (refusals.Busy caller status) h = h
+none-sleeps (refusals.Again word had now) h = h
+none-sleeps (refusals.ReadsFull limit) h = h
+none-sleeps (refusals.WritesFull limit) h = h
+none-sleeps (refusals.ClockFull clock) h = let no : turns.Sleep ≡ turns.ClockFull = h in cc
+none-sleeps refusals.Irrevocable h = h
+none-sleeps (refusals.Deep limit) h = h
+none-sleeps (refusals.RangeTaken gate) h = h
 
-pub done_looks : (ran : Bool) (o p : Option Watch) (m n : LoopingCaller) (t : Turn) → DoneSays m n (Ok t) → SleepsBy ran o p t
-done_looks ran o p m n turns.Sleep h = absurd h
-done_looks ran o p m n turns.Run h = tt
-done_looks ran o p m n (turns.Pause times) h = tt
-done_looks ran o p m n turns.Done h = tt
-done_looks ran o p m n turns.Over h = tt
-done_looks ran o p m n turns.Full h = tt
-done_looks ran o p m n turns.ClockFull h = tt
-done_looks ran o p m n turns.Memory h = tt
-done_looks ran o p m n turns.Irrevocable h = tt
+after-looks : (ran : Bool) (o p : Option Watch) (e : Refusal) (t : Turn) → IsAfter e t → SleepsBy ran o p t
+after-looks ran o p e t h = awake_looks ran o p t (λ s. none-sleeps e (subst (λ (u : Turn). IsAfter e u) s h))
 
 pub refusal_looks : (ran : Bool) (o p : Option Watch) (r : Option Refusal) (t : Turn) → IsAfterRefusal r t → SleepsBy ran o p t
-refusal_looks ran o p r turns.Sleep h = absurd h
-refusal_looks ran o p r turns.Run h = tt
-refusal_looks ran o p r (turns.Pause times) h = tt
-refusal_looks ran o p r turns.Done h = tt
-refusal_looks ran o p r turns.Over h = tt
-refusal_looks ran o p r turns.Full h = tt
-refusal_looks ran o p r turns.ClockFull h = tt
-refusal_looks ran o p r turns.Memory h = tt
-refusal_looks ran o p r turns.Irrevocable h = tt
+refusal_looks ran o p None t h = awake_looks ran o p t (λ s. subst (λ (u : Turn). IsPause u) s h)
+refusal_looks ran o p (Some e) t h = after-looks ran o p e t h
+
+done-awake : (ran : Bool) (o p : Option Watch) (t : Turn) → t ≡ turns.Done → SleepsBy ran o p t
+done-awake ran o p t e = subst (λ (s : Turn). SleepsBy ran o p s) (sym e) tt
+
+pub finish_looks : (ran : Bool) (o p : Option Watch) (m : CheckedCaller) (n : LoopingCaller) (t : Turn) → FinishSays m n t → SleepsBy ran o p t
+finish_looks ran o p m n t (inl a) = done-awake ran o p t a.0
+finish_looks ran o p m n t (inr a) = after-looks ran o p a.1.0 t a.1.2
+
+pub done_looks : (ran : Bool) (o p : Option Watch) (m n : LoopingCaller) (t : Turn) → DoneSays m n (Ok t) → SleepsBy ran o p t
+done_looks ran o p m n t (inl a) = done-awake ran o p t a.0
+done_looks ran o p m n t (inr (out, inl lapsed)) = refusal_looks ran o p m.caller.refusal t lapsed.after
+done_looks ran o p m n t (inr (out, inr b)) = after-looks ran o p b.0 t b.2

@@ -17,6 +17,7 @@ use Rattle.tx_checked.specs.CheckedCallers.{known_to}
 use Rattle.tx_checked.specs.declared.checked_caller.CheckedCaller.{CheckedCaller}
 use Rattle.tx_checked.specs.declared.misuse.Misuse.{Misuse}
 use Rattle.tx_checked.specs.declared.misuse.Misuse.TheVariants as wrong
+use Rattle.tx_checked.specs.declared.refusal.Refusal.TheVariants as refusals
 use Rattle.tx_checked.specs.Misuses.{access, at_mark, holds_at, or_else, outside, running}
 use Rattle.tx_checked.specs.Tells.{Tells, IsIrrevocable, HasDropped, HasMarked, HasReadWord, HasRolled, HasWrittenWord}
 use Rattle.tx_loops.specs.declared.looping_caller.LoopingCaller.{LoopingCaller}
@@ -104,7 +105,7 @@ WritesBelow a x m n r = Tells (access a m.caller) (HasWrittenWord a x m.caller n
 -- a write into the buffer; where that has no room the attempt has ended, and left nothing
 abbrev pub WritesInto : ℕ → ℕ → LoopingCaller → LoopingCaller → Result Write Misuse → Type 0
 WritesInto a x m n (Ok writes.Done) = (access a m.caller ≡ None) × (n.caller ≡ m.caller) × (n.buffer ≡ record m.buffer { items = put a x m.buffer.items }) × (n.plan ≡ m.plan) × (n.stage ≡ Buffered)
-WritesInto a x m n (Ok (writes.Full limit)) = (access a m.caller ≡ None) × MadeNothing m.caller n.caller × IsIdle (known_to n.caller) × (n.stage ≡ Lapsed) × (item_at a m.buffer.items ≡ None) × (length m.buffer.items ≡ m.buffer.len) × (limit ≡ m.buffer.len)
+WritesInto a x m n (Ok (writes.Full limit)) = (access a m.caller ≡ None) × MadeNothing m.caller n.caller × IsIdle (known_to n.caller) × (n.stage ≡ Lapsed) × (item_at a m.buffer.items ≡ None) × (length m.buffer.items ≡ m.buffer.len) × (limit ≡ m.buffer.len) × (n.caller.refusal ≡ Some (refusals.WritesFull limit))
 WritesInto a x m n (Ok (writes.Conflict cause)) = ⊥
 WritesInto a x m n (Ok (writes.ClockFull clock)) = ⊥
 WritesInto a x m n (Err e) = (access a m.caller ≡ Some e) × (n ≡ m)
@@ -121,8 +122,8 @@ WriteSays a x m n r = WritesAt m.stage a x m n r
 
 -- MARKS, of the buffer where a body has one
 abbrev pub MarksInto : LoopingCaller → LoopingCaller → Result Check Misuse → Type 0
-MarksInto m n (Ok (checks.Marked depth)) = (n.caller ≡ m.caller) × (n.buffer ≡ record m.buffer { marks = m.buffer.marks ++ m.buffer.items ∷ [] }) × (depth ≡ length m.buffer.marks + 1) × (n.stage ≡ Buffered)
-MarksInto m n (Ok (checks.Deep limit)) = (8 ≤ length m.buffer.marks) × (limit ≡ 8) × (n.buffer ≡ m.buffer) × (n.stage ≡ Buffered)
+MarksInto m n (Ok (checks.Marked depth)) = (n.caller ≡ m.caller) × (n.buffer ≡ record m.buffer { marks = m.buffer.marks ++ m.buffer.items ∷ [] }) × (depth ≡ length m.buffer.marks + 1) × (n.plan ≡ m.plan) × (n.stage ≡ Buffered)
+MarksInto m n (Ok (checks.Deep limit)) = (8 ≤ length m.buffer.marks) × (limit ≡ 8) × (n.caller.desc ≡ m.caller.desc) × (n.caller.refusal ≡ Some (refusals.Deep limit)) × (n.buffer ≡ m.buffer) × (n.stage ≡ Buffered)
 MarksInto m n (Err e) = ⊥
 
 abbrev pub MarksAt : Stage → LoopingCaller → LoopingCaller → Result Check Misuse → Type 0

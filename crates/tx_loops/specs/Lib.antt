@@ -2,6 +2,7 @@ pub mod Stages
 pub mod Turns
 pub mod Waits
 pub mod Watches
+pub mod Hindrances
 pub mod Loops
 pub mod Accesses
 pub mod AccessLaws

@@ -3,6 +3,7 @@ ghost use Rattle.std.specs.Prelude.{◌≡◌, [], true, false, Some, None, OnOk
 ghost use Rattle.tx_answers.specs.CallerState.{IsIdle, IsRunning};
 ghost use Rattle.tx_checked.specs.CheckedCallers.{IsServed, config_of, known_to};
 ghost use Rattle.tx_checked.specs.Misuses.{access};
+ghost use Rattle.tx_checked.specs.declared.refusal.Refusal.TheVariants as refusals;
 ghost use Rattle.tx_loops.specs.Accesses.{ReadSays, ReadsHere, ReadsOn, WriteSays, WritesInto};
 ghost use Rattle.tx_loops.specs.Loops.{MadeNothing};
 ghost use Rattle.tx_loops.specs.Stages.{IsSpared, is_plain};
@@ -173,6 +174,7 @@ fn overflow(caller: &mut CheckedCaller, limit: usize)
     requires blank { (known_to caller.old).log.writes ≡ [] }
     ensures nothing { MadeNothing caller.old caller.new }
     ensures idle { IsIdle (known_to caller.new) }
+    ensures refusal { caller.new.refusal ≡ Some (refusals.WritesFull limit) }
 {
     end_blank(caller);
     caller.refusal = Some(Refusal::WritesFull { limit });

@@ -3,7 +3,8 @@ ghost use Rattle.std.specs.Prelude.{◌≡◌, [], true, false};
 ghost use Rattle.tx_answers.specs.CallerState.{IsIdle, is_irrevocable};
 ghost use Rattle.tx_checked.specs.CheckedCallers.{IsServed, known_to};
 ghost use Rattle.tx_loops.specs.Ends.{outcome_of};
-ghost use Rattle.tx_loops.specs.Loops.{AsksAgain, IsRefused, IsThrough, MadeNothing};
+ghost use Rattle.tx_loops.specs.Hindrances.{HindersCommit};
+ghost use Rattle.tx_loops.specs.Loops.{AsksAgain, EndsBy, IsRefused, IsThrough, MadeNothing};
 
 use stm_tx::serving::Calls;
 use tx_answers::answers::Commit;
@@ -29,6 +30,8 @@ pub(crate) fn commit_body<C: Calls>(calls: &C, caller: &mut CheckedCaller) -> Co
     ensures done { result ≡ CommitOutcome.Done → IsThrough caller.old caller.new }
     ensures again { result ≡ CommitOutcome.Again → AsksAgain caller.old caller.new }
     ensures refused { result ≡ CommitOutcome.Refused → IsRefused caller.old caller.new }
+    ensures hindered { result ≡ CommitOutcome.Refused
+        → EndsBy (HindersCommit caller.old caller.new) caller.new }
 {
     outcome_of(caller.commit_by(calls))
 }
@@ -53,7 +56,7 @@ pub(crate) fn end_blank(caller: &mut CheckedCaller)
     requires blank { (known_to caller.old).log.writes ≡ [] }
     ensures idle { IsIdle (known_to caller.new) }
     ensures nothing { MadeNothing caller.old caller.new }
-    ensures range { caller.new.range ≡ caller.old.range }
+    ensures refusal { caller.new.refusal ≡ caller.old.refusal }
 {
     let _ = caller.commit();
 }
@@ -64,7 +67,7 @@ pub(crate) fn take_back(caller: &mut CheckedCaller)
     requires revocable { is_irrevocable (known_to caller.old) ≡ false }
     ensures idle { IsIdle (known_to caller.new) }
     ensures nothing { MadeNothing caller.old caller.new }
-    ensures range { caller.new.range ≡ caller.old.range }
+    ensures refusal { caller.new.refusal ≡ caller.old.refusal }
 {
     let _ = caller.cancel();
 }

@@ -1,10 +1,12 @@
 //! The begin of a loop, and of each of its attempts.
 ghost use Rattle.std.specs.Prelude.{◌≡◌, ◌<◌, true, false, None};
-ghost use Rattle.tx_answers.specs.CallerState.{IsRunning, no_log};
+ghost use Rattle.tx_answers.specs.CallerState.{IsIdle, IsRunning, no_log};
 ghost use Rattle.tx_checked.specs.CheckedCallers.{known_to};
-ghost use Rattle.tx_loops.specs.Loops.{AskSays, EnterSays, LengthenSays, MayRun, OpenSays};
+ghost use Rattle.tx_loops.specs.Loops.{AskSays, EnterSays, LengthenSays, MadeNothing, MayRun, OpenSays};
+ghost use Rattle.tx_loops.specs.Turns.{IsPause};
 ghost use Rattle.tx_loops.specs.Waits.{KeepsWatch};
 ghost use Rattle.tx_loops.specs.Watches.{StandsStill};
+ghost use Rattle.tx_loops.specs.declared.plan.LogKind.TheVariants.{Reads, Writes};
 ghost use Rattle.tx_loops.specs.declared.stage.Stage.TheVariants.{Asking, Free};
 
 use crate::ends::end_blank;
@@ -73,6 +75,7 @@ impl LoopingCaller {
     #[tactic(auto, using(crate::proofs::EnterLaws::reads_wrong, crate::proofs::WatchLaws::keeps_same, crate::proofs::WatchLaws::keeps_none))]
     fn lengthen_reads(&mut self, alloc: Global) -> Result<Turn, Misuse>
         requires free { self.old.stage ≡ Free }
+        requires kind { self.old.plan.kind ≡ Reads }
         requires wanted { 0 < self.old.plan.wanted }
         ensures says { LengthenSays self.old self.new result }
         ensures watch { KeepsWatch self.old self.new }
@@ -91,6 +94,7 @@ impl LoopingCaller {
     #[tactic(auto, using(crate::proofs::EnterLaws::writes_wrong, crate::proofs::WatchLaws::keeps_same, crate::proofs::WatchLaws::keeps_none))]
     fn lengthen_writes(&mut self, alloc: Global) -> Result<Turn, Misuse>
         requires free { self.old.stage ≡ Free }
+        requires kind { self.old.plan.kind ≡ Writes }
         requires wanted { 0 < self.old.plan.wanted }
         ensures says { LengthenSays self.old self.new result }
         ensures watch { KeepsWatch self.old self.new }
@@ -213,7 +217,7 @@ impl LoopingCaller {
     #[tactic(auto, using(crate::proofs::WatchLaws::still_same))]
     fn ask(&mut self) -> Turn
         requires asking { self.old.stage ≡ Asking }
-        ensures says { AskSays self.old self.new result }
+        ensures says { AskSays self.old.caller self.new result }
         ensures watch { StandsStill self.old.plan.watch self.new.plan.watch }
     {
         let Ok(answer) = self.caller.try_irrevocable() else {
@@ -241,7 +245,11 @@ impl LoopingCaller {
     #[tactic(auto, using(crate::proofs::WatchLaws::still_same))]
     fn turn_back(&mut self) -> Turn
         requires asking { self.old.stage ≡ Asking }
-        ensures says { AskSays self.old self.new result }
+        ensures turn { IsPause result }
+        ensures nothing { MadeNothing self.old.caller self.new.caller }
+        ensures stage { self.new.stage ≡ Free }
+        ensures idle { IsIdle (known_to self.new.caller) }
+        ensures refusal { self.new.caller.refusal ≡ self.old.caller.refusal }
         ensures watch { StandsStill self.old.plan.watch self.new.plan.watch }
     {
         end_blank(&mut self.caller);

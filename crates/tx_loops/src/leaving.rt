@@ -74,7 +74,7 @@ impl LoopingCaller {
     pub(crate) fn finish<C: Calls>(&mut self, calls: &C) -> Turn
         requires served { IsServed C.acts_as (known_to self.old.caller) }
         requires running { (known_to self.old.caller).running ≡ true }
-        ensures says { FinishSays self.old self.new result }
+        ensures says { FinishSays self.old.caller self.new result }
         ensures watch { StandsStill self.old.plan.watch self.new.plan.watch }
     {
         match commit_body(calls, &mut self.caller) {
@@ -155,7 +155,7 @@ impl LoopingCaller {
     fn end_attempt(&mut self)
         requires given { is_given_up self.old.stage ≡ true }
         ensures out { IsOut self.old self.new }
-        ensures range { self.new.caller.range ≡ self.old.caller.range }
+        ensures refusal { self.new.caller.refusal ≡ self.old.caller.refusal }
         ensures plan { self.new.plan ≡ self.old.plan }
     {
         match self.stage {

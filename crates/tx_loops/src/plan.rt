@@ -1,8 +1,7 @@
 //! What a loop has come to, and when it is to go on. The pauses are the user's to make: they double.
-ghost use Rattle.std.specs.Prelude.{◌≡◌, ◌≢◌, ◌≤◌, Bool, false, Option, true, is_some, None, Some};
+ghost use Rattle.std.specs.Prelude.{◌≡◌, ◌≢◌, ◌≤◌, false, true, is_some, None};
 ghost use Rattle.tx_loops.specs.Turns.{GoesOnAfter, IsAfterFull, IsAfterRefusal};
 ghost use Rattle.tx_loops.specs.Watches.{SleepsBy};
-ghost use Rattle.tx_checked.specs.declared.refusal.Refusal.{Refusal};
 ghost use Rattle.tx_loops.specs.declared.turn.How.TheVariants as hows;
 
 use crate::turn::{How, Turn};
@@ -155,7 +154,7 @@ impl Plan {
     /// The same after a body that is to run again. Its user sleeps where an attempt of it `ran` to the end, before which that
     /// was announced for all words that it `read`.
     pub(crate) fn retry(&mut self, ran: bool, read: Stripes) -> Turn
-        ensures turn { (refusal : Option Refusal) → (stays : Bool) → GoesOnAfter hows.Retry refusal stays result }
+        ensures turn { GoesOnAfter hows.Retry None false result }
         ensures sleeps { SleepsBy ran self.old.watch self.new.watch result }
         ensures watch { self.new.watch ≡ self.old.watch }
     {

@@ -3,7 +3,7 @@ ghost use Rattle.std.specs.Prelude.{◌≡◌, ◌≤◌, true, false, []};
 ghost use Rattle.tx_answers.specs.CallerState.{IsIdle, IsRunning, is_irrevocable};
 ghost use Rattle.tx_checked.specs.CheckedCallers.{config_of, known_to};
 ghost use Rattle.tx_loops.specs.Ends.{is_written};
-ghost use Rattle.tx_loops.specs.Loops.{MadeNothing};
+ghost use Rattle.tx_loops.specs.Loops.{EndsBy, HindersStoring, MadeNothing};
 ghost use Rattle.stm_model.specs.Memories.{Once};
 ghost use Rattle.tx_loops.specs.Stages.{EachSpared};
 ghost use Rattle.tx_parts.specs.Laying.{Lays};
@@ -21,7 +21,6 @@ pub(crate) fn store_through(caller: &mut CheckedCaller, buffer: &WriteLog) -> bo
     requires spared { EachSpared (config_of caller.old).words (known_to caller.old).fence
         buffer.now.items }
     ensures nothing { MadeNothing caller.old caller.new }
-    ensures range { caller.new.range ≡ caller.old.range }
     ensures runs { result ≡ true → IsRunning (known_to caller.new) }
     ensures lays { result ≡ true
         → Lays buffer.now.items (known_to caller.old).log (known_to caller.new).log }
@@ -35,6 +34,8 @@ pub(crate) fn store_through(caller: &mut CheckedCaller, buffer: &WriteLog) -> bo
         → (known_to caller.new).granted ≡ (known_to caller.old).granted }
     ensures ended { result ≡ false
         → IsIdle (known_to caller.new) × (is_irrevocable (known_to caller.old) ≡ false) }
+    ensures hindered { result ≡ false
+        → EndsBy (HindersStoring buffer.now.items caller.old caller.new) caller.new }
 {
     if buffer.count() == 0 {
         return true;
@@ -48,7 +49,6 @@ fn store_each(caller: &mut CheckedCaller, buffer: &WriteLog) -> bool
     requires spared { EachSpared (config_of caller.old).words (known_to caller.old).fence
         buffer.now.items }
     ensures nothing { MadeNothing caller.old caller.new }
-    ensures range { caller.new.range ≡ caller.old.range }
     ensures runs { result ≡ true → IsRunning (known_to caller.new) }
     ensures lays { result ≡ true
         → Lays buffer.now.items (known_to caller.old).log (known_to caller.new).log }
@@ -62,6 +62,8 @@ fn store_each(caller: &mut CheckedCaller, buffer: &WriteLog) -> bool
         → (known_to caller.new).granted ≡ (known_to caller.old).granted }
     ensures ended { result ≡ false
         → IsIdle (known_to caller.new) × (is_irrevocable (known_to caller.old) ≡ false) }
+    ensures hindered { result ≡ false
+        → EndsBy (HindersStoring buffer.now.items caller.old caller.new) caller.new }
 {
     for i in 0..buffer.count() {
         let (a, x) = buffer.item(i);

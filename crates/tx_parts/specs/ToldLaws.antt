@@ -1,6 +1,6 @@
 -- What a part tells of the memory: laws from a structure's call to what a part tells and keeps, and from parts to the whole.
 use Rattle.std.proofs.Common.{ℕ, ◌≡◌, ◌∙◌, List, [], ◌∷◌, length, sym, ap, subst, inl, inr}
-use Rattle.std.specs.Prelude.{◌⊎◌, Option, Some, None, Ok, Err}
+use Rattle.std.specs.Prelude.{◌⊎◌, Option, Some, None, IfSome, Ok, Err}
 use Rattle.stm_model.specs.Logs.{Log, SameMemories}
 use Rattle.stm_model.specs.Memories.{overlay, Explains}
 use Rattle.stm_model.specs.Overlays.{overlay-same, overlay-length}
@@ -55,3 +55,14 @@ module _ (good : List ℕ → Type 0) (words : ℕ) where
     pub undone-writes : (first room : ℕ) (u : Undone) (k : Log) → ComesAwaited good words first room tells (Some (Err u)) k → k.writes ≡ []
     undone-writes first room (NoRoom limit) k came = came.1.0.1
     undone-writes first room NoMemory k came = ap (λ (l : Log). l.writes) came.1
+
+-- A PART THAT IS ONE CALL. Its effect leads from memories under the rule to such, and this is so of it: then the part keeps the rule, and tells this
+module _ {A : Type 0} {good seen : List ℕ → Type 0} {words : ℕ} {effect : List ℕ → Effect A} {l k : Log} {reply : A} (same : SameMemories seen good) (keeps : Under good words l good)
+    (does : DoesOver seen words effect l reply k) (P : A → List ℕ → List ℕ → Type 0)
+    (law : (m : List ℕ) → good m → length m ≡ words → good (effect m).memory × P (effect m).reply m (effect m).memory) where
+  pub call-keeps : {T : Type 0} (o : Option T) → IfSome o (λ r. Under good words k good)
+  call-keeps None = tt
+  call-keeps (Some r) = keeps-does good words seen effect l k reply same keeps does (λ m g long. (law m g long).0)
+
+  pub call-tells : Told good words (P reply) l k
+  call-tells = told-does good words seen effect l k reply same keeps does (P reply) (λ m g long is. subst (λ r. P r m (effect m).memory) (sym is) (law m g long).1)

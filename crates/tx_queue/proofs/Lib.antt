@@ -1,2 +1,1 @@
-pub mod QueueLaws
 pub mod QueueReads

@@ -5,7 +5,7 @@ use Rattle.tx_effects.specs.Effects.{Under, Shows}
 use Rattle.tx_effects.specs.EffectLaws.{shows-none, shows-read, shown}
 use Rattle.tx_queue.specs.declared.queue.Queue.{Queue}
 use Rattle.tx_queue.specs.Queues.{QueueFits, IsQueue, front, count, cell, cell_at}
-use Rattle.tx_queue.proofs.QueueLaws.{front-inside, first-small}
+use Rattle.tx_queue.specs.QueueLaws.{front-inside, first-small}
 
 abbrev pub HasCount : Queue → ℕ → List ℕ → Type 0
 HasCount q n m = IsQueue q m × (n ≡ count q m)

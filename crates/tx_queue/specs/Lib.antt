@@ -1,2 +1,3 @@
 pub mod Queues
 pub mod Statements
+pub mod QueueLaws

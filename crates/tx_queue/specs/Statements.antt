@@ -1,6 +1,7 @@
 -- What the law functions say.
-use Rattle.std.specs.Prelude.{ℕ, ◌≡◌, ◌+◌, ◌<◌, ◌≤◌, ◌^◌, ◌⊎◌, List, [], ◌∷◌, ◌++◌, length, replicate, slice_index, Some, None}
+use Rattle.std.specs.Prelude.{ℕ, ◌≡◌, ◌+◌, ◌<◌, ◌≤◌, ◌^◌, ◌⊎◌, List, [], ◌∷◌, ◌++◌, length, replicate, slice_index, Option, Some, None}
 use Rattle.tx_queue.specs.declared.queue.Queue.{Queue}
+use Rattle.tx_queue.specs.declared.queue.Put.{Put}
 use Rattle.tx_queue.specs.declared.queue.Put.TheVariants.{Added, NoRoom}
 use Rattle.tx_queue.specs.Queues.{QueueFits, contents, IsQueue, put_in, got_in, counted_in}
 
@@ -30,3 +31,30 @@ DependsOnOwnWords = (q : Queue) (m k : List ℕ) → IsQueue q m → ((x : ℕ) 
 abbrev pub ChangesOwnWords : Type 0
 ChangesOwnWords = (q : Queue) (m : List ℕ) (v x : ℕ) → IsQueue q m → QueueFits q (length m) → (x < q.at) ⊎ (q.at + 2 + q.cells ≤ x)
     → (slice_index (put_in q v m).memory x ≡ slice_index m x) × (slice_index (got_in q m).memory x ≡ slice_index m x)
+
+-- BY WHAT A CALL REPLIES, from the memory m to n: the value is the last one now, or there was no room
+abbrev pub Puts : Queue → ℕ → Put → List ℕ → List ℕ → Type 0
+Puts q v Added m n = contents q n ≡ contents q m ++ v ∷ []
+Puts q v NoRoom m n = (q.cells ≤ length (contents q m)) × (n ≡ m)
+
+-- the first one left, or there was none
+abbrev pub Gets : Queue → Option ℕ → List ℕ → List ℕ → Type 0
+Gets q (Some v) m n = contents q m ≡ v ∷ contents q n
+Gets q None m n = (contents q m ≡ []) × (n ≡ m)
+
+abbrev pub RepliesTell : Type 0
+RepliesTell = (q : Queue) (m : List ℕ) → IsQueue q m → QueueFits q (length m) →
+    ((v : ℕ) → v < 2 ^ 32 → IsQueue q (put_in q v m).memory × Puts q v (put_in q v m).reply m (put_in q v m).memory)
+    × IsQueue q (got_in q m).memory × Gets q (got_in q m).reply m (got_in q m).memory
+
+-- BESIDE OTHERS: two queues share no word
+abbrev pub AreApart : Queue → Queue → Type 0
+AreApart q r = (q.at + 2 + q.cells ≤ r.at) ⊎ (r.at + 2 + r.cells ≤ q.at)
+
+-- it is well formed, with the contents that it had
+abbrev pub Stays : Queue → List ℕ → List ℕ → Type 0
+Stays q m n = IsQueue q n × (contents q n ≡ contents q m)
+
+abbrev pub StaysBeside : Type 0
+StaysBeside = (q r : Queue) (m : List ℕ) (v : ℕ) → AreApart q r → IsQueue q m → QueueFits q (length m) → IsQueue r m
+    → Stays r m (put_in q v m).memory × Stays r m (got_in q m).memory

@@ -1,8 +1,8 @@
 //! A queue in a ring of cells, over any access.
-ghost use Rattle.std.specs.Prelude.{◌≡◌, ◌<◌, ◌≤◌, ◌+◌, None, IfOk, OnOk, IfErr};
+ghost use Rattle.std.specs.Prelude.{◌≡◌, ◌<◌, ◌≤◌, ◌+◌, None, IfOk, OnOk, IfErr, length};
 ghost use Rattle.stm_model.specs.Logs.{IsReadStop};
 ghost use Rattle.tx_effects.specs.Accesses.{DoesFor, HoldsFor, LeadsOn};
-ghost use Rattle.tx_queue.specs.Queues.{QueueFits, IsQueue, put_in, got_in, counted_in, wrapped};
+ghost use Rattle.tx_queue.specs.Queues.{QueueFits, IsQueue, contents, put_in, got_in, counted_in, wrapped};
 
 use stm_model::access::Access;
 use stm_model::stop::Stop;
@@ -114,5 +114,13 @@ impl Queue {
     {
         let count = acc.read(self.at + 1)?;
         Ok(count)
+    }
+
+    /// The number of values that it has in a closed memory's words.
+    pub fn len_in(&self, words: &[u64]) -> u64
+        requires within { QueueFits self.now (length words.now) }
+        ensures { result ≡ length (contents self.now words.now) }
+    {
+        words[self.at + 1]
     }
 }

@@ -15,6 +15,9 @@ use Rattle.tx_jobs.specs.Known.{Known}
 use Rattle.tx_jobs.specs.Stories.{IsStory}
 use Rattle.tx_start.specs.declared.working.Left.{Left}
 use Rattle.tx_start.specs.Lefts.{desc_in, descs_in, answer_in, answers_in, tally_in, tallies_in, AllNew, Works}
+use Rattle.tx_atomic.specs.declared.tally.Tally.{Tally}
+use Rattle.tx_atomic.specs.Tallies.{none}
+use Rattle.tx_start.specs.Counts.{AllCounted, Counts}
 use Rattle.tx_start.specs.Pasts.{commits_of, past_of}
 use Rattle.tx_start.specs.Seats.{shown}
 use Rattle.tx_start.specs.SeatLaws.{top-within}
@@ -44,18 +47,58 @@ told-at e n i [] x h lt = absurd (omega arith)
 told-at e n zero (d ∷ ds) x h lt = let s : n ≡ n + 0 = omega arith in subst (λ k. Told e k d) s h.0
 told-at e n (suc i) (d ∷ ds) x h lt = let s : suc n + i ≡ n + suc i = omega arith in subst (λ k. Told e k (get_or ds i x)) s (told-at e (suc n) i ds x h.1 (omega (arith, lt)))
 
-module _ {K V : Type 0} (stm : Stm K) (alg : Alg) (tells : ℕ → V → Known → Known → Type 0) where
+module _ {K V : Type 0} (good : List ℕ → Type 0) (stm : Stm K) (alg : Alg) (tells : ℕ → V → Known → Known → Type 0) where
   -- each caller did its job
   pub each-worked : (ds : List (Handle K)) (ls : List (Left K V)) → AllReady stm 0 ds → length ls ≡ length ds
-      → ((i : ℕ) (l : Left K V) (x : Handle K) → i < length ds → Works tells (get_or ds i x) (get_or ls i l)) → AllReady stm 0 (descs_in ls)
+      → ((i : ℕ) (l : Left K V) (x : Handle K) → i < length ds → Works good stm.config tells (get_or ds i x) (get_or ls i l)) → AllReady stm 0 (descs_in ls)
   each-worked ds [] ready count each = ready-each stm 0 ds [] ready count (λ i x lt. absurd (omega (arith, lt, count)))
   each-worked ds (l ∷ ls) ready count each =
       let many = length-map (l ∷ ls) desc_in in
-      ready-each stm 0 ds (descs_in (l ∷ ls)) ready (many ∙ count) (λ i x lt. subst (λ (e : Handle K). IsThrough (get_or ds i x) e) (sym (get_or-map desc_in (l ∷ ls) i l x (omega (arith, lt, count)))) (each i l x lt).0)
+      ready-each stm 0 ds (descs_in (l ∷ ls)) ready (many ∙ count) (λ i x lt. subst (λ (e : Handle K). IsThrough (get_or ds i x) e) (sym (get_or-map desc_in (l ∷ ls) i l x (omega (arith, lt, count)))) (each i l x lt).through)
+
+  -- all that it did is in the history
+  last-told : (ls : List (Left K V)) (d : Left K V) (e : Ended) (i : ℕ) → i < length ls → AllTold e 0 (descs_in ls) → Told e i (get_or ls i d).desc
+  last-told ls d e i lt told =
+      let place : i < length (descs_in ls) = let many = length-map ls desc_in in omega (arith, lt, many) in
+      let at : get_or (descs_in ls) i d.desc ≡ (get_or ls i d).desc = get_or-map desc_in ls i d d.desc lt in
+      let zero_i : 0 + i ≡ i = omega arith in
+      subst (λ k. Told e k (get_or ls i d).desc) zero_i (subst (λ (x : Handle K). Told e (0 + i) x) at (told-at e 0 i (descs_in ls) d.desc told place))
+
+  -- and what it installed is told
+  installed : (ls : List (Left K V)) (d : Left K V) (e : Ended) (i : ℕ) → i < length ls → e.installs ≡ map (λ (x : Handle K). installs_of x.view) (descs_in ls)
+      → get_or e.installs i [] ≡ installs_of (get_or ls i d).desc.view
+  installed ls d e i lt installs =
+      let place : i < length (descs_in ls) = let many = length-map ls desc_in in omega (arith, lt, many) in
+      let at : get_or (descs_in ls) i d.desc ≡ (get_or ls i d).desc = get_or-map desc_in ls i d d.desc lt in
+      ap (λ (xs : List (List Alg)). get_or xs i []) installs
+      ∙ (get_or-map (λ (x : Handle K). installs_of x.view) (descs_in ls) i d.desc [] place ∙ ap (λ (x : Handle K). installs_of x.view) at)
+
+  -- so its tally counts all that it did
+  pub all-counted : (ds : List (Handle K)) (ls : List (Left K V)) (e : Ended) → AllReady stm 0 ds → AllNew alg ds → length ls ≡ length ds
+      → ((i : ℕ) (l : Left K V) (x : Handle K) → i < length ds → Works good stm.config tells (get_or ds i x) (get_or ls i l))
+      → AllTold e 0 (descs_in ls) → e.installs ≡ map (λ (d : Handle K). installs_of d.view) (descs_in ls) → AllCounted good stm.config alg e (tallies_in ls)
+  all-counted ds [] e ready new count each told installs i t lt = absurd (omega (arith, lt))
+  all-counted ds (l ∷ ls) e ready new count each told installs i t lt =
+      let here : i < length (l ∷ ls) = let many = length-map (l ∷ ls) tally_in in omega (arith, lt, many) in
+      let within : i < length ds = omega (arith, here, count) in
+      let one : Left K V = get_or (l ∷ ls) i l in
+      let first : Handle K = get_or ds i l.desc in
+      let zero_i : 0 + i ≡ i = omega arith in
+      let nth : number first ≡ i = numbered stm 0 i ds l.desc ready within ∙ zero_i in
+      let mine = subst (λ k. Counts good stm.config k (known first) (known one.desc) none one.tally) nth (each i l l.desc within).counts in
+      record {
+        before = known first;
+        after = known one.desc;
+        fresh = (new i l.desc within).0;
+        begun = (new i l.desc within).1;
+        made = (last-told (l ∷ ls) l e i here told).made;
+        installed = installed (l ∷ ls) l e i here installs;
+        counts = subst (λ (q : Tally). Counts good stm.config i (known first) (known one.desc) none q) (sym (get_or-map tally_in (l ∷ ls) i l t here)) mine;
+      }
 
   -- and has its story
   pub stories : (ds : List (Handle K)) (ls : List (Left K V)) (e : Ended) → AllReady stm 0 ds → AllNew alg ds → length ls ≡ length ds
-      → ((i : ℕ) (l : Left K V) (x : Handle K) → i < length ds → Works tells (get_or ds i x) (get_or ls i l))
+      → ((i : ℕ) (l : Left K V) (x : Handle K) → i < length ds → Works good stm.config tells (get_or ds i x) (get_or ls i l))
       → AllTold e 0 (descs_in ls) → e.installs ≡ map (λ (d : Handle K). installs_of d.view) (descs_in ls) → (i : ℕ) (a : V) → i < length ds
       → IsStory alg (tells i) (past_of e (tallies_in ls)) i (get_or (answers_in ls) i a)
   stories ds [] e ready new count each told installs i a lt = absurd (omega (arith, lt, count))
@@ -63,26 +106,22 @@ module _ {K V : Type 0} (stm : Stm K) (alg : Alg) (tells : ℕ → V → Known �
       let here : i < length (l ∷ ls) = omega (arith, lt, count) in
       let x : Handle K = l.desc in
       let one : Left K V = get_or (l ∷ ls) i l in
-      let place : i < length (descs_in (l ∷ ls)) = let many = length-map (l ∷ ls) desc_in in omega (arith, here, many) in
-      let at : get_or (descs_in (l ∷ ls)) i x ≡ one.desc = get_or-map desc_in (l ∷ ls) i l x here in
-      let mine = subst (λ (d : Handle K). Told e (0 + i) d) at (told-at e 0 i (descs_in (l ∷ ls)) x told place) in
-      let zero_i : 0 + i ≡ i = omega arith in
-      let this = subst (λ k. Told e k one.desc) zero_i mine in
+      let this = last-told (l ∷ ls) l e i here told in
       let works = each i l x lt in
       let before : Known = shown (known (get_or ds i x)) 0 in
       let after : Known = shown (known one.desc) one.tally.commits in
       let answer : get_or (answers_in (l ∷ ls)) i a ≡ one.answer = get_or-map answer_in (l ∷ ls) i l a here in
-      let nth : number (get_or ds i x) ≡ i = numbered stm 0 i ds x ready lt ∙ zero_i in
+      let nth : number (get_or ds i x) ≡ i = numbered stm 0 i ds x ready lt ∙ (let zero_i : 0 + i ≡ i = omega arith in zero_i) in
       let counts : i < length (tallies_in (l ∷ ls)) = let many = length-map (l ∷ ls) tally_in in omega (arith, here, many) in
       record {
         before = before;
         after = after;
-        told = subst (λ (b : V). tells i b before after) (sym answer) (subst (λ k. tells k one.answer before after) nth works.1);
+        told = subst (λ (b : V). tells i b before after) (sym answer) (subst (λ k. tells k one.answer before after) nth works.told);
         fresh = ((new i x lt).0, refl);
         begun = (new i x lt).1;
         made = this.made;
         seen = this.seen;
-        installed = ap (λ (xs : List (List Alg)). get_or xs i []) installs ∙ (get_or-map (λ (d : Handle K). installs_of d.view) (descs_in (l ∷ ls)) i x [] place ∙ ap (λ (d : Handle K). installs_of d.view) at);
+        installed = installed (l ∷ ls) l e i here installs;
         counted = get_or-map commits_of (tallies_in (l ∷ ls)) i l.tally 0 counts ∙ ap commits_of (get_or-map tally_in (l ∷ ls) i l l.tally here);
         found = top-within e.clock one.desc.view.steps.step_trace this.clocks;
       }

@@ -1,13 +1,16 @@
 -- What callers leave.
 use Rattle.std.specs.Prelude.{ℕ, ◌≡◌, ◌<◌, List, [], map, length, get_or}
 use Rattle.stm_model.specs.declared.alg.Alg.{Alg}
+use Rattle.stm_model.specs.declared.config.Config.{Config}
 use Rattle.stm_rule.specs.Callers.{Handle}
 use Rattle.stm_tx.specs.Descs.{known, number}
 use Rattle.tx_atomic.specs.Callers.{IsThrough}
 use Rattle.tx_start.specs.declared.working.Left.{Left}
 use Rattle.tx_atomic.specs.declared.tally.Tally.{Tally}
+use Rattle.tx_atomic.specs.Tallies.{none}
 use Rattle.tx_jobs.specs.Known.{Known}
 use Rattle.tx_jobs.specs.Stories.{first_installs}
+use Rattle.tx_start.specs.Counts.{Counts}
 use Rattle.tx_start.specs.Seats.{shown}
 
 -- none has made an entry yet, nor installed anything but the memory's first algorithm
@@ -33,6 +36,8 @@ module _ {K V : Type 0} where
   abbrev pub tallies_in : List (Left K V) → List Tally
   tallies_in ls = map tally_in ls
 
-  -- a caller did its job, whose answers tell this
-  abbrev pub Works : (ℕ → V → Known → Known → Type 0) → Handle K → Left K V → Type 0
-  Works tells d l = IsThrough d l.desc × tells (number d) l.answer (shown (known d) 0) (shown (known l.desc) l.tally.commits)
+  -- a caller did its job, whose answers tell this, and its tally counts what it did
+  pub record Works (good : List ℕ → Type 0) (c : Config) (tells : ℕ → V → Known → Known → Type 0) (d : Handle K) (l : Left K V) : Type 0 where
+    pub through : IsThrough d l.desc
+    pub told : tells (number d) l.answer (shown (known d) 0) (shown (known l.desc) l.tally.commits)
+    pub counts : Counts good c (number d) (known d) (known l.desc) none l.tally

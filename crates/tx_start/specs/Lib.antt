@@ -1,3 +1,5 @@
+pub mod Counts
+pub mod CountLaws
 pub mod Lefts
 pub mod Pasts
 pub mod Seats

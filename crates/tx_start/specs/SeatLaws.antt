@@ -10,22 +10,20 @@ use Rattle.rule_base.specs.declared.layout.At.{At}
 use Rattle.rule_base.specs.declared.layout.At.TheVariants.{Clock, Lock, Gate, Base, Done, Status, Record, Slot, Heap}
 use Rattle.rule_base.specs.declared.views.TracedStep.{TracedStep}
 use Rattle.rule_base.specs.StepsRule.{ClocksWithin}
-use Rattle.stm_rule.specs.declared.stm.Stm.{Stm}
 use Rattle.stm_rule.specs.Callers.{Handle}
 use Rattle.stm_tx.specs.Descs.{known}
 use Rattle.tx_answers.specs.declared.answers.Commit.TheVariants.{Committed, ReadOnly}
 use Rattle.tx_answers.specs.Answers.{Commits}
 use Rattle.tx_answers.specs.Causes.{FindsFull}
-use Rattle.tx_answers.specs.CallerState.{CallerState, Grows, caller_of, clock_in, top_of}
+use Rattle.tx_answers.specs.CallerState.{CallerState, Grows, clock_in, top_of}
 use Rattle.tx_answers.specs.CallerStateLaws.{carries-refl}
 use Rattle.tx_atomic.specs.Attempts.{TookEffect}
-use Rattle.tx_atomic.specs.Callers.{IsThrough}
 use Rattle.tx_atomic.specs.MomentLaws.{happened}
 use Rattle.tx_atomic.specs.Moments.{Happened}
 use Rattle.tx_jobs.specs.Known as jobs
 use Rattle.tx_jobs.specs.Moments.{Took}
 use Rattle.tx_jobs.specs.Repeats.{MadeOne}
-use Rattle.tx_start.specs.Seats.{shown, seat_of}
+use Rattle.tx_start.specs.Seats.{shown}
 
 -- the greatest clock that was found rises with what is found, and is none beyond the memory's
 top-more : (is t : List TracedStep) → top_of t ≤ top_of (is ++ t)
@@ -60,9 +58,6 @@ grows-shown d e m n g = record {
 
 pub found-full : (clock : ℕ) (v w : CallerState) (n : ℕ) → FindsFull clock v w → jobs.IsFull (shown w n)
 found-full clock v w n full = let limit = full.limit in let top = full.top in omega arith
-
-pub same-seat : {K : Type 0} (stm : Stm K) (d e : Handle K) → IsThrough d e → seat_of stm e ≡ seat_of stm d
-same-seat stm d e t = ap (λ q. record { rule = stm.rule; words = stm.config.words; callers = stm.config.callers; number = caller_of q.role }) t.same.who
 
 not-empty : (b : Bool) → not b ≡ true → b ≡ false
 not-empty true some = absurd cc

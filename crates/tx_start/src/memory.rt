@@ -3,6 +3,7 @@ ghost use Rattle.std.specs.Prelude.{◌≡◌, None, false, length, replicate, I
 ghost use Rattle.stm_rule.specs.Refusals.{IsRefusal, first_fault};
 ghost use Rattle.tx_atomic.specs.Callers.{AllReady};
 ghost use Rattle.tx_jobs.specs.Stories.{Came};
+ghost use Rattle.tx_start.specs.Counts.{AllCounted};
 ghost use Rattle.tx_start.specs.Lefts.{AllNew};
 ghost use Rattle.tx_start.specs.Pasts.{past_of};
 
@@ -43,6 +44,8 @@ pub fn with_memory<R: Threads + Wait + Sync, K: MemRule + Drop + Sync + Send, J:
     ensures came { IfOk result (λ came.
         Came (K.good rule) config alg (J.postcondition job.now rule config.words) came.words.items
         came.answers.items (past_of came.past.closed came.past.tallies.items)) }
+    ensures counted { IfOk result (λ came.
+        AllCounted (K.good rule) config alg came.past.closed came.past.tallies.items) }
     ensures refused { IfErr result (IsRefusal config) }
 {
     let (stm, descs) = open(rt, alloc, config, alg, rule)?;

@@ -35,7 +35,8 @@ pub(crate) fn work_all<
     ensures refused { IfErr result (λ e. e ≡ NewError.Memory) }
     ensures done { IfOk result (λ left.
         (i : ℕ) (d : Left K J.Output) (e : Handle K) → i < length descs.items
-        → Works (J.postcondition job.now stm.now.rule stm.now.config.words)
+        → Works (K.good stm.now.rule) stm.now.config
+        (J.postcondition job.now stm.now.rule stm.now.config.words)
         (slice_index_or descs.items i e) (slice_index_or left.items i d)) }
 {
     let patience = patience_of(rt, descs.len());
@@ -64,7 +65,8 @@ fn work<R: Wait, K: MemRule, J: Job<R, K>>(
 ) -> Left<K, J::Output>
     requires ready { IsReady stm.now desc }
     requires precondition { J.precondition job.now stm.now.rule stm.now.config.words }
-    ensures works { Works (J.postcondition job.now stm.now.rule stm.now.config.words) desc result }
+    ensures works { Works (K.good stm.now.rule) stm.now.config
+        (J.postcondition job.now stm.now.rule stm.now.config.words) desc result }
 {
     let mut pace = Pace::new();
     pace.patience = patience;

@@ -1,4 +1,6 @@
 //! Words read or written one after the other, for transactions that read what they need and then write.
+//!
+//! `leads` says of `frame` what a caller's own is found by, without the law that calls come one after the other.
 ghost use Rattle.std.specs.Prelude.{◌≡◌, ◌<◌, ◌≤◌, ◌%◌, ◌^◌, ℕ, Bool, sum, count_by, map, None, IfOk, OnOk};
 ghost use Rattle.stm_model.specs.Memories.{Explains};
 ghost use Rattle.tx_effects.specs.Accesses.{LeadsOn};
@@ -25,6 +27,7 @@ pub fn read_words<A: Access, const N: usize>(
         Found (A.good memory.old) (A.words memory.old) (A.log memory.old)
         (λ m. Explains m (valued 0 at.entry v)) (A.log memory.new)) }
     ensures frame { LeadsOn A.Access memory.old memory.new result }
+    ensures leads { (r : A) → A.keeps r memory.old → A.keeps r memory.new }
 {
     let mut found = [0; N];
     for (i, a) in at.iter().enumerate() {
@@ -47,6 +50,7 @@ pub fn read_sum<A: Access>(memory: &mut A, range: Range<usize>) -> Result<u64, S
         Found (A.good memory.old) (A.words memory.old) (A.log memory.old)
         (λ m. total ≡ sum_in range.start range.end m % 2 ^ 64) (A.log memory.new)) }
     ensures frame { LeadsOn A.Access memory.old memory.new result }
+    ensures leads { (r : A) → A.keeps r memory.old → A.keeps r memory.new }
 {
     let mut sum: u64 = 0;
     for a in range.start..range.end {
@@ -77,6 +81,7 @@ pub fn read_count<A: Access, F: Fn(u64) -> bool>(
         → Found (A.good memory.old) (A.words memory.old) (A.log memory.old)
         (λ m. count ≡ count_in passes range.start range.end m) (A.log memory.new)) }
     ensures frame { LeadsOn A.Access memory.old memory.new result }
+    ensures leads { (r : A) → A.keeps r memory.old → A.keeps r memory.new }
 {
     let mut count: usize = 0;
     for a in range.start..range.end {
@@ -101,6 +106,7 @@ pub fn write_words<A: Access, const N: usize>(
     requires within { AllBelow (A.words memory.old) (map (λ w. w.0) words) }
     ensures wrote { OnOk result (AllWritten (A.log memory.old) words.entry (A.log memory.new)) }
     ensures frame { LeadsOn A.Access memory.old memory.new result }
+    ensures leads { (r : A) → A.keeps r memory.old → A.keeps r memory.new }
 {
     for (a, value) in words {
         memory.write(a, value)?;

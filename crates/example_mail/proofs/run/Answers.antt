@@ -1,16 +1,15 @@
 use Rattle.std.proofs.Common.{◌∙◌}
 use Rattle.nekchhaul.specs.StoryLaws.{by-came}
-use Rattle.mailbox.specs.Mail.{queue_of}
+use Rattle.mailbox.specs.MailLaws.{zeros-well}
 use Rattle.mail_jobs.specs.declared.day.TheConstants.{MAILBOX}
 use Rattle.mail_jobs.specs.DayLaws.{closed-day}
 use Rattle.example_mail.proofs.run.Goals as goal
 
 pub with_memory-requires-clause-good : goal.with_memory-requires-clause-good
-with_memory-requires-clause-good g c κs within = rw c.sizes.ensures.words (λ urgent. (c.queues_are_apart.ensures.empty (queue_of MAILBOX urgent) 20).0)
+with_memory-requires-clause-good g c κs within = zeros-well MAILBOX _
 
 pub returns-clause-each : goal.returns-clause-each
 returns-clause-each g c = by-came c.with_memory.result c.with_memory.ensures.came (λ day came. came.each ∙ c.sizes.ensures.callers)
 
 pub returns-clause-day : goal.returns-clause-day
-returns-clause-day g c = by-came c.with_memory.result c.with_memory.ensures.came
-    (λ day came. closed-day c.sizes.ensures.words c.sizes.ensures.callers c.queues_are_apart.ensures.empty c.messages_come_in_order.ensures.once came)
+returns-clause-day g c = by-came c.with_memory.result c.with_memory.ensures.came (λ day came. closed-day c.sizes.ensures.words c.sizes.ensures.callers came)

@@ -1,12 +1,12 @@
 use Rattle.std.proofs.Common.{◌%◌}
 use Rattle.std.specs.Prelude.{◌==◌}
 use Rattle.mailbox.specs.Mail.{mail_in, Moves, Posted}
+use Rattle.mailbox.specs.MailLaws.{changes, posts-it}
 use Rattle.tx_jobs.specs.Jobs.{did}
 use Rattle.mail_jobs.proofs.clerks.post.Goals as goal
 
 pub returns-in-Some-Ok-clause-posted : goal.returns-in-Some-Ok-clause-posted
 returns-in-Some-Ok-clause-posted g c =
     let s = g.C.Calls.seat c.args.caller.now in
-    let laws = c.messages_come_in_order.ensures in
     let x = c.args.message in
-    did (mail_in s.rule) Moves (Posted (x % 3 == 0) x) (laws.moves (Posted (x % 3 == 0) x)) (laws.post s.rule s.words 0 8 (x % 3 == 0) x) (rw c.in-Some-Ok.field-0-is at c.in-Some-Ok.ensures.took)
+    did (mail_in s.rule) Moves (Posted (x % 3 == 0) x) (changes (Posted (x % 3 == 0) x)) (posts-it s.rule s.words 0 8 (x % 3 == 0) x) (rw c.in-Some-Ok.field-0-is at c.in-Some-Ok.ensures.took)

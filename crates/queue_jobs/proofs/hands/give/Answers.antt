@@ -28,4 +28,4 @@ returns-in-Some-Added-clause-gave g c =
     let told = rw c.loop.invariant.same at c.in-Some-Added.ensures.took in
     let came = took-at (IsQueue q) s.words (λ (r : Put) log. DoesOver (IsQueue q) s.words (put_in q c.args.job) nothing r log) (g.C.Calls.known c.loop.caller) (g.C.Calls.known c.run.new.self) c.in-Some-Added.field-0-is told in
     subst (λ b. HasDone (Did q s.words) (Given c.args.job ∷ []) b (g.C.Calls.known c.run.new.self).made) c.loop.invariant.made
-    (gave q s.words c.contents_change.ensures.puts c.requires.precondition c.args.job c.ranges.job.fits came)
+    (gave q s.words c.requires.precondition c.args.job c.ranges.job.fits came)

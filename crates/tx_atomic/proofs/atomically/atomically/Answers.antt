@@ -5,11 +5,11 @@ use Rattle.tx_answers.specs.CallerStateLaws.{carries-refl, grows-trans}
 use Rattle.stm_tx.specs.Descs.{known, number}
 use Rattle.tx_atomic.specs.Attempts.{TookEffect}
 use Rattle.tx_atomic.specs.AttemptLaws.{same-number, took-since}
-use Rattle.std.specs.Prelude.{Some, None}
+use Rattle.std.specs.Prelude.{Option, Some, None}
 use Rattle.tx_atomic.specs.declared.tally.Ended.{Ended}
 use Rattle.tx_atomic.specs.declared.tally.Ended.TheVariants.{ClockFull}
-use Rattle.tx_atomic.specs.declared.tally.Tally.{Tally}
-use Rattle.tx_atomic.specs.Tallies.{noted, failed_next}
+use Rattle.tx_atomic.specs.Accounts.{Account, account, ended_in}
+use Rattle.tx_atomic.specs.Tallies.{failed_next}
 use Rattle.tx_atomic.specs.Tries.{Failing, Tried}
 use Rattle.tx_atomic.specs.TryLaws.{failing-none, failing-more, ran, tried-full, full-earlier}
 use Rattle.tx_atomic.proofs.atomically.atomically.Goals as goal
@@ -20,8 +20,8 @@ returns-in-Ok-clause-ran g c =
     let good = g.K.MemRule.good stm.rule in
     let n = number c.args.desc.now in
     let u = known c.args.desc.now in
-    let s = c.args.pace.now.tally in
-    let ran = ran good stm.config n 0 false None u u (known c.attempt.new.desc) s s c.attempt.new.pace.tally refl (failing-none good stm.config n u s) c.in-Ok.ensures.tried in
+    let s = (account g.O.Observer.heard c.args.pace.now) in
+    let ran = ran good stm.config n g.O.Observer.hears 0 false None u u (known c.attempt.new.desc) s s (account g.O.Observer.heard c.attempt.new.pace) refl (failing-none good stm.config n g.O.Observer.hears u s) c.in-Ok.ensures.tried in
     search (rules, ran)
 
 pub loop-init : goal.loop-init
@@ -30,21 +30,21 @@ loop-init g c =
     let good = g.K.MemRule.good stm.rule in
     let n = number c.args.desc.now in
     let u = known c.args.desc.now in
-    let s = c.args.pace.now.tally in
-    let failing : (v : CallerState) × (r : Tally) × Grows u v × Failing good stm.config n 0 u v s r
-    × Tried good stm.config n (leb 16 0) (Some c.attempt.new.pace.last) v (known c.attempt.new.desc) r c.attempt.new.pace.tally =
-    (u, s, (carries-refl u).grows, failing-none good stm.config n u s, c.in_default.ensures.tried) in
+    let s = (account g.O.Observer.heard c.args.pace.now) in
+    let failing : (v : CallerState) × (r : Account g.O.Observer.Heard) × Grows u v × Failing good stm.config n g.O.Observer.hears 0 u v s r
+    × Tried good stm.config n g.O.Observer.hears (leb 16 0) (Some c.attempt.new.pace.last) v (known c.attempt.new.desc) r (account g.O.Observer.heard c.attempt.new.pace) =
+    (u, s, (carries-refl u).grows, failing-none good stm.config n g.O.Observer.hears u s, c.in_default.ensures.tried) in
     search (rules, failing)
 
 -- the attempts that failed, with the last of them counted
-counted : (good : List ℕ → Type 0) (config : Config) (n failed failed' : ℕ) (e : Ended) (u w : CallerState) (s t t' : Tally) → e ≢ ClockFull
-    → failed' ≡ failed_next failed e → t' ≡ noted e t
-    → (v : CallerState) × (r : Tally) × Grows u v × Failing good config n failed u v s r × Tried good config n (leb 16 failed) (Some e) v w r t
-    → Failing good config n failed' u w s t'
-counted good config n failed failed' e u w s t t' apart next noted' h =
-    subst (λ (f : ℕ). Failing good config n f u w s t') (sym next)
-    (subst (λ (q : Tally). Failing good config n (failed_next failed e) u w s q) (sym noted')
-    (failing-more good config n failed (leb 16 failed) e u h.0 w s h.1 t apart refl h.3 h.4))
+counted : {H : Type 0} (hears : Ended → Option ℕ → H → H) (good : List ℕ → Type 0) (config : Config) (n failed failed' : ℕ) (e : Ended) (u w : CallerState)
+    (s t t' : Account H) → e ≢ ClockFull → failed' ≡ failed_next failed e → t' ≡ ended_in (Some e) t
+    → (v : CallerState) × (r : Account H) × Grows u v × Failing good config n hears failed u v s r × Tried good config n hears (leb 16 failed) (Some e) v w r t
+    → Failing good config n hears failed' u w s t'
+counted {H} hears good config n failed failed' e u w s t t' apart next noted' h =
+    subst (λ (f : ℕ). Failing good config n hears f u w s t') (sym next)
+    (subst (λ (q : Account H). Failing good config n hears (failed_next failed e) u w s q) (sym noted')
+    (failing-more good config n hears failed (leb 16 failed) e u h.0 w s h.1 t apart refl h.3 h.4))
 
 pub loop-preserved : goal.loop-preserved
 loop-preserved g c =
@@ -54,16 +54,16 @@ loop-preserved g c =
     let u = known c.args.desc.now in
     let v = known c.loop.desc in
     let w = known c.attempt-in-loop.new.desc in
-    let s = c.args.pace.now.tally in
-    let r = c.wait.new.self.tally in
+    let s = (account g.O.Observer.heard c.args.pace.now) in
+    let r = (account g.O.Observer.heard c.wait.new.self) in
     let inv = c.loop.invariant in
     let failed = c.failed_next-failed.result in
     let last = c.attempt-in-loop.new.pace.last in
     let grew = grows-trans u v w inv.grew c.attempt-in-loop.ensures.grew in
-    let before = counted good stm.config n c.loop.failed failed c.loop.pace.last u v s c.loop.pace.tally r c.in_default-last.not-ClockFull c.failed_next-failed.ensures c.wait.ensures.noted inv.failing in
-    let tried = subst (λ m. Tried good stm.config m (leb 16 failed) (Some last) v w r c.attempt-in-loop.new.pace.tally) (same-number c.args.desc.now c.loop.desc inv.same) c.in_default-attempt.ensures.tried in
-    let failing : (x : CallerState) × (q : Tally) × Grows u x × Failing good stm.config n failed u x s q
-    × Tried good stm.config n (leb 16 failed) (Some last) x w q c.attempt-in-loop.new.pace.tally =
+    let before = counted g.O.Observer.hears good stm.config n c.loop.failed failed c.loop.pace.last u v s (account g.O.Observer.heard c.loop.pace) r c.in_default-last.not-ClockFull c.failed_next-failed.ensures c.wait.ensures.noted inv.failing in
+    let tried = subst (λ m. Tried good stm.config m g.O.Observer.hears (leb 16 failed) (Some last) v w r (account g.O.Observer.heard c.attempt-in-loop.new.pace)) (same-number c.args.desc.now c.loop.desc inv.same) c.in_default-attempt.ensures.tried in
+    let failing : (x : CallerState) × (q : Account g.O.Observer.Heard) × Grows u x × Failing good stm.config n g.O.Observer.hears failed u x s q
+    × Tried good stm.config n g.O.Observer.hears (leb 16 failed) (Some last) x w q (account g.O.Observer.heard c.attempt-in-loop.new.pace) =
     (v, r, inv.grew, before, tried) in
     search (rules, grew, failing)
 
@@ -75,14 +75,14 @@ returns-in-Ok-attempt-clause-ran g c =
     let u = known c.args.desc.now in
     let v = known c.loop.desc in
     let w = known c.attempt-in-loop.new.desc in
-    let s = c.args.pace.now.tally in
-    let r = c.wait.new.self.tally in
-    let t = c.attempt-in-loop.new.pace.tally in
+    let s = (account g.O.Observer.heard c.args.pace.now) in
+    let r = (account g.O.Observer.heard c.wait.new.self) in
+    let t = (account g.O.Observer.heard c.attempt-in-loop.new.pace) in
     let inv = c.loop.invariant in
     let failed = c.failed_next-failed.result in
-    let before = counted good stm.config n c.loop.failed failed c.loop.pace.last u v s c.loop.pace.tally r c.in_default-last.not-ClockFull c.failed_next-failed.ensures c.wait.ensures.noted inv.failing in
-    let tried = subst (λ m. Tried good stm.config m (leb 16 failed) None v w r t) (same-number c.args.desc.now c.loop.desc inv.same) c.in-Ok-attempt.ensures.tried in
-    let ran = ran good stm.config n failed (leb 16 failed) None u v w s r t refl before tried in
+    let before = counted g.O.Observer.hears good stm.config n c.loop.failed failed c.loop.pace.last u v s (account g.O.Observer.heard c.loop.pace) r c.in_default-last.not-ClockFull c.failed_next-failed.ensures c.wait.ensures.noted inv.failing in
+    let tried = subst (λ m. Tried good stm.config m g.O.Observer.hears (leb 16 failed) None v w r t) (same-number c.args.desc.now c.loop.desc inv.same) c.in-Ok-attempt.ensures.tried in
+    let ran = ran good stm.config n g.O.Observer.hears failed (leb 16 failed) None u v w s r t refl before tried in
     search (rules, ran)
 
 pub returns-in-ClockFull-clause-gave_up : goal.returns-in-ClockFull-clause-gave_up
@@ -92,9 +92,9 @@ returns-in-ClockFull-clause-gave_up g c =
     let n = number c.args.desc.now in
     let w = known c.loop.desc in
     let h = c.loop.invariant.failing in
-    let tried = subst (λ e. Tried good stm.config n (leb 16 c.loop.failed) (Some e) h.0 w h.1 c.loop.pace.tally) c.in-ClockFull.is h.4 in
-    let ran = ran good stm.config n c.loop.failed (leb 16 c.loop.failed) (Some ClockFull) (known c.args.desc.now) h.0 w
-    c.args.pace.now.tally h.1 c.loop.pace.tally refl h.3 tried in
+    let tried = subst (λ e. Tried good stm.config n g.O.Observer.hears (leb 16 c.loop.failed) (Some e) h.0 w h.1 (account g.O.Observer.heard c.loop.pace)) c.in-ClockFull.is h.4 in
+    let ran = ran good stm.config n g.O.Observer.hears c.loop.failed (leb 16 c.loop.failed) (Some ClockFull) (known c.args.desc.now) h.0 w
+    (account g.O.Observer.heard c.args.pace.now) h.1 (account g.O.Observer.heard c.loop.pace) refl h.3 tried in
     search (rules, ran)
 
 pub returns-in-ClockFull-clause-full : goal.returns-in-ClockFull-clause-full
@@ -104,8 +104,8 @@ returns-in-ClockFull-clause-full g c =
     let n = number c.args.desc.now in
     let w = known c.loop.desc in
     let h = c.loop.invariant.failing in
-    let tried = subst (λ e. Tried good stm.config n (leb 16 c.loop.failed) (Some e) h.0 w h.1 c.loop.pace.tally) c.in-ClockFull.is h.4 in
-    let found = tried-full good stm.config n (leb 16 c.loop.failed) h.1 c.loop.pace.tally h.0 w tried in
+    let tried = subst (λ e. Tried good stm.config n g.O.Observer.hears (leb 16 c.loop.failed) (Some e) h.0 w h.1 (account g.O.Observer.heard c.loop.pace)) c.in-ClockFull.is h.4 in
+    let found = tried-full good stm.config n g.O.Observer.hears (leb 16 c.loop.failed) h.1 (account g.O.Observer.heard c.loop.pace) h.0 w tried in
     (found.0, full-earlier found.0 (known c.args.desc.now) h.0 w h.2 found.1)
 
 pub returns-in-Ok-attempt-clause-grew : goal.returns-in-Ok-attempt-clause-grew

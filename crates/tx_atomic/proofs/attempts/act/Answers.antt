@@ -1,5 +1,8 @@
-use Rattle.std.proofs.Common.{◌∙◌, rules}
+use Rattle.std.proofs.Common.{◌≡◌, ◌∙◌, rules, sym, subst}
+use Rattle.std.specs.Prelude.{Some}
 use Rattle.stm_tx.specs.Descs.{known, number}
+use Rattle.tx_atomic.specs.Accounts.{account, told}
+use Rattle.tx_atomic.specs.declared.tally.Ended.{Ended}
 use Rattle.tx_atomic.specs.AttemptLaws.{stopped-idle}
 use Rattle.tx_atomic.specs.TryLaws.{stopped}
 use Rattle.tx_atomic.proofs.attempts.act.Goals as goal
@@ -31,5 +34,8 @@ returns-in-Err-clause-over g c =
 pub returns-in-Err-clause-stopped : goal.returns-in-Err-clause-stopped
 returns-in-Err-clause-stopped g c =
     let stm = c.args.stm.now in
-    let is = stopped (g.K.MemRule.good stm.rule) stm.config (number c.args.desc.now) _ _ (known c.args.desc.now) _ c.in-Err.ensures.stops c.in-Err.ensures.keeps.0.1 in
+    let told = subst (λ (e : Ended). account g.O.Observer.heard c.refuse.new.self ≡ told g.O.Observer.hears (Some e) c.address.result (account g.O.Observer.heard c.args.pace.now))
+    c.by.ensures c.refuse.ensures.told in
+    let is = stopped (g.K.MemRule.good stm.rule) stm.config (number c.args.desc.now) g.O.Observer.hears _ _ (known c.args.desc.now) _ (account g.O.Observer.heard c.args.pace.now) (account g.O.Observer.heard c.refuse.new.self)
+    c.in-Err.ensures.stops c.in-Err.ensures.keeps.0.1 (rw (sym c.address.ensures) told) in
     rw (c.refuse.ensures.last ∙ c.by.ensures) (search (rules, is))

@@ -3,6 +3,7 @@ use Rattle.std.specs.Prelude.{Some, None, MatchResult}
 use Rattle.std.proofs.lemmas.Result.{err_from_is_err_and, IfOk-weaker, on_err_weaker}
 use Rattle.tx_answers.specs.CallerStateLaws.{grows-trans}
 use Rattle.stm_tx.specs.Descs.{known, number}
+use Rattle.tx_atomic.specs.Accounts.{account}
 use Rattle.tx_atomic.specs.Attempts.{TookEffect}
 use Rattle.tx_atomic.specs.AttemptLaws.{same-number, took-since}
 use Rattle.tx_atomic.specs.Tries.{Runs}
@@ -38,11 +39,11 @@ returns-clause-tried g c =
     let good = g.K.MemRule.good stm.rule in
     let v = known c.open.new.desc in
     let w = known c.run_looking_up.new.desc in
-    let r = c.open.new.pace.tally in
-    let t = c.run_looking_up.new.pace.tally in
+    let r = (account g.O.Observer.heard c.open.new.pace) in
+    let t = (account g.O.Observer.heard c.run_looking_up.new.pace) in
     let runs = subst
     (λ n.
-    MatchResult c.run_looking_up.result (λ _. Runs good stm.config n None v w r t) (λ _. Runs good stm.config n (Some c.run_looking_up.new.pace.last) v w r t))
+    MatchResult c.run_looking_up.result (λ _. Runs good stm.config n g.O.Observer.hears None v w r t) (λ _. Runs good stm.config n g.O.Observer.hears (Some c.run_looking_up.new.pace.last) v w r t))
     (same-number c.args.desc.now c.open.new.desc c.open.ensures.same) c.run_looking_up.ensures.runs in
-    tried-ran good stm.config (number c.args.desc.now) c.run_looking_up.result true c.run_looking_up.new.pace.last (known c.args.desc.now) v w
-    c.args.pace.now.tally r t (λ _. c.in_ok-open.ensures.irrevocable) c.run_looking_up.ensures.unrefused c.in_ok-open.ensures.opens runs
+    tried-ran good stm.config (number c.args.desc.now) g.O.Observer.hears c.run_looking_up.result true c.run_looking_up.new.pace.last (known c.args.desc.now) v w
+    (account g.O.Observer.heard c.args.pace.now) r t (λ _. c.in_ok-open.ensures.irrevocable) c.run_looking_up.ensures.unrefused c.in_ok-open.ensures.opens runs

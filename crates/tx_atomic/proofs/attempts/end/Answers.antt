@@ -10,9 +10,8 @@ use Rattle.tx_answers.specs.CallerState.{CallerState}
 use Rattle.tx_atomic.specs.declared.tally.Ended.{Ended}
 use Rattle.tx_atomic.specs.declared.tally.Ended.TheVariants as ends
 use Rattle.tx_atomic.specs.declared.tally.Ended.TheVariants.{Again}
-use Rattle.tx_atomic.specs.declared.tally.Tally.{Tally}
-use Rattle.tx_atomic.specs.Tallies.{noted, noted_times}
-use Rattle.tx_atomic.specs.Tries.{FindsAgain, FinishesBy, Finishes}
+use Rattle.tx_atomic.specs.Accounts.{Account, account, met, met_times, told}
+use Rattle.tx_atomic.specs.Tries.{EndsRun, FindsAgain, Finishes}
 use Rattle.tx_atomic.specs.TryLaws.{again-more, commit-full, commit-done}
 use Rattle.tx_atomic.proofs.attempts.end.Goals as goal
 
@@ -36,7 +35,7 @@ pub loop-init : goal.loop-init
 loop-init g c =
     let grew = (carries-refl (known c.args.desc.now)).grows in
     let again : (k : ℕ) × FindsAgain (g.K.MemRule.good c.args.stm.now.rule) c.args.stm.now.config (number c.args.desc.now) k
-    (known c.args.desc.now) (known c.args.desc.now) × (c.args.pace.now.tally ≡ noted_times k Again c.args.pace.now.tally) =
+    (known c.args.desc.now) (known c.args.desc.now) × (account g.O.Observer.heard c.args.pace.now ≡ met_times g.O.Observer.hears k Again (account g.O.Observer.heard c.args.pace.now)) =
     (0, refl, refl) in
     search (rules, grew, again)
 
@@ -52,29 +51,35 @@ loop-preserved g c =
     let grew = commits-grow good stm.config (number c.loop.desc) c.commit-answer.result.answer u v w inv.grew c.commit-answer.ensures.commits in
     let went = subst (λ r. Commits good stm.config (number c.loop.desc) r v w) c.in-Again.is c.commit-answer.ensures.commits in
     let more = again-more good stm.config n inv.again.0 (number c.loop.desc) c.commit-answer.result.answer _ _ _ u v w (same-number c.args.desc.now c.loop.desc inv.same) inv.again.1 c.in-Again.is c.commit-answer.ensures.commits in
-    let again : (k : ℕ) × FindsAgain good stm.config n k u w × (c.wait_at_commit.new.self.tally ≡ noted_times k Again c.args.pace.now.tally)
-    = (suc inv.again.0, more, c.wait_at_commit.ensures.noted ∙ ap (noted Again) inv.again.2) in
+    let again : (k : ℕ) × FindsAgain good stm.config n k u w × (account g.O.Observer.heard c.wait_at_commit.new.self ≡ met_times g.O.Observer.hears k Again (account g.O.Observer.heard c.args.pace.now))
+    = (suc inv.again.0, more, c.wait_at_commit.ensures.noted ∙ ap (met g.O.Observer.hears Again) inv.again.2) in
     search (rules, grew, went, again)
 
--- what came of the calls, and the last of them
-finishes : (good : List ℕ → Type 0) (config : Config) (n m : ℕ) (o : Option Ended) (u v w : CallerState) (s t : Tally) → m ≡ n
-    → (k : ℕ) × FindsAgain good config n k u v × (t ≡ noted_times k Again s) → FinishesBy good config m o v w
-    → Finishes good config n o u w s t
-finishes good config n m o u v w s t same again h = record { again = again.0; before = v; waits = again.1; last = subst (λ i. FinishesBy good config i o v w) same h; counted = again.2 }
+module _ {H : Type 0} (hears : Ended → Option ℕ → H → H) (good : List ℕ → Type 0) (config : Config) where
+  -- what came of the calls, and the last of them
+  finishes : (n m : ℕ) (o : Option Ended) (u v w : CallerState) (s t t' : Account H) → t' ≡ told hears o None t → m ≡ n
+      → (k : ℕ) × FindsAgain good config n k u v × (t ≡ met_times hears k Again s) → EndsRun good config m None o v w
+      → Finishes good config n hears o u w s t'
+  finishes n m o u v w s t t' told' same again h = record {
+    again = again.0;
+    before = v;
+    waits = again.1;
+    last = subst (λ i. EndsRun good config i None o v w) same h;
+    counted = told' ∙ ap (told hears o None) again.2;
+  }
 
--- the same of a refusal, which the pacing keeps
-refused : (good : List ℕ → Type 0) (config : Config) (n m : ℕ) (e last : Ended) (u v w : CallerState) (s t t' : Tally) → last ≡ e → t' ≡ t
-    → m ≡ n → (k : ℕ) × FindsAgain good config n k u v × (t ≡ noted_times k Again s) → FinishesBy good config m (Some e) v w
-    → Finishes good config n (Some last) u w s t'
-refused good config n m e last u v w s t t' is kept same again h =
-    subst (λ (d : Ended). Finishes good config n (Some d) u w s t') (sym is)
-    (finishes good config n m (Some e) u v w s t' same (again.0, again.1, kept ∙ again.2) h)
+  -- the same of a refusal, which the pacing keeps
+  refused : (n m : ℕ) (e last : Ended) (u v w : CallerState) (s t t' : Account H) → last ≡ e → t' ≡ told hears (Some e) None t → m ≡ n
+      → (k : ℕ) × FindsAgain good config n k u v × (t ≡ met_times hears k Again s) → EndsRun good config m None (Some e) v w
+      → Finishes good config n hears (Some last) u w s t'
+  refused n m e last u v w s t t' is told' same again h =
+      subst (λ (d : Ended). Finishes good config n hears (Some d) u w s t') (sym is) (finishes n m (Some e) u v w s t t' told' same again h)
 
 pub returns-in-Committed-clause-finishes : goal.returns-in-Committed-clause-finishes
 returns-in-Committed-clause-finishes g c =
     let stm = c.args.stm.now in
-    finishes (g.K.MemRule.good stm.rule) stm.config (number c.args.desc.now) (number c.loop.desc) None (known c.args.desc.now)
-    (known c.loop.desc) (known c.commit-answer.new.desc) c.args.pace.now.tally c.loop.pace.tally
+    finishes g.O.Observer.hears (g.K.MemRule.good stm.rule) stm.config (number c.args.desc.now) (number c.loop.desc) None (known c.args.desc.now)
+    (known c.loop.desc) (known c.commit-answer.new.desc) (account g.O.Observer.heard c.args.pace.now) (account g.O.Observer.heard c.loop.pace) (account g.O.Observer.heard c.loop.pace) refl
     (same-number c.args.desc.now c.loop.desc c.loop.invariant.same) c.loop.invariant.again
     (commit-done (g.K.MemRule.good stm.rule) stm.config (number c.loop.desc) c.commit-answer.result.answer (known c.loop.desc) (known c.commit-answer.new.desc)
     c.in-Committed.is c.commit-answer.ensures.commits)
@@ -82,18 +87,18 @@ returns-in-Committed-clause-finishes g c =
 pub returns-in-Conflict-clause-finishes : goal.returns-in-Conflict-clause-finishes
 returns-in-Conflict-clause-finishes g c =
     let stm = c.args.stm.now in
-    refused (g.K.MemRule.good stm.rule) stm.config (number c.args.desc.now) (number c.loop.desc) (ends.Conflict c.in-Conflict.cause)
-    c.refuse.new.self.last (known c.args.desc.now) (known c.loop.desc) (known c.commit-answer.new.desc) c.args.pace.now.tally c.loop.pace.tally
-    c.refuse.new.self.tally c.refuse.ensures.last c.refuse.ensures.tally (same-number c.args.desc.now c.loop.desc c.loop.invariant.same)
+    refused g.O.Observer.hears (g.K.MemRule.good stm.rule) stm.config (number c.args.desc.now) (number c.loop.desc) (ends.Conflict c.in-Conflict.cause)
+    c.refuse.new.self.last (known c.args.desc.now) (known c.loop.desc) (known c.commit-answer.new.desc) (account g.O.Observer.heard c.args.pace.now) (account g.O.Observer.heard c.loop.pace)
+    (account g.O.Observer.heard c.refuse.new.self) c.refuse.ensures.last c.refuse.ensures.told (same-number c.args.desc.now c.loop.desc c.loop.invariant.same)
     c.loop.invariant.again
     (subst (λ r. Commits (g.K.MemRule.good stm.rule) stm.config (number c.loop.desc) r (known c.loop.desc) (known c.commit-answer.new.desc)) c.in-Conflict.is c.commit-answer.ensures.commits)
 
 pub returns-in-ClockFull-clause-finishes : goal.returns-in-ClockFull-clause-finishes
 returns-in-ClockFull-clause-finishes g c =
     let stm = c.args.stm.now in
-    refused (g.K.MemRule.good stm.rule) stm.config (number c.args.desc.now) (number c.loop.desc) ends.ClockFull
-    c.refuse-in-ClockFull.new.self.last (known c.args.desc.now) (known c.loop.desc) (known c.commit-answer.new.desc) c.args.pace.now.tally
-    c.loop.pace.tally c.refuse-in-ClockFull.new.self.tally c.refuse-in-ClockFull.ensures.last c.refuse-in-ClockFull.ensures.tally
+    refused g.O.Observer.hears (g.K.MemRule.good stm.rule) stm.config (number c.args.desc.now) (number c.loop.desc) ends.ClockFull
+    c.refuse-in-ClockFull.new.self.last (known c.args.desc.now) (known c.loop.desc) (known c.commit-answer.new.desc) (account g.O.Observer.heard c.args.pace.now)
+    (account g.O.Observer.heard c.loop.pace) (account g.O.Observer.heard c.refuse-in-ClockFull.new.self) c.refuse-in-ClockFull.ensures.last c.refuse-in-ClockFull.ensures.told
     (same-number c.args.desc.now c.loop.desc c.loop.invariant.same) c.loop.invariant.again
     (commit-full (g.K.MemRule.good stm.rule) stm.config (number c.loop.desc) c.commit-answer.result.answer _ (known c.loop.desc) (known c.commit-answer.new.desc)
     c.in-ClockFull.is c.commit-answer.ensures.commits)

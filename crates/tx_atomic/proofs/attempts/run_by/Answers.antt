@@ -7,7 +7,7 @@ use Rattle.tx_answers.specs.CallerStateLaws.{grows-trans}
 use Rattle.stm_tx.specs.Descs.{known, number, serves-on}
 use Rattle.tx_atomic.specs.AttemptLaws.{same-number}
 use Rattle.tx_atomic.specs.Tries.{Finishes}
-use Rattle.tx_atomic.specs.declared.tally.Tally.{Tally}
+use Rattle.tx_atomic.specs.Accounts.{Account, account}
 use Rattle.tx_atomic.specs.TryLaws.{runs-stopped, runs-finished}
 use Rattle.tx_atomic.proofs.attempts.run_by.Goals as goal
 
@@ -17,8 +17,8 @@ end-requires-clause-served g c = serves-on g.C.Calls.acts_as (known c.args.desc.
 pub returns-in_err-output-clause-runs : goal.returns-in_err-output-clause-runs
 returns-in_err-output-clause-runs g c =
     let stm = c.args.stm.now in
-    let runs = runs-stopped (g.K.MemRule.good stm.rule) stm.config (number c.args.desc.now) c.act.new.pace.last (known c.args.desc.now)
-    (known c.act.new.desc) c.args.pace.now.tally c.act.new.pace.tally c.act.ensures.uncounted c.in_err-output.ensures.stopped in
+    let runs = runs-stopped (g.K.MemRule.good stm.rule) stm.config (number c.args.desc.now) g.O.Observer.hears c.act.new.pace.last (known c.args.desc.now)
+    (known c.act.new.desc) (account g.O.Observer.heard c.args.pace.now) (account g.O.Observer.heard c.act.new.pace) c.in_err-output.ensures.stopped in
     let p = err_from_is_err_and c.from_residual.result c.from_residual.ensures.1 in
     rw p.1 runs
 
@@ -32,9 +32,9 @@ returns-in_err-end-clause-runs g c =
     let x = known c.act.new.desc in
     let w = known c.end.new.desc in
     let last = c.end.new.pace.last in
-    let here = subst (λ i. Finishes good stm.config i (Some last) x w c.act.new.pace.tally c.end.new.pace.tally) (same-number c.args.desc.now c.act.new.desc c.act.ensures.same) c.in_err-end.ensures.finishes in
-    let finishes = subst (λ (t : Tally). Finishes good stm.config (number c.args.desc.now) (Some last) x w t c.end.new.pace.tally) c.act.ensures.uncounted here in
-    let runs = runs-finished good stm.config (number c.args.desc.now) (Some last) (known c.args.desc.now) x w c.args.pace.now.tally c.end.new.pace.tally c.act.ensures.grew finishes in
+    let here = subst (λ i. Finishes good stm.config i g.O.Observer.hears (Some last) x w (account g.O.Observer.heard c.act.new.pace) (account g.O.Observer.heard c.end.new.pace)) (same-number c.args.desc.now c.act.new.desc c.act.ensures.same) c.in_err-end.ensures.finishes in
+    let finishes = subst (λ (t : Account g.O.Observer.Heard). Finishes good stm.config (number c.args.desc.now) g.O.Observer.hears (Some last) x w t (account g.O.Observer.heard c.end.new.pace)) c.in_ok-output.ensures.untold here in
+    let runs = runs-finished good stm.config (number c.args.desc.now) g.O.Observer.hears (Some last) (known c.args.desc.now) x w (account g.O.Observer.heard c.args.pace.now) (account g.O.Observer.heard c.end.new.pace) c.act.ensures.grew finishes in
     let p = err_from_is_err_and c.from_residual-in_err-end.result c.from_residual-in_err-end.ensures.1 in
     rw p.1 runs
 
@@ -58,10 +58,10 @@ returns-clause-runs g c =
     let good = g.K.MemRule.good stm.rule in
     let x = known c.act.new.desc in
     let w = known c.end.new.desc in
-    let here = subst (λ i. Finishes good stm.config i None x w c.act.new.pace.tally c.end.new.pace.tally) (same-number c.args.desc.now c.act.new.desc c.act.ensures.same) c.in_ok-end.ensures.finishes in
-    runs-finished good stm.config (number c.args.desc.now) None (known c.args.desc.now) x w c.args.pace.now.tally c.end.new.pace.tally
+    let here = subst (λ i. Finishes good stm.config i g.O.Observer.hears None x w (account g.O.Observer.heard c.act.new.pace) (account g.O.Observer.heard c.end.new.pace)) (same-number c.args.desc.now c.act.new.desc c.act.ensures.same) c.in_ok-end.ensures.finishes in
+    runs-finished good stm.config (number c.args.desc.now) g.O.Observer.hears None (known c.args.desc.now) x w (account g.O.Observer.heard c.args.pace.now) (account g.O.Observer.heard c.end.new.pace)
     c.act.ensures.grew
-    (subst (λ (t : Tally). Finishes good stm.config (number c.args.desc.now) None x w t c.end.new.pace.tally) c.act.ensures.uncounted here)
+    (subst (λ (t : Account g.O.Observer.Heard). Finishes good stm.config (number c.args.desc.now) g.O.Observer.hears None x w t (account g.O.Observer.heard c.end.new.pace)) c.in_ok-output.ensures.untold here)
 
 pub returns-clause-took : goal.returns-clause-took
 returns-clause-took g c =

@@ -9,6 +9,7 @@ use Rattle.tx_atomic.specs.Callers.{Took}
 use Rattle.tx_atomic.specs.Waits.{HasLooked}
 use Rattle.tx_watching.specs.Watches.{CoverReads}
 use Rattle.tx_atomic.specs.declared.tally.Ended.TheVariants.{ClockFull}
+use Rattle.tx_atomic.specs.Accounts.{account}
 use Rattle.tx_atomic.specs.Tries.{Ran, HaveRun}
 use Rattle.tx_atomic.specs.TryLaws.{full-earlier, run-more, ran-again}
 use Rattle.tx_atomic.proofs.waiting.until_some.Goals as goal
@@ -17,7 +18,7 @@ pub loop-init : goal.loop-init
 loop-init g c =
     let stm = c.args.stm.now in
     let grew = (carries-refl (known c.args.desc.now)).grows in
-    let runs : (k : ℕ) × HaveRun (g.K.MemRule.good stm.rule) stm.config (number c.args.desc.now) k (known c.args.desc.now) (known c.args.desc.now) c.args.pace.now.tally c.args.pace.now.tally = (0, (refl, refl)) in
+    let runs : (k : ℕ) × HaveRun (g.K.MemRule.good stm.rule) stm.config (number c.args.desc.now) g.O.Observer.hears k (known c.args.desc.now) (known c.args.desc.now) (account g.O.Observer.heard c.args.pace.now) (account g.O.Observer.heard c.args.pace.now) = (0, (refl, refl)) in
     search (rules, grew, runs)
 
 pub loop-preserved : goal.loop-preserved
@@ -33,9 +34,9 @@ loop-preserved g c =
     let made = took-nothing (g.K.MemRule.good stm.rule) stm.config (number c.loop.desc) (λ log. postcondition None log × CoverReads read log) v.front v w (λ log told. c.requires.waits log told.0) took ∙ c.loop.invariant.made in
     let good = g.K.MemRule.good stm.rule in
     let n = number c.args.desc.now in
-    let ran = subst (λ i. Ran good stm.config i None v w c.loop.pace.tally c.atomically.new.pace.tally) (same-number c.args.desc.now c.loop.desc c.loop.invariant.same) c.in-Some-None-default.ensures.ran in
-    let runs : (k : ℕ) × HaveRun good stm.config n k (known c.args.desc.now) w c.args.pace.now.tally c.atomically.new.pace.tally =
-    (suc c.loop.invariant.runs.0, run-more good stm.config n c.loop.invariant.runs.0 (known c.args.desc.now) v w c.args.pace.now.tally c.loop.pace.tally c.atomically.new.pace.tally c.loop.invariant.runs.1 ran) in
+    let ran = subst (λ i. Ran good stm.config i g.O.Observer.hears None v w (account g.O.Observer.heard c.loop.pace) (account g.O.Observer.heard c.atomically.new.pace)) (same-number c.args.desc.now c.loop.desc c.loop.invariant.same) c.in-Some-None-default.ensures.ran in
+    let runs : (k : ℕ) × HaveRun good stm.config n g.O.Observer.hears k (known c.args.desc.now) w (account g.O.Observer.heard c.args.pace.now) (account g.O.Observer.heard c.atomically.new.pace) =
+    (suc c.loop.invariant.runs.0, run-more good stm.config n g.O.Observer.hears c.loop.invariant.runs.0 (known c.args.desc.now) v w (account g.O.Observer.heard c.args.pace.now) (account g.O.Observer.heard c.loop.pace) (account g.O.Observer.heard c.atomically.new.pace) c.loop.invariant.runs.1 ran) in
     search (rules, grew, made, runs)
 
 pub returns-in-None-atomically-clause-grew : goal.returns-in-None-atomically-clause-grew
@@ -74,8 +75,8 @@ returns-in-None-atomically-clause-gave_up g c =
     let good = g.K.MemRule.good stm.rule in
     let v = known c.loop.desc in
     let w = known c.atomically.new.desc in
-    let ran = subst (λ i. Ran good stm.config i (Some ClockFull) v w c.loop.pace.tally c.atomically.new.pace.tally) (same-number c.args.desc.now c.loop.desc c.loop.invariant.same) c.in-None-atomically.ensures.gave_up in
-    ran-again good stm.config (number c.args.desc.now) (Some ClockFull) (known c.args.desc.now) v w c.args.pace.now.tally c.loop.pace.tally c.atomically.new.pace.tally c.loop.invariant.runs ran
+    let ran = subst (λ i. Ran good stm.config i g.O.Observer.hears (Some ClockFull) v w (account g.O.Observer.heard c.loop.pace) (account g.O.Observer.heard c.atomically.new.pace)) (same-number c.args.desc.now c.loop.desc c.loop.invariant.same) c.in-None-atomically.ensures.gave_up in
+    ran-again good stm.config (number c.args.desc.now) g.O.Observer.hears (Some ClockFull) (known c.args.desc.now) v w (account g.O.Observer.heard c.args.pace.now) (account g.O.Observer.heard c.loop.pace) (account g.O.Observer.heard c.atomically.new.pace) c.loop.invariant.runs ran
 
 pub returns-in-Some-Some-default-clause-ran : goal.returns-in-Some-Some-default-clause-ran
 returns-in-Some-Some-default-clause-ran g c =
@@ -83,8 +84,8 @@ returns-in-Some-Some-default-clause-ran g c =
     let good = g.K.MemRule.good stm.rule in
     let v = known c.loop.desc in
     let w = known c.atomically.new.desc in
-    let ran = subst (λ i. Ran good stm.config i None v w c.loop.pace.tally c.atomically.new.pace.tally) (same-number c.args.desc.now c.loop.desc c.loop.invariant.same) c.in-Some-Some-default.ensures.ran in
-    ran-again good stm.config (number c.args.desc.now) None (known c.args.desc.now) v w c.args.pace.now.tally c.loop.pace.tally c.atomically.new.pace.tally c.loop.invariant.runs ran
+    let ran = subst (λ i. Ran good stm.config i g.O.Observer.hears None v w (account g.O.Observer.heard c.loop.pace) (account g.O.Observer.heard c.atomically.new.pace)) (same-number c.args.desc.now c.loop.desc c.loop.invariant.same) c.in-Some-Some-default.ensures.ran in
+    ran-again good stm.config (number c.args.desc.now) g.O.Observer.hears None (known c.args.desc.now) v w (account g.O.Observer.heard c.args.pace.now) (account g.O.Observer.heard c.loop.pace) (account g.O.Observer.heard c.atomically.new.pace) c.loop.invariant.runs ran
 
 pub rest-requires : goal.rest-requires
 rest-requires g c =

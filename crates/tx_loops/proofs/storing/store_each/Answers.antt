@@ -1,18 +1,15 @@
 use Rattle.std.proofs.Common.{ℕ, ◌<◌, ◌∙◌, refl, length, sym, subst, arith}
 use Rattle.stm_model.specs.Logs.{Writes}
-use Rattle.tx_answers.specs.CallerState.{is_irrevocable}
 use Rattle.tx_checked.specs.CheckedCallers.{config_of, known_to}
-use Rattle.tx_loops.specs.Loops.{IsRefused}
 use Rattle.tx_loops.specs.Stages.{IsSpared}
 use Rattle.tx_parts.specs.LayingLaws.{lays-more}
 use Rattle.tx_loops.proofs.CommitLaws.{nothing-refl, nothing-trans}
-use Rattle.tx_loops.proofs.StoreLaws.{Wrote, spared-here, was-revocable, write-comes}
+use Rattle.tx_loops.proofs.StoreLaws.{Wrote, spared-here, stopped-at, write-comes}
 use Rattle.tx_loops.proofs.storing.store_each.Goals as goal
 
 pub loop-i-init : goal.loop-i-init
 loop-i-init c = record {
   nothing = nothing-refl c.args.caller.now;
-  range = refl;
   runs = c.requires.running;
   fence = refl;
   alg = refl;
@@ -37,7 +34,6 @@ loop-i-preserved c =
     let since = one.later in
     record {
       nothing = nothing-trans m k n i.nothing one.nothing;
-      range = one.range ∙ i.range;
       runs = one.runs;
       fence = one.fence ∙ i.fence;
       alg = one.alg ∙ i.alg;
@@ -51,25 +47,32 @@ loop-i-preserved c =
 pub returns-then-not-written-clause-nothing : goal.returns-then-not-written-clause-nothing
 returns-then-not-written-clause-nothing c =
     let i = c.loop-i.invariant in
-    let m = c.args.caller.now in
-    let k = c.loop-i.caller in
-    let n = c.write.new.self in
     let is = c.args.buffer.now.items in
     let low : c.loop-i.i < length is = omega (arith, c.loop-i-test.true, c.count-i-end.ensures.count) in
-    let spared = subst (λ (w : ℕ × ℕ). IsSpared (config_of k).words (known_to k).fence w.0) (sym c.item-a.ensures) (spared-here m k c.loop-i.i is low i.nothing i.fence c.requires.spared) in
-    let came = write-comes c.item-a.result.0 c.item-a.result.1 k n c.write.result i.runs spared c.write.ensures in
-    let refused : IsRefused k n = (came.1 (sym c.was_written-written.ensures ∙ c.if-not-written.true)).0 in
-    nothing-trans m k n i.nothing refused.1
+    let stopped =
+    stopped-at c.args.caller.now c.loop-i.caller c.write.new.self c.loop-i.i is c.item-a.result c.write.result low c.item-a.ensures c.count-i-end.ensures.once i.nothing i.runs i.fence i.irrevocable c.requires.spared c.write.ensures
+    (sym c.was_written-written.ensures ∙ c.if-not-written.true)
+    in
+    stopped.nothing
 
 pub returns-then-not-written-clause-ended : goal.returns-then-not-written-clause-ended
 returns-then-not-written-clause-ended c =
     let i = c.loop-i.invariant in
-    let m = c.args.caller.now in
-    let k = c.loop-i.caller in
-    let n = c.write.new.self in
     let is = c.args.buffer.now.items in
     let low : c.loop-i.i < length is = omega (arith, c.loop-i-test.true, c.count-i-end.ensures.count) in
-    let spared = subst (λ (w : ℕ × ℕ). IsSpared (config_of k).words (known_to k).fence w.0) (sym c.item-a.ensures) (spared-here m k c.loop-i.i is low i.nothing i.fence c.requires.spared) in
-    let came = write-comes c.item-a.result.0 c.item-a.result.1 k n c.write.result i.runs spared c.write.ensures in
-    let refused : IsRefused k n = (came.1 (sym c.was_written-written.ensures ∙ c.if-not-written.true)).0 in
-    λ e. (refused.0, was-revocable (is_irrevocable (known_to m)) (is_irrevocable (known_to k)) i.irrevocable refused.2)
+    let stopped =
+    stopped-at c.args.caller.now c.loop-i.caller c.write.new.self c.loop-i.i is c.item-a.result c.write.result low c.item-a.ensures c.count-i-end.ensures.once i.nothing i.runs i.fence i.irrevocable c.requires.spared c.write.ensures
+    (sym c.was_written-written.ensures ∙ c.if-not-written.true)
+    in
+    λ e. stopped.ended
+
+pub returns-then-not-written-clause-hindered : goal.returns-then-not-written-clause-hindered
+returns-then-not-written-clause-hindered c =
+    let i = c.loop-i.invariant in
+    let is = c.args.buffer.now.items in
+    let low : c.loop-i.i < length is = omega (arith, c.loop-i-test.true, c.count-i-end.ensures.count) in
+    let stopped =
+    stopped-at c.args.caller.now c.loop-i.caller c.write.new.self c.loop-i.i is c.item-a.result c.write.result low c.item-a.ensures c.count-i-end.ensures.once i.nothing i.runs i.fence i.irrevocable c.requires.spared c.write.ensures
+    (sym c.was_written-written.ensures ∙ c.if-not-written.true)
+    in
+    λ e. stopped.hindered

@@ -8,7 +8,6 @@ use Rattle.tx_loops.proofs.storing.store_each.Given as goal
 abbrev pub invariant-loop-i : goal.invariant-loop-i
 invariant-loop-i l = record {
   nothing : MadeNothing l.fn.caller l.caller;
-  range : l.caller.range ≡ l.fn.caller.range;
   runs : IsRunning (known_to l.caller);
   fence : (known_to l.caller).fence ≡ (known_to l.fn.caller).fence;
   alg : (known_to l.caller).alg ≡ (known_to l.fn.caller).alg;

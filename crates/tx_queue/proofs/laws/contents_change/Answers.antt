@@ -1,4 +1,4 @@
-use Rattle.tx_queue.proofs.QueueLaws.{puts-last, gets-first, counts-length}
+use Rattle.tx_queue.specs.QueueLaws.{puts-last, gets-first, counts-length, replies-tell}
 use Rattle.tx_queue.proofs.laws.contents_change.Goals as goal
 
 pub returns-clause-puts : goal.returns-clause-puts
@@ -9,3 +9,6 @@ returns-clause-gets c = gets-first
 
 pub returns-clause-counts : goal.returns-clause-counts
 returns-clause-counts c = counts-length
+
+pub returns-clause-tells : goal.returns-clause-tells
+returns-clause-tells c = replies-tell

@@ -1,4 +1,4 @@
-use Rattle.tx_queue.proofs.QueueLaws.{zeros-empty, own-words, changes-own}
+use Rattle.tx_queue.specs.QueueLaws.{zeros-empty, own-words, changes-own, beside}
 use Rattle.tx_queue.proofs.laws.queues_are_apart.Goals as goal
 
 pub returns-clause-empty : goal.returns-clause-empty
@@ -9,3 +9,6 @@ returns-clause-apart c = own-words
 
 pub returns-clause-within : goal.returns-clause-within
 returns-clause-within c = changes-own
+
+pub returns-clause-beside : goal.returns-clause-beside
+returns-clause-beside c = beside

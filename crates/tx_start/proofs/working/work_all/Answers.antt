@@ -9,5 +9,5 @@ returns-clause-done g c = λ i d e lt.
     let at = (c.in_ok-left.ensures.each i d lt).1 in
     let call = at.call in
     let stm = c.args.stm.now in
-    let done : Works (g.J.Job.postcondition c.args.job.now stm.rule stm.config.words) at.job (slice_index_or c.in_ok-left.left.items i d) = search rules in
-    subst (λ (x : Handle g.row.K.Denot). Works (g.J.Job.postcondition c.args.job.now stm.rule stm.config.words) x (slice_index_or c.in_ok-left.left.items i d)) (sym (at.job_is e)) done
+    let done : Works (g.K.MemRule.good stm.rule) stm.config (g.J.Job.postcondition c.args.job.now stm.rule stm.config.words) at.job (slice_index_or c.in_ok-left.left.items i d) = search rules in
+    subst (λ (x : Handle g.row.K.Denot). Works (g.K.MemRule.good stm.rule) stm.config (g.J.Job.postcondition c.args.job.now stm.rule stm.config.words) x (slice_index_or c.in_ok-left.left.items i d)) (sym (at.job_is e)) done

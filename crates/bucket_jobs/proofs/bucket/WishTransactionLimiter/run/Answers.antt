@@ -1,4 +1,4 @@
-use Rattle.std.proofs.Common.{rules, ℕ, ◌≡◌, ◌<◌, ◌≤◌, ◌+◌, ◌-◌, ◌∙◌, List, [], ◌∷◌, length, get_or, refl, arith}
+use Rattle.std.proofs.Common.{ℕ, ◌≡◌, ◌<◌, ◌≤◌, ◌+◌, ◌-◌, ◌∙◌, List, [], ◌∷◌, length, get_or, refl, arith}
 use Rattle.stm_model.specs.Memories.{written}
 use Rattle.tx_transaction.specs.RangeLaws.{sum_steps, sum_facts}
 use Rattle.tx_transaction.specs.WordLaws.{known, does-write, keeps-written}
@@ -31,9 +31,3 @@ returns-clause-kept g c =
     let low = c.requires.precondition in
     let fits = s.0.0 c.args.self.now.client low.1 in
     handed-keeps c.args.limiter.now m _ _ _ _ _ (s.1 ∙ low.0) low.1 (let min = c.min.ensures in omega (arith, ex.0)) ex.1.0 ex.1.1.0 s.0)
-
-pub returns-in_err-write_words-clause-keeps : goal.returns-in_err-write_words-clause-keeps
-returns-in_err-write_words-clause-keeps g c = search (rules, g.met.A.Access.keeps_trans)
-
-pub returns-clause-keeps : goal.returns-clause-keeps
-returns-clause-keeps g c = search (rules, g.met.A.Access.keeps_trans)

@@ -1,4 +1,4 @@
-use Rattle.std.proofs.Common.{rules, ◌+◌, ◌∙◌, sym, arith}
+use Rattle.std.proofs.Common.{◌+◌, ◌∙◌, sym, arith}
 use Rattle.tx_transaction.specs.RangeLaws.{part-of-range}
 use Rattle.tx_transaction.specs.WordLaws.{known, keeps-written}
 use Rattle.hotel_jobs.proofs.HotelLaws.{some-taken, checked-out}
@@ -15,9 +15,6 @@ overflow_sub-out g c =
     let fits = c.requires.precondition in
     known c.requires.good c.requires.fresh c.in_ok-guest.ensures.found
     (λ m s ex. let part = part-of-range m 8 16 (8 + c.args.self.now.room) (omega arith) (omega arith) (let long = s.1 in omega arith) in omega (arith, part, s.0.out, ex.1.0, ex.1.1.1.0))
-
-pub returns-in_err-write_words-clause-keeps : goal.returns-in_err-write_words-clause-keeps
-returns-in_err-write_words-clause-keeps g c = search (rules, g.met.A.Access.keeps_trans)
 
 pub returns-clause-kept : goal.returns-clause-kept
 returns-clause-kept g c =

@@ -1,11 +1,17 @@
-use Rattle.mailbox.proofs.MailLaws.{queue-well, take-does, if-some}
+use Rattle.tx_parts.specs.ToldLaws.{under-rule, call-keeps, call-tells}
+use Rattle.mailbox.specs.Mail.{Takes}
+use Rattle.mailbox.specs.MailLaws.{get-does}
 use Rattle.mailbox.proofs.mail.TakePartMailbox.run.Goals as goal
 
 pub get-requires-clause-well : goal.get-requires-clause-well
-get-requires-clause-well g c = queue-well c.args.mailbox.now (g.N.Access.words c.args.memory.now) (g.N.Access.log c.args.memory.now) c.args.self.now.urgent c.queue.ensures c.requires.good c.requires.sound
+get-requires-clause-well g c = rw c.queue.ensures (under-rule _ _ _ (g.N.Access.log c.args.memory.now) _ c.requires.good c.requires.sound (λ m well. well c.args.self.now.urgent))
 
 pub returns-clause-kept : goal.returns-clause-kept
-returns-clause-kept g c = if-some c.in_ok-message.message _ (take-does c.args.mailbox.now (g.N.Access.words c.args.memory.now) c.requires.precondition c.queues_are_apart.ensures.apart c.queues_are_apart.ensures.within c.args.self.now.urgent (g.N.Access.log c.args.memory.now) (g.N.Access.log c.get.new.acc) c.contents_change.ensures.gets c.queue.ensures c.requires.good c.requires.sound c.in_ok-message.ensures.reply).0
+returns-clause-kept g c =
+    call-keeps c.requires.good c.requires.sound (rw c.queue.ensures at c.in_ok-message.ensures.reply) (Takes c.args.mailbox.now c.args.self.now.urgent)
+    (get-does c.args.mailbox.now _ c.requires.precondition c.args.self.now.urgent) _
 
 pub returns-clause-postcondition : goal.returns-clause-postcondition
-returns-clause-postcondition g c = (take-does c.args.mailbox.now (g.N.Access.words c.args.memory.now) c.requires.precondition c.queues_are_apart.ensures.apart c.queues_are_apart.ensures.within c.args.self.now.urgent (g.N.Access.log c.args.memory.now) (g.N.Access.log c.get.new.acc) c.contents_change.ensures.gets c.queue.ensures c.requires.good c.requires.sound c.in_ok-message.ensures.reply).1
+returns-clause-postcondition g c =
+    call-tells c.requires.good c.requires.sound (rw c.queue.ensures at c.in_ok-message.ensures.reply) (Takes c.args.mailbox.now c.args.self.now.urgent)
+    (get-does c.args.mailbox.now _ c.requires.precondition c.args.self.now.urgent)

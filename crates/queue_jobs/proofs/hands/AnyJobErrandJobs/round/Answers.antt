@@ -24,4 +24,4 @@ returns-in-Some-Some-clause-postcondition g c =
     let told = rw c.loop.invariant.same at c.in-Some-Some.ensures.took in
     let came = took-at (IsQueue q) s.words (λ (r : Option ℕ) log. DoesOver (IsQueue q) s.words (got_in q) nothing r log) (g.C.Calls.known c.loop.caller) (g.C.Calls.known c.run.new.self) c.in-Some-Some.field-0-is told in
     subst (λ b. HasDone (Did q s.words) (Taken c.in-Some-Some.job ∷ []) b (g.C.Calls.known c.run.new.self).made) c.loop.invariant.made
-    (took q s.words c.contents_change.ensures.gets c.requires.precondition c.in-Some-Some.job came)
+    (took q s.words c.requires.precondition c.in-Some-Some.job came)

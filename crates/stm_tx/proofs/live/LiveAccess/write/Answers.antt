@@ -4,14 +4,14 @@ use Rattle.tx_answers.specs.CallerStateLaws.{in-attempt, carries-wrote}
 use Rattle.rule_base.specs.Lemmas.EncodingLemmas.{fenced-none}
 use Rattle.rule_base.specs.Encodings.{fenced}
 use Rattle.stm_tx.specs.Descs.{known, number, serves-on}
-use Rattle.stm_tx.proofs.Stopping.{write-stopped, write-went, stops-quits, since-stopped, since-at, since-going}
+use Rattle.stm_tx.proofs.Stopping.{write-stopped, write-went, stops-quits, going, since-stopped, since-at, since-going}
 use Rattle.stm_tx.proofs.live.LiveAccess.write.Goals as goal
 
 pub write-requires-clause-served : goal.write-requires-clause-served
-write-requires-clause-served g c = let me = c.args.self.now in me.served (ap is_none c.requires.going)
+write-requires-clause-served g c = let me = c.args.self.now in me.served (ap is_none (going me.stopped c.requires.going))
 
 pub write-requires-clause-spared : goal.write-requires-clause-spared
-write-requires-clause-spared g c = let me = c.args.self.now in ap (λ k. fenced k c.args.a) (me.unfenced (ap is_none c.requires.going)) ∙ fenced-none c.args.a
+write-requires-clause-spared g c = let me = c.args.self.now in ap (λ k. fenced k c.args.a) (me.unfenced (ap is_none (going me.stopped c.requires.going))) ∙ fenced-none c.args.a
 
 pub invariant_of-self : goal.invariant_of-self
 invariant_of-self g c =
@@ -23,13 +23,13 @@ invariant_of-self g c =
     let w = known c.write.new.desc in
     let h = write-went good f n c.args.a v w c.args.v c.write.result (sym c.as_write.ensures ∙ c.in-Ok.is) c.write.ensures.write in
     let same = c.write.ensures.same in
-    let going = ap is_none c.requires.going in
+    let runs = ap is_none (going me.stopped c.requires.going) in
     record {
       own = record { table = same.table ∙ me.own.table; config = ap (λ q. q.config) same.who ∙ me.own.config; rule = ap (λ q. q.rule) same.who ∙ me.own.rule };
-      runs = h.0.continues.running ∙ sym going;
-      served = λ e. serves-on g.C.Calls.acts_as v w h.0.continues.alg h.0.granted (me.served going);
+      runs = h.0.continues.running ∙ sym runs;
+      served = λ e. serves-on g.C.Calls.acts_as v w h.0.continues.alg h.0.granted (me.served runs);
       «open» = λ e. h.1;
-      unfenced = λ e. h.0.continues.fence ∙ me.unfenced going;
+      unfenced = λ e. h.0.continues.fence ∙ me.unfenced runs;
     }
 
 pub invariant_of-self-in-Err : goal.invariant_of-self-in-Err
@@ -60,10 +60,10 @@ returns-in-Err-clause-keeps g c =
     let v = known me.desc.now in
     let w = known c.write.new.desc in
     let h = write-stopped good f n c.args.a v w c.args.v c.write.result c.in-Err.stop (sym c.as_write.ensures ∙ c.in-Err.is) c.write.ensures.write in
-    let running : v.running ≡ true = me.runs ∙ ap is_none c.requires.going in (
+    let running : v.running ≡ true = me.runs ∙ ap is_none (going me.stopped c.requires.going) in (
       (
         c.write.ensures.same,
-        since-at good f n me.stopped (Some c.in-Err.stop) v w c.requires.going
+        since-at good f n me.stopped _ v w (going me.stopped c.requires.going)
             (since-stopped good f n c.args.a v w c.in-Err.stop running (in-attempt me.desc.now.view.gate.phase running) h),
       ),
       refl,
@@ -79,5 +79,5 @@ returns-in-Ok-clause-keeps g c =
     let v = known me.desc.now in
     let w = known c.write.new.desc in
     let h = write-went good f n c.args.a v w c.args.v c.write.result (sym c.as_write.ensures ∙ c.in-Ok.is) c.write.ensures.write in
-    let running : v.running ≡ true = me.runs ∙ ap is_none c.requires.going in
-    ((c.write.ensures.same, since-going good f n me.stopped v w c.requires.going (carries-wrote v w c.args.a c.args.v running (in-attempt me.desc.now.view.gate.phase running) h.0 h.2)), refl, refl)
+    let running : v.running ≡ true = me.runs ∙ ap is_none (going me.stopped c.requires.going) in
+    ((c.write.ensures.same, since-going good f n me.stopped v w (going me.stopped c.requires.going) (carries-wrote v w c.args.a c.args.v running (in-attempt me.desc.now.view.gate.phase running) h.0 h.2)), refl, refl)

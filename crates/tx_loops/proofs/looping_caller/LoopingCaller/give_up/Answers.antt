@@ -13,7 +13,7 @@ returns-clause-says c =
     let n = c.end_at.new.self in
     let t = c.turn_after-turn.result in
     let goes = subst (λ (b : Bool). GoesOnAfter c.args.how k.caller.refusal b t) c.stays_out-stays.ensures c.turn_after-turn.ensures.turn in
-    gives-up c.args.how m k l n t c.end_attempt.ensures.out c.end_attempt.ensures.range c.turn_after-turn.ensures.caller c.turn_after-turn.ensures.stage c.end_at.ensures.caller c.end_at.ensures.stage goes
+    gives-up c.args.how m k l n t c.end_attempt.ensures.out c.end_attempt.ensures.refusal c.turn_after-turn.ensures.caller c.turn_after-turn.ensures.stage c.end_at.ensures.caller c.end_at.ensures.stage goes
 
 pub returns-clause-looked : goal.returns-clause-looked
 returns-clause-looked c =

@@ -6,4 +6,4 @@ use Rattle.tx_loops.proofs.looping_caller.LoopingCaller.turn_after.Goals as goal
 pub returns-in-Retry-clause-turn : goal.returns-in-Retry-clause-turn
 returns-in-Retry-clause-turn c =
     let refusal = c.args.self.now.caller.refusal in
-    subst (λ (h : How). GoesOnAfter h refusal c.args.stays c.retry.result) (sym c.in-Retry.is) (c.retry.ensures.turn refusal c.args.stays)
+    subst (λ (h : How). GoesOnAfter h refusal c.args.stays c.retry.result) (sym c.in-Retry.is) c.retry.ensures.turn

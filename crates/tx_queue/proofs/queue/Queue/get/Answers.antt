@@ -2,7 +2,7 @@ use Rattle.std.proofs.Common.{ℕ, ◌≢◌, ◌<◌, ◌+◌, ◌-◌, ◌∙�
 use Rattle.std.specs.Prelude.{Some, None}
 use Rattle.tx_effects.specs.EffectLaws.{does-stay, does-change, turns-write, turns-then, under-after, same-trans}
 use Rattle.tx_queue.specs.Queues.{QueueFits, IsQueue, cell_at, got_in}
-use Rattle.tx_queue.proofs.QueueLaws.{got-none, got-some, got-keeps}
+use Rattle.tx_queue.specs.QueueLaws.{got-none, got-some, got-keeps}
 use Rattle.tx_queue.proofs.QueueReads.{HasCount, HasFirst, read-count, read-first, is-inside, is-small}
 use Rattle.tx_queue.proofs.queue.Queue.get.Goals as goal
 

@@ -2,7 +2,7 @@ use Rattle.std.proofs.Common.{◌<◌, ◌+◌, ◌∙◌, sym, arith, set, subs
 use Rattle.tx_effects.specs.EffectLaws.{does-stay, does-change, turns-write, turns-then, under-after, same-trans}
 use Rattle.tx_queue.specs.declared.queue.Put.TheVariants.{Added, NoRoom}
 use Rattle.tx_queue.specs.Queues.{QueueFits, IsQueue, cell_at, put_in}
-use Rattle.tx_queue.proofs.QueueLaws.{no-room, put-added, put-keeps, wrap-inside}
+use Rattle.tx_queue.specs.QueueLaws.{no-room, put-added, put-keeps, wrap-inside}
 use Rattle.tx_queue.proofs.QueueReads.{HasCount, HasFront, read-count, read-front, is-inside}
 use Rattle.tx_queue.proofs.queue.Queue.put.Goals as goal
 

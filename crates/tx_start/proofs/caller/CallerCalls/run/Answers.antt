@@ -1,4 +1,6 @@
+use Rattle.std.proofs.Common.{refl}
 use Rattle.stm_tx.specs.Descs.{known, number}
+use Rattle.tx_start.specs.CountLaws.{counts-ran}
 use Rattle.tx_start.specs.SeatLaws.{if-took}
 use Rattle.tx_start.proofs.caller.CallerCalls.run.Goals as goal
 
@@ -8,3 +10,11 @@ returns-clause-took g c =
     if-took (g.K.MemRule.good s.stm.now.rule) s.stm.now.config (number s.desc)
     (λ r log. g.T.Transaction.postcondition c.args.transaction.now s.stm.now.rule s.stm.now.config.words r log)
     (known s.desc) (known c.atomically.new.desc) s.pace.tally.commits c.atomically.new.pace.tally.commits c.atomically.result c.atomically.ensures.took
+
+pub returns-clause-keeps : goal.returns-clause-keeps
+returns-clause-keeps g c =
+    let s = c.args.self.now in
+    let done = c.atomically.ensures in
+    let counts = counts-ran (g.K.MemRule.good s.stm.now.rule) s.stm.now.config (number s.desc) (known s.desc) (known c.atomically.new.desc) s.pace.tally
+    c.atomically.new.pace.tally c.atomically.result done.ran done.gave_up in
+    (record { through = done.through; grew = done.grew }, refl, counts)

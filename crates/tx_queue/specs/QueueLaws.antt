@@ -1,13 +1,13 @@
--- Cells of a queue, and what its calls do to them.
+-- Cells of a queue, and what its calls do to them: the laws are at the end.
 use Rattle.std.proofs.Common.{ℕ, zero, suc, ◌≡◌, ◌≢◌, ◌<◌, ◌≤◌, ◌+◌, ◌-◌, ◌^◌, List, [], ◌∷◌, ◌++◌, length, get_or, set, replicate, Bool, true, false, refl, sym, ap, ◌∙◌, arith, subst, length-set, inl, inr}
 use Rattle.std.specs.Prelude.{ltb, leb, ◌==◌, ◌⊎◌, if◌then◌else◌, Option, Some, None}
-use Rattle.std.proofs.lemmas.Bool.Decides.{nat_tests}
+use Rattle.std.proofs.lemmas.Bool.Decides.{nat_tests, leb_tells}
 use Rattle.std.proofs.lemmas.List.{get_or-set_same, get_or-set_other}
 use Rattle.tx_effects.specs.Effects.{unchanged, changed}
 use Rattle.tx_effects.specs.EffectLaws.{zero-at}
 use Rattle.tx_queue.specs.declared.queue.Queue.{Queue}
 use Rattle.tx_queue.specs.declared.queue.Put.TheVariants.{Added, NoRoom}
-use Rattle.tx_queue.specs.Statements.{PutsLast, GetsFirst, CountsLength, ZerosAreEmpty, DependsOnOwnWords, ChangesOwnWords}
+use Rattle.tx_queue.specs.Statements.{PutsLast, GetsFirst, CountsLength, ZerosAreEmpty, DependsOnOwnWords, ChangesOwnWords, Puts, Gets, RepliesTell, AreApart, Stays, StaysBeside}
 use Rattle.tx_queue.specs.Queues.{QueueFits, front, count, cell_at, cell, wrapped, index_of, values_from, contents, IsQueue, enqueued, dequeued, put_in, got_in}
 
 wrap-low : (n i : ℕ) → i < n → wrapped n i ≡ i
@@ -403,3 +403,52 @@ outside-got q m x h fits out false e =
 
 pub changes-own : ChangesOwnWords
 changes-own q m v x h fits out = (outside-put q m v x h fits out (leb q.cells (count q m)) refl, outside-got q m x h fits out (count q m == 0) refl)
+
+-- by what a call replies
+pub put-told : (q : Queue) (m : List ℕ) (v : ℕ) → IsQueue q m → QueueFits q (length m) → v < 2 ^ 32 → Puts q v (put_in q v m).reply m (put_in q v m).memory
+put-told q m v h fits small =
+    let law = puts-last q m v h fits small in
+    elim (leb_tells q.cells (length (contents q m))) [
+      | inl full ↦ (let done = law.2 full.1 in subst (λ p. Puts q v p m (put_in q v m).memory) (sym done.0) (full.1, done.1))
+      | inr room ↦ (let done = law.1 room.1 in subst (λ p. Puts q v p m (put_in q v m).memory) (sym done.0) done.1)
+    ]
+
+pub get-told : (q : Queue) (m : List ℕ) → IsQueue q m → QueueFits q (length m) → Gets q (got_in q m).reply m (got_in q m).memory
+get-told q m h fits = by (contents q m) refl
+  where
+    by : (l : List ℕ) → contents q m ≡ l → Gets q (got_in q m).reply m (got_in q m).memory
+    by [] none = let law = (gets-first q m h fits).1 none in rw law.0 (none, law.1)
+    by (v ∷ vs) some = let law = (gets-first q m h fits).2 v vs some in rw law.0 (some ∙ ap (λ l. v ∷ l) (sym law.1))
+
+pub replies-tell : RepliesTell
+replies-tell q m h fits = ((λ v small. (put-keeps q m v h fits small, put-told q m v h fits small)), got-keeps q m h fits, get-told q m h fits)
+
+-- where a queue's own words are as they were
+values-stay : (q : Queue) (m k : List ℕ) → ((x : ℕ) → q.at ≤ x → x < q.at + 2 + q.cells → get_or k x 0 ≡ get_or m x 0) → (i n : ℕ) → (0 < n → i < q.cells)
+    → values_from q k i n ≡ values_from q m i n
+values-stay q m k same i zero lt = refl
+values-stay q m k same i (suc n) lt =
+    let low = lt (omega arith) in
+    let next = wrap-inside q.cells i 1 low (omega arith) in
+    ap (λ (v : ℕ). v ∷ values_from q k (wrapped q.cells (i + 1)) n) (same (q.at + 2 + i) (omega arith) (omega arith))
+    ∙ ap (λ (vs : List ℕ). cell q m i ∷ vs) (values-stay q m k same (wrapped q.cells (i + 1)) n (λ some. next))
+
+pub stays : (q : Queue) (m k : List ℕ) → IsQueue q m → ((x : ℕ) → q.at ≤ x → x < q.at + 2 + q.cells → get_or k x 0 ≡ get_or m x 0) → Stays q m k
+stays q m k h same = (
+  own-words q m k h same,
+  ap (λ (i : ℕ). values_from q k i (count q k)) (same q.at (omega arith) (omega arith))
+      ∙ (ap (λ (n : ℕ). values_from q k (front q m) n) (same (q.at + 1) (omega arith) (omega arith)) ∙ values-stay q m k same (front q m) (count q m) (λ some. h.starts (let le = h.fits in omega arith))),
+)
+
+pub beside : StaysBeside
+beside q r m v apart h fits other = (
+  stays r m (put_in q v m).memory other (λ x low high. (changes-own q m v x h fits (out x low high)).0),
+  stays r m (got_in q m).memory other (λ x low high. (changes-own q m v x h fits (out x low high)).1),
+)
+  where
+    out : (x : ℕ) → r.at ≤ x → x < r.at + 2 + r.cells → (x < q.at) ⊎ (q.at + 2 + q.cells ≤ x)
+    out x low high = by apart
+      where
+        by : AreApart q r → (x < q.at) ⊎ (q.at + 2 + q.cells ≤ x)
+        by (inl after) = inr (omega arith)
+        by (inr before) = inl (omega arith)
