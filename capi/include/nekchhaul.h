@@ -255,13 +255,13 @@ NEKCHHAUL_CALL uint32_t nekchhaul_become_irrevocable(nekchhaul_caller *caller);
  * others that enter sleep. nekchhaul_begin and nekchhaul_peek have no part in that. */
 NEKCHHAUL_CALL uint32_t nekchhaul_enter(nekchhaul_caller *caller, nekchhaul_pause_of *pause);
 
-/* Ends that attempt by `how`, which is what the body answered: 0, the status of a call but RUN and PAUSE, RETRY, or
- * NEKCHHAUL_STOP + n. 0: it took effect at one moment. PAUSE: the attempt left nothing, or its commit is put off;
- * nekchhaul_pause(pause), and enter again. Any other answer ends the loop, with nothing left: what the body answered where that
- * was STOP + n, a misuse, DEEP or RANGE_TAKEN, and FENCED only where the caller has a range itself or all words are out;
- * LOG_FULL where it writes more words than a log of 1,048,576 items has; CLOCK_FULL. With IRREVOCABLE what it wrote stands:
- * nekchhaul_become_irrevocable had answered 0, and then the body didn't. After PAUSE a `how` other than 0 gives the loop up.
- * NO_ATTEMPT: no attempt of a loop is open. */
+/* Ends that attempt by `how`, what the body answered: 0, the status of a call but RUN, RETRY, or NEKCHHAUL_STOP + n; PAUSE is
+ * as AGAIN. 0: it took effect at one moment. PAUSE: the attempt left nothing, or its commit is put off; nekchhaul_pause(pause),
+ * and enter again. Any other answer ends the loop, with nothing left: what the body answered where that was STOP + n, a misuse,
+ * DEEP or RANGE_TAKEN, and FENCED only where the caller has a range itself or all words are out; LOG_FULL where it writes more
+ * words than a log of 1,048,576 items has; CLOCK_FULL. With IRREVOCABLE what it wrote stands: nekchhaul_become_irrevocable had
+ * answered 0, and then the body didn't. After PAUSE a `how` other than 0 gives the loop up. NO_ATTEMPT: no attempt of a loop is
+ * open. */
 NEKCHHAUL_CALL uint32_t nekchhaul_leave(nekchhaul_caller *caller, uint32_t how, nekchhaul_pause_of *pause);
 
 /* THE CALLS THAT MUST BE ALONE: nekchhaul_switch, nekchhaul_fence, nekchhaul_give_back and nekchhaul_close. Each closes the

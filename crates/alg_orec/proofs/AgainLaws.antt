@@ -56,7 +56,7 @@ module _ (v : View) (more : List TracedStep) {w u : View} {start : ℕ} {seen : 
       grows = grows-trans (known_of v o) (known_of w o) (known_of u p) grows
           (grows-same (known_of w o) (known_of u p) (ap (λ (y : View). public_history y.history.seen) still)
           (ap (λ (y : View). y.history.front) still) (tried start now ∷ []) (ap (λ (y : View). y.steps.step_trace) still)
-          refl refl (ap (λ (y : View). fenced_of y.fence) still));
+          refl refl refl (ap (λ (y : View). fenced_of y.fence) still));
       alg = ap (λ (y : View). y.gate.algorithm) path;
       fence = ap (λ (y : View). y.gate.fence) path;
       base = ap (λ (y : View). y.steps.rises_at_begin) path;

@@ -202,11 +202,11 @@ module _ {alg : Alg} {good : List ℕ → Type 0} {c : Config} {n : ℕ} {l : Lo
       keeps = subst (λ (a : Alg). Keeps c a true promoted y) (sym can.named) keeps;
     })))
 
-    pub tells-promoted : Contains more (load_of Clock t) → written_under alg true y (own_of promoted) ≡ written_under alg false v (own_of l)
+    pub tells-promoted : words.marks_limit ≡ l.writes.marks_limit → Contains more (load_of Clock t) → written_under alg true y (own_of promoted) ≡ written_under alg false v (own_of l)
         → (kept_under alg v (own_of l) ≡ [] → kept_under alg y (own_of promoted) ≡ []) → v.gate.granted ≡ false → (m : Local) (w : View)
         → m ≡ promoted → w ≡ y
         → Grants good c n irrevs.Granted (known_of v (own_of l)) (known_of w (own_of m))
-    tells-promoted found written kept ungranted m w local is =
+    tells-promoted limit found written kept ungranted m w local is =
         subst (λ (q : Local). TriesIrrevocable good c n (known_of v o) (known_of w (own_of q))) (sym local) (subst
         (λ (q : View). TriesIrrevocable good c n (known_of v o) (known_of q p)) (sym is) (record {
           continues = record {
@@ -223,6 +223,7 @@ module _ {alg : Alg} {good : List ℕ → Type 0} {c : Config} {n : ℕ} {l : Lo
               step_trace = refl;
               reads_limit = refl;
               writes_limit = refl;
+              marks_limit = limit;
               fenced = refl;
             });
             alg = refl;

@@ -105,7 +105,7 @@ module _ {good : List ℕ → Type 0} {c : Config} {n : ℕ} {l : Local} {v : Vi
         uncommitted = a.quiet;
         closing = ap is_closing i.phase;
         made = refl;
-        grows = grows-same (known_of v (own_of l)) (known_of (restoring v in_place more) (own_of m)) refl refl more refl refl refl refl;
+        grows = grows-same (known_of v (own_of l)) (known_of (restoring v in_place more) (own_of m)) refl refl more refl refl refl (ap (λ (q : LogState). q.marks_limit) is) refl;
         alg = refl;
         fence = refl;
         base = refl;

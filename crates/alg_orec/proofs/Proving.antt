@@ -128,17 +128,17 @@ module _ (good : List ℕ → Type 0) (c : Config) (n t : ℕ) where
   }
 
 -- an answer that ends the attempt doesn't depend on what its descriptor keeps
-pub ends-own : (v w : View) (o p : Own) → p.reads_limit ≡ o.reads_limit → p.writes_limit ≡ o.writes_limit → Ends (known_of v o) (known_of w o) → Ends (known_of v o) (known_of w p)
-ends-own v w o p r k e = let g = e.grows in record {
+pub ends-own : (v w : View) (o p : Own) → p.reads_limit ≡ o.reads_limit → p.writes_limit ≡ o.writes_limit → p.marks_limit ≡ o.marks_limit → Ends (known_of v o) (known_of w o) → Ends (known_of v o) (known_of w p)
+ends-own v w o p r k m e = let g = e.grows in record {
   idle = e.idle;
-  grows = record { later = g.later; is = g.is; ascending = g.ascending; up_to = g.up_to; front_rose = g.front_rose; more = g.more; step_trace = g.step_trace; reads_limit = r; writes_limit = k; fenced = g.fenced };
+  grows = record { later = g.later; is = g.is; ascending = g.ascending; up_to = g.up_to; front_rose = g.front_rose; more = g.more; step_trace = g.step_trace; reads_limit = r; writes_limit = k; marks_limit = m; fenced = g.fenced };
   alg = e.alg;
   base = e.base;
   installs = e.installs;
 }
 
-pub quits-own : (v w : View) (o p : Own) → p.reads_limit ≡ o.reads_limit → p.writes_limit ≡ o.writes_limit → Quits (known_of v o) (known_of w o) → Quits (known_of v o) (known_of w p)
-quits-own v w o p r k q = record { ends = ends-own v w o p r k q.ends; made = q.made; rises = q.rises; revocable = q.revocable }
+pub quits-own : (v w : View) (o p : Own) → p.reads_limit ≡ o.reads_limit → p.writes_limit ≡ o.writes_limit → p.marks_limit ≡ o.marks_limit → Quits (known_of v o) (known_of w o) → Quits (known_of v o) (known_of w p)
+quits-own v w o p r k m q = record { ends = ends-own v w o p r k m q.ends; made = q.made; rises = q.rises; revocable = q.revocable }
 
 -- an attempt of OrecLazy that was not promoted
 pub lazy-of : (good : List ℕ → Type 0) (c : Config) (n : ℕ) (l : Local) (v : View) → IsInside good c n l v → l.algorithm ≡ OrecLazy → l.granted ≡ false → IsLazy c l v
@@ -171,7 +171,7 @@ with_commit b o = record o { committing = b }
 pub quits-back : (n : ℕ) (v u z : View) (o : Own) → v.gate.algorithm ≡ OrecLazy → v.gate.granted ≡ false
     → v.steps.rises ≡ v.steps.rises_at_begin → IsUnmade v u → u.steps.rises ≡ v.steps.rises → GivesUp n u z
     → Quits (known_of v o) (known_of z (with_commit false o))
-quits-back n v u z o lazy plain level m rises g = quits-own v z o (with_commit false o) refl refl (subst (λ (y : View). Quits (known_of v o) (known_of y o)) (sym g.is)
+quits-back n v u z o lazy plain level m rises g = quits-own v z o (with_commit false o) refl refl refl (subst (λ (y : View). Quits (known_of v o) (known_of y o)) (sym g.is)
     (quits-left n v g.before o (unmade-trans v u g.before m g.unmade) (let a = g.rises in (omega arith, omega arith))
     ((λ j. irrevocable_under (lazy j) (granted_under (lazy j) v.gate v.lock) (wrote (known_of v o))) ∙ plain)))
 

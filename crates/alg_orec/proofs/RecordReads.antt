@@ -213,21 +213,23 @@ module _ {good : List ℕ → Type 0} {c : Config} {n : ℕ} {l : Local} {v : Vi
       abbrev u : View
       u = moved v start seen rs sample check more
 
-      pub grown : (p : Own) → p.reads_limit ≡ l.reads.len → p.writes_limit ≡ l.undo.len → Grows (known_of v o) (known_of u p)
-      grown p r w = by moves
+      pub grown : (p : Own) → p.reads_limit ≡ l.reads.len → p.writes_limit ≡ l.undo.len → p.marks_limit ≡ l.writes.marks_limit
+          → Grows (known_of v o) (known_of u p)
+      grown p r w m = by moves
         where
           by : MayMove rule c n start seen more v → Grows (known_of v o) (known_of u p)
-          by (inl s) = grows-same (known_of v o) (known_of u p) (ap public_history s.1) (s.0 ∙ (i.start ∙ sym i.front)) more refl r w refl
-          by (inr s) = let m = s.1 in let q = later-seen seen v.history.front start m.below m.front in record {
+          by (inl s) = grows-same (known_of v o) (known_of u p) (ap public_history s.1) (s.0 ∙ (i.start ∙ sym i.front)) more refl r w m refl
+          by (inr s) = let h = s.1 in let q = later-seen seen v.history.front start h.below h.front in record {
             later = q.0;
-            is = subst (λ (h : List Entry). public_history seen ≡ public_history h ++ q.0) (sym m.seen) q.1;
+            is = subst (λ (h : List Entry). public_history seen ≡ public_history h ++ q.0) (sym h.seen) q.1;
             ascending = q.2;
             up_to = q.3;
-            front_rose = m.front;
+            front_rose = h.front;
             more = more;
             step_trace = refl;
             reads_limit = r;
             writes_limit = w;
+            marks_limit = m;
             fenced = refl;
           }
 
@@ -237,7 +239,7 @@ module _ {good : List ℕ → Type 0} {c : Config} {n : ℕ} {l : Local} {v : Vi
           running = ap is_in i.phase;
           closing = ap is_closing i.phase;
           made = refl;
-          grows = grown o refl refl;
+          grows = grown o refl refl refl;
           alg = refl;
           fence = refl;
           base = refl;
@@ -266,7 +268,7 @@ module _ {good : List ℕ → Type 0} {c : Config} {n : ℕ} {l : Local} {v : Vi
         ends =
             record {
               idle = q.ends.idle;
-              grows = grows-trans (known_of v o) (known_of u o) (known_of (left n before) o) (grown o refl refl) q.ends.grows;
+              grows = grows-trans (known_of v o) (known_of u o) (known_of (left n before) o) (grown o refl refl refl) q.ends.grows;
               alg = q.ends.alg;
               base = q.ends.base;
               installs = q.ends.installs;
@@ -459,5 +461,6 @@ module _ (good : List ℕ → Type 0) (c : Config) (n : ℕ) (alg : Alg) (orec :
           step_trace = refl;
           reads_limit = refl;
           writes_limit = refl;
+          marks_limit = refl;
           fenced = refl;
         }

@@ -49,7 +49,8 @@ module _ (good : List ℕ → Type 0) (c : Config) (n : ℕ) where
   abbrev pub Owed : Local → View → View → Type 0
   Owed l v w = (o : Own) → o.buffered ≡ cells_of l.writes.items → o.committing ≡ l.committing → OwesValidation c ToCommit (known_of v o) (known_of w o)
 
-  -- All records of what was written are held, and the reads are valid at a start that has seen their versions: it stands as in the middle of a commit. v is the view before the steps, and w that after them.
+  -- All records of what was written are held, and the reads are valid at a start that has seen their versions: it
+  -- stands as in the middle of a commit. v is the view before the steps, and w that after them.
   pub record IsReady (l : Local) (v : View) (m : Local) (w : View) : Type 0 where
     pub local : m ≡ record l { start = m.start; locks = m.locks }
     pub len : m.locks.len ≡ l.locks.len

@@ -8,7 +8,8 @@ use Rattle.rule_orec.specs.OrecSteps.{HasOrec, HasOpen}
 use Rattle.tx_answers.specs.Causes.{has_item}
 use Rattle.alg_orec.specs.EagerEnding.{restoring, Undoable}
 
--- these are the old values of the words that the attempt has stored, now or before they were taken back, and these the words that are stored, in their order
+-- these are the old values of the words that the attempt has stored, now or before they were taken back, and these the
+-- words that are stored, in their order
 pub record CanRestoreAfter (words : ℕ) (us ws : List (ℕ × ℕ)) (v : View) : Type 0 where
   pub has : HasOrec v
   pub undo : us ≡ items v.owned.undo

@@ -46,7 +46,8 @@ vouches l r = is_old l.start (item_at r l.locks.items)
 abbrev pub HasVersions : Local → Type 0
 HasVersions l = (r version : ℕ) → item_at r l.locks.items ≡ Some version → version ≤ CLOCK_LIMIT
 
--- whether record r is to be loaded to validate a read: not where it vouches for its words; and the read isn't valid where it was newer when it was taken
+-- whether record r is to be loaded to validate a read: not where it vouches for its words; and the read isn't valid
+-- where it was newer when it was taken
 abbrev pub MustLoad : Result Bool Cause → Local → ℕ → Type 0
 MustLoad (Ok true) l r = item_at r l.locks.items ≡ None
 MustLoad (Ok false) l r = vouches l r ≡ true
@@ -67,7 +68,8 @@ pub record CanValidate (c : Config) (l : Local) (v : View) : Type 0 where
   -- with one caller alone the start is the clock
   pub level : c.callers ≡ 1 → v.attempt.start ≡ c.clock + v.steps.rises
 
--- what a load of a record before its word, or to validate, comes to: it passes where it is free at a version that is at most the start
+-- what a load of a record before its word, or to validate, comes to:
+-- it passes where it is free at a version that is at most the start
 abbrev pub Judges : ℕ → Result (Unit {0}) Cause → ℕ → ℕ → Type 0
 Judges r (Ok _) word start = (is_owned word ≡ false) × (version_of word ≤ start)
 Judges r (Err cause) word start = (cause ≡ causes.Record r word start) × ((is_owned word ≡ true) ⊎ ((is_owned word ≡ false) × (start < version_of word)))

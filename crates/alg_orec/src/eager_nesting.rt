@@ -53,8 +53,8 @@ pub(crate) fn roll_in_place<K: MemRule>(desc: &mut Desc<K>, stm: &Stm<K>, depth:
     Roll::Rolled
 }
 
-/// Stores the old values back of all words that are written but the first `left`, the last first. Their items stay in the
-/// undo log. One step for each.
+/// Stores the old values back of all words that are written but the first `left`, the last first. Their items stay in
+/// the undo log. One step for each.
 fn restore_after<K: MemRule>(
     seat: &mut Token<K>,
     stm: &Stm<K>,

@@ -1,5 +1,5 @@
-//! A read of OrecEager in its parts, between which other callers may step: its record is sampled, the word is loaded, and
-//! the record is confirmed.
+//! A read of OrecEager in its parts, between which other callers may step: its record is sampled, the word is loaded,
+//! and the record is confirmed.
 ghost use Rattle.tx_answers.specs.Counting.{AddsAtMost};
 ghost use Rattle.std.specs.Prelude.{◌≡◌, ℕ, ◌<◌, None, false, [], ◌∷◌, ◌+◌, ◌*◌, ◌%◌, MatchResult};
 ghost use Rattle.rule_base.specs.declared.layout.At.TheVariants.{Heap, Record};
@@ -37,10 +37,10 @@ pub fn read_place<K: MemRule>(desc: &Desc<K>, stm: &Stm<K>, a: usize) -> usize
     desc.local.reads.place(a)
 }
 
-/// Loads record `r`, that of a word that was neither written nor read before, and answers the record's word: it is free, at a
-/// version that the start has seen. None, with no step, where the attempt holds the record: then nobody else stores
-/// there. One step, and those of a validation where the record is newer than the start; then those of a rollback where
-/// that, or a full read log, ends the attempt.
+/// Loads record `r`, that of a word that was neither written nor read before, and answers the record's word: it is
+/// free, at a version that the start has seen. None, with no step, where the attempt holds the record: then nobody else
+/// stores there. One step, and those of a validation where the record is newer than the start; then those of a rollback
+/// where that, or a full read log, ends the attempt.
 #[inline(always)]
 pub fn sample<K: MemRule>(
     desc: &mut Desc<K>,

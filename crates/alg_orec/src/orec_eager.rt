@@ -1,10 +1,11 @@
 //! OrecEager: versioned ownership records as under OrecLazy, but a write takes its record at once and stores in place,
-//! with what was there before in an undo log, as in the write-through of Felber, Fetzer and Riegel ("Dynamic Performance
-//! Tuning of Word-Based Software Transactional Memory", 2008).
+//! with what was there before in an undo log, as in the write-through of Felber, Fetzer and Riegel ("Dynamic
+//! Performance Tuning of Word-Based Software Transactional Memory", 2008).
 //!
-//! Invariant (`IsEager`): what was written lies in place, under records that the attempt holds and that were no newer than
-//! its start when it took them. The undo log has the memory's value of each word that it stored, also of those that were
-//! rolled back to a mark since; it holds no more records than that log has items. The rest is as under OrecLazy.
+//! Invariant (`IsEager`): what was written lies in place, under records that the attempt holds and that were no newer
+//! than its start when it took them. The undo log has the memory's value of each word that it stored, also of those
+//! that were rolled back to a mark since; it holds no more records than that log has items.
+//! The rest is as under OrecLazy.
 ghost use Rattle.tx_answers.specs.Counting.{AddsAtMost};
 ghost use Rattle.std.specs.Prelude.{◌≡◌, ℕ, ◌<◌, None, true, false, ◌+◌, ◌*◌};
 ghost use Rattle.stm_model.specs.Memories.{item_at};
@@ -79,7 +80,8 @@ impl Algorithm for OrecEager {
 
     /// Commits the attempt: what it wrote becomes one entry of the history, unless another transaction came in between.
     /// Where it wrote nothing, one step, two where it holds the gate, and those of a rollback where it was rolled back;
-    /// else those of `commit_placed`, or of `commit_direct`. It stands in line: the answer of a call goes through memory.
+    /// else those of `commit_placed`, or of `commit_direct`. It stands in line:
+    /// the answer of a call goes through memory.
     #[inline(always)]
     fn commit<K: MemRule>(desc: &mut Desc<K>, stm: &Stm<K>) -> Commit {
         if desc.local.granted {
@@ -132,8 +134,8 @@ impl Algorithm for OrecEager {
     }
 }
 
-/// Reads the word in an attempt that holds records, so that it may have written there. In line too: the two ways of a read are
-/// compiled apart, and an attempt that holds no record looks at none.
+/// Reads the word in an attempt that holds records, so that it may have written there. In line too: the two ways of a
+/// read are compiled apart, and an attempt that holds no record looks at none.
 #[inline(always)]
 fn read_holding<K: MemRule>(desc: &mut Desc<K>, stm: &Stm<K>, a: usize) -> Read
     requires stm { IsOf desc.old stm.now }
@@ -233,8 +235,8 @@ fn read_held<K: MemRule>(desc: &mut Desc<K>, stm: &Stm<K>, a: usize, place: usiz
     Read::Value(x)
 }
 
-/// Stores the word where the attempt wrote before, though the write may have been taken back. One step. It is always done,
-/// and answers nothing: each write would make room in memory for its answer.
+/// Stores the word where the attempt wrote before, though the write may have been taken back. One step. It is always
+/// done, and answers nothing: each write would make room in memory for its answer.
 #[inline(never)]
 fn write_again<K: MemRule>(desc: &mut Desc<K>, stm: &Stm<K>, a: usize, x: u64)
     requires stm { IsOf desc.old stm.now }
@@ -254,7 +256,8 @@ fn write_again<K: MemRule>(desc: &mut Desc<K>, stm: &Stm<K>, a: usize, x: u64)
     desc.local.wrote = true;
 }
 
-/// Takes the record where the attempt doesn't hold it, keeps what the word was unless that is kept already, and stores it.
+/// Takes the record where the attempt doesn't hold it, keeps what the word was unless that is kept already, and stores
+/// it.
 #[inline(always)]
 fn first_write<K: MemRule>(desc: &mut Desc<K>, stm: &Stm<K>, a: usize, x: u64) -> Write
     requires stm { IsOf desc.old stm.now }

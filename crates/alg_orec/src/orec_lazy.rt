@@ -1,11 +1,12 @@
 //! OrecLazy, after the versioned locks of Dice, Shalev and Shavit ("Transactional Locking II", 2006): each word belongs
-//! to a record with the time of its last write. A read loads the record before and after the word; what is written stays
-//! with the descriptor until the commit, which takes the records. A start is extended as in Riegel, Felber and Fetzer ("A
-//! Lazy Snapshot Algorithm with Eager Validation", 2006).
+//! to a record with the time of its last write. A read loads the record before and after the word; what is written
+//! stays with the descriptor until the commit, which takes the records. A start is extended as in Riegel, Felber and
+//! Fetzer ("A Lazy Snapshot Algorithm with Eager Validation", 2006).
 //!
-//! Invariant (`IsLazy`; `OrecRule` of rule_orec): a free record's version is no older than the last entry that wrote one of
-//! its words, as far as entries are later than BASE, and those words are the memory's. What the attempt read is the memory
-//! at its start. It holds records in the middle of its commit alone, and then those of all words that it wrote.
+//! Invariant (`IsLazy`; `OrecRule` of rule_orec): a free record's version is no older than the last entry that wrote
+//! one of its words, as far as entries are later than BASE, and those words are the memory's. What the attempt read is
+//! the memory at its start. It holds records in the middle of its commit alone,
+//! and then those of all words that it wrote.
 ghost use Rattle.std.specs.Prelude.{◌≡◌, ℕ, ◌<◌, ◌+◌, None, false};
 ghost use Rattle.stm_rule.specs.Counting.{TakesAtMost};
 ghost use Rattle.tx_answers.specs.Counting.{AddsAtMost};
@@ -83,8 +84,8 @@ impl Algorithm for OrecLazy {
     }
 
     /// Commits the attempt: what it wrote becomes one entry of the history, unless another transaction came in between.
-    /// Where it wrote nothing, one step, two where it holds the gate; else those of `commit_writes`. It stands in line: the
-    /// answer of a call goes through memory.
+    /// Where it wrote nothing, one step, two where it holds the gate; else those of `commit_writes`. It stands in line:
+    /// the answer of a call goes through memory.
     #[inline(always)]
     fn commit<K: MemRule>(desc: &mut Desc<K>, stm: &Stm<K>) -> Commit {
         if desc.local.granted {

@@ -19,8 +19,8 @@ use stm_rule::stm::{Stm, Token};
 /// The top bit of a word.
 const OWNED_TOP: u64 = 9_223_372_036_854_775_808;
 
-/// The number of the record that the word at `a` belongs to, among so many. Where the memory has a record for each of its
-/// words this takes no division, which would cost more than the three loads of a read.
+/// The number of the record that the word at `a` belongs to, among so many. Where the memory has a record for each of
+/// its words this takes no division, which would cost more than the three loads of a read.
 #[inline(always)]
 pub(crate) fn record_of(records: usize, a: usize) -> usize
     requires { 0 < records }
@@ -29,8 +29,8 @@ pub(crate) fn record_of(records: usize, a: usize) -> usize
     if a < records { a } else { a % records }
 }
 
-/// Whether a record's word is free, at a version that the start has seen. One comparison: the lowest bit, which an owned
-/// word has set, goes to the top, where no number of the clock has one.
+/// Whether a record's word is free, at a version that the start has seen. One comparison: the lowest bit, which an
+/// owned word has set, goes to the top, where no number of the clock has one.
 #[inline(always)]
 pub(crate) fn is_seen(word: u64, start: u64) -> bool
     requires { start ≤ CLOCK_LIMIT }
@@ -72,7 +72,8 @@ pub(crate) fn sample<K: MemRule>(
     reading::sample(stm, seat, caller, r, at, a)
 }
 
-/// Loads record `r`, that of the word at `a`, again, after the word: where it is as sampled, the word is read. Answers the record's word.
+/// Loads record `r`, that of the word at `a`, again, after the word: where it is as sampled, the word is read. Answers
+/// the record's word.
 #[inline(always)]
 pub(crate) fn confirm<K: MemRule>(
     stm: &Stm<K>,

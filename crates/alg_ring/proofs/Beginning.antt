@@ -84,6 +84,7 @@ module _ (good : List ℕ → Type 0) (c : Config) (n : ℕ) (v : View) (can : C
           step_trace = refl;
           reads_limit = refl;
           writes_limit = refl;
+          marks_limit = refl;
           fenced = refl;
         });
         rises = refl;

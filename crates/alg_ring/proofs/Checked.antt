@@ -18,8 +18,8 @@ module _ (good : List ℕ → Type 0) (c : Config) (gate : GateView) (start : �
   begins : RingBegins (of_words good c.words) c p.world v start
   begins = p.sees.begins
 
-  pub passes-grows : (o q : Own) → q.reads_limit ≡ o.reads_limit → q.writes_limit ≡ o.writes_limit → Grows (known_of v o) (known_of w q)
-  passes-grows o q reads writes = subst (λ (y : View). Grows (known_of v o) (known_of y q)) (sym p.is) (
+  pub passes-grows : (o q : Own) → q.reads_limit ≡ o.reads_limit → q.writes_limit ≡ o.writes_limit → q.marks_limit ≡ o.marks_limit → Grows (known_of v o) (known_of w q)
+  passes-grows o q reads writes marks = subst (λ (y : View). Grows (known_of v o) (known_of y q)) (sym p.is) (
       let f = later-seen (upto p.world.history start) v.history.front start begins.below begins.front in record {
         later = f.0;
         is = subst (λ (h : List Entry). public_history (upto p.world.history start) ≡ public_history h ++ f.0) (upto-upto p.world.history start v.history.front begins.front ∙ sym begins.seen) f.1;
@@ -30,5 +30,6 @@ module _ (good : List ℕ → Type 0) (c : Config) (gate : GateView) (start : �
         step_trace = refl;
         reads_limit = reads;
         writes_limit = writes;
+        marks_limit = marks;
         fenced = refl;
       })

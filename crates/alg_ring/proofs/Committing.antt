@@ -127,7 +127,7 @@ module _ (good : List ℕ → Type 0) (c : Config) (n : ℕ) (l : Local) (v : Vi
             running = ap is_in i.phase;
             closing = ap is_closing i.phase;
             made = refl;
-            grows = grows-same (known_of v (own_of l)) (known_of again_at (own_of in_commit)) refl refl (tried n found ∷ []) refl refl refl refl;
+            grows = grows-same (known_of v (own_of l)) (known_of again_at (own_of in_commit)) refl refl (tried n found ∷ []) refl refl refl refl refl;
             alg = refl;
             fence = refl;
             base = refl;

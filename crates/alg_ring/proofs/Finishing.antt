@@ -244,8 +244,8 @@ module _ (good : List ℕ → Type 0) (c : Config) (n : ℕ) (l : Local) (v w : 
 
       grows : Grows (known_of v o) (known_of x o)
       grows = grows-trans (known_of v o) (known_of u o) (known_of x o)
-          (subst (λ (y : View). Grows (known_of v o) (known_of y o)) (sym ticked) (grows-same (known_of v o) (known_of (ticked_at v.ring_read clock early) o) refl refl early refl refl refl refl))
-          (passes-grows good c u.gate start u x p.0 o o refl refl)
+          (subst (λ (y : View). Grows (known_of v o) (known_of y o)) (sym ticked) (grows-same (known_of v o) (known_of (ticked_at v.ring_read clock early) o) refl refl early refl refl refl refl refl))
+          (passes-grows good c u.gate start u x p.0 o o refl refl refl)
 
       -- BEHIND THE ENTRY
       module _ (y : View) (e : Enters good c n (clock + 1) l x y) where
@@ -288,6 +288,7 @@ module _ (good : List ℕ → Type 0) (c : Config) (n : ℕ) (l : Local) (v w : 
               step_trace = sym (append_assoc last (lock_freed ∷ more) v.steps.step_trace);
               reads_limit = refl;
               writes_limit = refl;
+              marks_limit = refl;
               fenced = refl;
             };
             alg = refl;

@@ -303,10 +303,10 @@ module _ (good : List ℕ → Type 0) (c : Config) (n : ℕ) (l : Local) (v : Vi
             (grows-trans (known_of v o) (known_of w o) (known_of u o)
             (subst (λ (y : View). Grows (known_of v o) (known_of y o)) (sym settled-path)
             (grows-same (known_of v o) (known_of (settled_at clock v.ring_read (clock_found clock ∷ [])) o) refl refl
-            (clock_found clock ∷ []) refl refl refl refl))
-            (passes-grows good c (granted_at w.gate.time w.gate) start w u p.0 o o refl refl))
+            (clock_found clock ∷ []) refl refl refl refl refl))
+            (passes-grows good c (granted_at w.gate.time w.gate) start w u p.0 o o refl refl refl))
             (grows-same (known_of u o) (known_of x o) (ap (λ (y : View). public_history y.history.seen) st.is)
-            (ap (λ (y : View). y.history.front) st.is) st.more (ap (λ (y : View). y.steps.step_trace) st.is) refl refl
+            (ap (λ (y : View). y.history.front) st.is) st.more (ap (λ (y : View). y.steps.step_trace) st.is) refl refl refl
             (ap (λ (y : View). fenced_of y.fence) st.is))
 
         found-promoted : Found Clock start (known_of v o) (known_of x o)

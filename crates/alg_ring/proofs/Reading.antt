@@ -147,6 +147,7 @@ module _ (good : List ℕ → Type 0) (c : Config) (n a : ℕ) (l : Local) (v : 
           step_trace = sym (append_assoc p.more (item ∷ []) v.steps.step_trace);
           reads_limit = refl;
           writes_limit = refl;
+          marks_limit = refl;
           fenced = refl;
         }
 

@@ -95,7 +95,7 @@ module _ (good : List ℕ → Type 0) (c : Config) (n a : ℕ) (l : Local) (v : 
               running = ap is_in i.phase;
               closing = ap is_closing i.phase;
               made = refl;
-              grows = grows-same (known_of v o) (known_of v (own_of m)) refl refl [] refl refl refl refl;
+              grows = grows-same (known_of v o) (known_of v (own_of m)) refl refl [] refl refl refl (ap (λ (q : LogState). q.marks_limit) is) refl;
               alg = refl;
               fence = refl;
               base = refl;

@@ -109,7 +109,8 @@ module _ (c : Config) (start clock : ℕ) where
   MeetsOne None filter v w = (words : List SlotWord) × (more : List TracedStep) × (w ≡ with_words v words more) × AllClear slot_filter w
   MeetsOne (Some cause) filter v w = (words : List SlotWord) × (more : List TracedStep) × (w ≡ with_words v words more) × OneMeets cause filter more
 
-  -- a slot meets the filter, and the ring still reached back to the start when the clock was loaded after it; or it no longer reaches back
+  -- a slot meets the filter, and the ring still reached back to the start when the clock was loaded after it;
+  -- or it no longer reaches back
   abbrev pub Refutes : Cause → List ℕ → List TracedStep → Type 0
   Refutes (causes.Filter time bits) filter more = (later : ℕ) × (loads : List TracedStep) × (more ≡ clock_load later ∷ loads) × (later < start + c.ring) × FirstMet c.ring start clock (slice_index filter) time bits loads
   Refutes (causes.Clock had now) filter more = ⊥

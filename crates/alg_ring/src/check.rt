@@ -37,8 +37,8 @@ pub(crate) fn check<K: MemRule>(
     catch_up(seat, stm, caller, start, clock, filter)
 }
 
-/// The rest of a check that found the clock elsewhere than the start. It stands in line, and apart from what comes before
-/// it, so that a check that passes at once makes no room for the answer of a scan.
+/// The rest of a check that found the clock elsewhere than the start. It stands in line, and apart from what comes
+/// before it, so that a check that passes at once makes no room for the answer of a scan.
 #[inline(always)]
 pub(crate) fn catch_up<K: MemRule>(
     seat: &mut Token<K>,

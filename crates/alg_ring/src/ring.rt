@@ -1,10 +1,10 @@
 //! RingSW, after the ring with a single writer of Spear, Michael and von Praun ("RingSTM: Scalable Transactions with a
-//! Single Atomic Instruction", 2008). An attempt writes into its write log and reads the heap: after each word it checks
-//! that no entry since its start wrote what it has read.
+//! Single Atomic Instruction", 2008). An attempt writes into its write log and reads the heap: after each word it
+//! checks that no entry since its start wrote what it has read.
 //!
-//! Invariant (`IsRing`; `RingRule` of rule_ring): a slot holds the filter of what entry e wrote as long as the clock is less
-//! than e + ring - 1. The heap is the memory at DONE, under what the holder of the lock has written back. The read filter
-//! has each address that the attempt loaded, and what it read is the memory at its start.
+//! Invariant (`IsRing`; `RingRule` of rule_ring): a slot holds the filter of what entry e wrote as long as the clock is
+//! less than e + ring - 1. The heap is the memory at DONE, under what the holder of the lock has written back. The read
+//! filter has each address that the attempt loaded, and what it read is the memory at its start.
 ghost use Rattle.stm_rule.specs.Counting.{TakesAtMost};
 ghost use Rattle.tx_answers.specs.Counting.{AddsAtMost};
 ghost use Rattle.std.specs.Prelude.{◌≡◌, ℕ, ◌<◌, true, false, None, ◌+◌, ◌*◌, ◌-◌};
@@ -37,7 +37,7 @@ use stm_rule::local::Local;
 use stm_rule::stm::{Stm, Token};
 use tx_answers::answers::{Begin, Cancel, Commit, Irrev, Read, Roll, Write};
 use tx_logs::push::Push;
-use tx_logs::write_log::{MAX_MARKS, WriteLog};
+use tx_logs::write_log::WriteLog;
 
 /// RingSW.
 pub struct RingSw;

@@ -113,7 +113,7 @@ module _ (good : List ℕ → Type 0) (c : Config) (n : ℕ) (a : Alg) (locks : 
         unentered = can.unentered;
         rises = can.rises;
       };
-      keeps = λ o. record { made = refl; grows = grows-same (known_of v o) (known_of u o) refl refl (step ∷ []) refl refl refl refl; rises = refl; installs = refl };
+      keeps = λ o. record { made = refl; grows = grows-same (known_of v o) (known_of u o) refl refl (step ∷ []) refl refl refl refl refl; rises = refl; installs = refl };
     },
     (let e = who.3 in omega arith),
     λ o. held-lock a x (known_of v o) (known_of u o) locks ((step ∷ [], refl, Exchange 0 (taken_lock n), (0, omega arith, refl)), who),
@@ -148,6 +148,7 @@ module _ (good : List ℕ → Type 0) (c : Config) (n : ℕ) (a : Alg) (locks : 
         step_trace = refl;
         reads_limit = refl;
         writes_limit = refl;
+        marks_limit = refl;
         fenced = refl;
       }
 
@@ -261,6 +262,7 @@ module _ (good : List ℕ → Type 0) (c : Config) (n : ℕ) (a : Alg) (locks : 
               step_trace = ap (λ s. freed ∷ s) h.step_trace;
               reads_limit = refl;
               writes_limit = refl;
+              marks_limit = refl;
               fenced = refl;
             };
         rises = refl;

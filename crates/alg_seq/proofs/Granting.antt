@@ -48,7 +48,7 @@ tells-granted good c n l v i serial clock u o settled revocable low t = subst (�
     running = ap is_in i.phase;
     closing = ap is_closing i.phase;
     made = refl;
-    grows = grows-same (known_of v o) (known_of w o) refl refl (record { place = Clock; act = Load; found = Some clock } ∷ []) refl refl refl refl;
+    grows = grows-same (known_of v o) (known_of w o) refl refl (record { place = Clock; act = Load; found = Some clock } ∷ []) refl refl refl refl refl;
     alg = refl;
     fence = refl;
     base = refl;

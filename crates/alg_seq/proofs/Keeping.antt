@@ -52,10 +52,10 @@ same_number k m e = grind (arith, nat_tests)
 
 -- longer logs of an attempt of Serial leave alone what is known of it, but for what the view has of them
 pub known-kept : (l m : Local) (w : View) → w.gate.algorithm ≡ Serial → m ≡ record l { undo = m.undo; writes = m.writes }
-    → m.undo.len ≡ l.undo.len → m.writes.marks ≡ l.writes.marks → known_of w (own_of m) ≡ known_of w (own_of l)
-known-kept l m w serial is len marks =
+    → m.undo.len ≡ l.undo.len → m.writes.marks ≡ l.writes.marks → m.writes.marks_limit ≡ l.writes.marks_limit → known_of w (own_of m) ≡ known_of w (own_of l)
+known-kept l m w serial is len marks limit =
     ap (λ (q : Local). known_of w (own_of q)) is
-    ∙ (λ d. record (known_of w (own_of l)) { log = record { reads = items w.attempt.reads; writes = written d }; kept = kept d; marks = marks d; writes_limit = len d })
+    ∙ (λ d. record (known_of w (own_of l)) { log = record { reads = items w.attempt.reads; writes = written d }; kept = kept d; marks = marks d; writes_limit = len d; marks_limit = limit d })
   where
     written : written_under w.gate.algorithm w.gate.granted w (own_of (record l { undo = m.undo; writes = m.writes })) ≡ written_under w.gate.algorithm w.gate.granted w (own_of l)
     written = (λ d. written_under (serial d) w.gate.granted w (own_of (record l { undo = m.undo; writes = m.writes }))) ∙ (λ d. written_under (sym serial d) w.gate.granted w (own_of l))

@@ -125,7 +125,7 @@ goes-on {c} {asked} v w o inside locks i = record {
     made = ap (λ (h : SeenHistory). public_history h.made) i.history;
     grows =
         grows-same (known_of v o) (known_of w o) (ap (λ (h : SeenHistory). public_history h.seen) i.history)
-        (ap (λ (h : SeenHistory). h.front) i.history) i.step_trace.0 i.step_trace.1 refl refl (ap fenced_of i.fence);
+        (ap (λ (h : SeenHistory). h.front) i.history) i.step_trace.0 i.step_trace.1 refl refl refl (ap fenced_of i.fence);
     alg = ap (λ (g : GateView). g.algorithm) i.gate;
     fence = ap (λ (g : GateView). g.fence) i.gate;
     base = i.base;
@@ -246,7 +246,7 @@ module _ (good : List ℕ → Type 0) (c : Config) (n : ℕ) where
       running = ap is_in i.phase;
       closing = ap is_closing i.phase;
       made = refl;
-      grows = grows-same (known_of v o) (known_of v o) refl refl [] refl refl refl refl;
+      grows = grows-same (known_of v o) (known_of v o) refl refl [] refl refl refl refl refl;
       alg = refl;
       fence = refl;
       base = refl;

@@ -91,6 +91,7 @@ module _ (c : Config) (a x : ℕ) (l : Local) (v : View) (j : IsLocked c l v) (r
     undo_len = refl;
     writes_len = ap (λ (s : LogState). s.len) is;
     marks = ap (λ (s : LogState). s.marks) is;
+    marks_limit = ap (λ (s : LogState). s.marks_limit) is;
     more = [];
     is = refl;
     undone = j.undone rev;
@@ -112,6 +113,7 @@ module _ (c : Config) (a x : ℕ) (l : Local) (v : View) (j : IsLocked c l v) (r
     undo_len = ap (λ (z : LogState). z.len) grown;
     writes_len = ap (λ (z : LogState). z.len) is;
     marks = ap (λ (z : LogState). z.marks) is;
+    marks_limit = ap (λ (z : LogState). z.marks_limit) is;
     more = record { place = Heap a; act = Load; found = Some old } ∷ [];
     is = refl;
     undone = put_there ∙ ap (put a old) (j.undone rev);

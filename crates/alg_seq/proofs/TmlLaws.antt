@@ -463,7 +463,7 @@ module _ (good : List ℕ → Type 0) (c : Config) (n : ℕ) where
           running = ap is_in i.phase;
           closing = ap is_closing i.phase;
           made = refl;
-          grows = grows-same (known_of v o) (known_of y o) refl refl (_ ∷ _ ∷ _ ∷ []) refl refl refl refl;
+          grows = grows-same (known_of v o) (known_of y o) refl refl (_ ∷ _ ∷ _ ∷ []) refl refl refl refl refl;
           alg = refl;
           fence = refl;
           base = refl;
@@ -628,7 +628,7 @@ module _ (good : List ℕ → Type 0) (c : Config) (n : ℕ) where
         running = ap is_in i.phase;
         closing = ap is_closing i.phase;
         made = refl;
-        grows = grows-same (known_of v o) (known_of y o) refl refl (_ ∷ []) refl refl refl refl;
+        grows = grows-same (known_of v o) (known_of y o) refl refl (_ ∷ []) refl refl refl refl refl;
         alg = refl;
         fence = refl;
         base = refl;
@@ -729,7 +729,7 @@ module _ (good : List ℕ → Type 0) (c : Config) (n : ℕ) (v : View) (can : C
             unentered = can.unentered;
             rises = can.rises;
           };
-      keeps = λ o. record { made = refl; grows = grows-same (known_of v o) (known_of y o) refl refl (_ ∷ []) refl refl refl refl; rises = refl; installs = refl };
+      keeps = λ o. record { made = refl; grows = grows-same (known_of v o) (known_of y o) refl refl (_ ∷ []) refl refl refl refl refl; rises = refl; installs = refl };
     },
     omega arith,
     (λ o. ((_ ∷ [], refl, Load, (0, omega arith, refl)), odd)),
@@ -793,6 +793,7 @@ module _ (good : List ℕ → Type 0) (c : Config) (n : ℕ) (v : View) (can : C
                   step_trace = refl;
                   reads_limit = refl;
                   writes_limit = refl;
+                  marks_limit = refl;
                   fenced = refl;
                 });
             rises = refl;

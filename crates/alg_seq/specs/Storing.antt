@@ -47,6 +47,7 @@ pub record HasLogged (words a x : ℕ) (l : Local) (v : View) (m : Local) (w : V
   pub undo_len : m.undo.len ≡ l.undo.len
   pub writes_len : m.writes.len ≡ l.writes.len
   pub marks : m.writes.marks ≡ l.writes.marks
+  pub marks_limit : m.writes.marks_limit ≡ l.writes.marks_limit
   pub more : List TracedStep
   pub is : w ≡ record v { lock = record v.lock { undo = w.lock.undo }; steps = record v.steps { step_trace = more ++ v.steps.step_trace } }
   pub undone : m.undo.items ≡ items w.lock.undo
@@ -81,6 +82,7 @@ module _ (good : List ℕ → Type 0) (c : Config) (n a x : ℕ) where
     pub undo_len : m.undo.len ≡ l.undo.len
     pub writes_len : m.writes.len ≡ l.writes.len
     pub marks : m.writes.marks ≡ l.writes.marks
+    pub marks_limit : m.writes.marks_limit ≡ l.writes.marks_limit
     pub may : MayStore m v w
 
   -- the old value is kept, or the attempt is taken back and ended

@@ -1,8 +1,8 @@
 //! CGL: one coarse-grained lock from begin to commit, beside which every transactional memory is measured. An attempt
 //! reads and writes in place, and is irrevocable from its begin on.
 //!
-//! Invariant (`IsLocked`): while the attempt runs the lock word names its caller, so nobody else stores a heap word or the
-//! clock. Its start is the clock, and the heap is the memory at that time under its own stores.
+//! Invariant (`IsLocked`): while the attempt runs the lock word names its caller, so nobody else stores a heap word or
+//! the clock. Its start is the clock, and the heap is the memory at that time under its own stores.
 
 use alg_calls::algorithm::Algorithm;
 use stm_gate::leave::leave;

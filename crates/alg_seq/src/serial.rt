@@ -1,8 +1,8 @@
 //! Serial: one lock from begin to commit, with an undo log. An attempt reads and writes in place, and can be taken back
 //! until it is made irrevocable.
 //!
-//! Invariant (`IsLocked`): as under CGL. Until the attempt is irrevocable the write log has its own values, and the undo
-//! log the memory's value of each word that it stored, also of those that were rolled back to a mark since.
+//! Invariant (`IsLocked`): as under CGL. Until the attempt is irrevocable the write log has its own values, and the
+//! undo log the memory's value of each word that it stored, also of those that were rolled back to a mark since.
 ghost use Rattle.stm_rule.specs.Counting.{TakesAtMost};
 ghost use Rattle.std.specs.Prelude.{◌≡◌, ℕ, ◌<◌, ◌≤◌, MatchResult, true, false, ◌+◌};
 ghost use Rattle.stm_rule.specs.Attempts.{IsInside, ended};

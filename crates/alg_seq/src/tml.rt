@@ -1,6 +1,6 @@
-//! TML, the mutex-like sequence lock of Dalessandro, Dice, Scott, Shavit and Spear ("Transactional Mutex Locks", 2010): the
-//! clock is even while nobody writes. A reader loads it again after each word, and the first write makes it odd; from then
-//! on the attempt is irrevocable, and works in place.
+//! TML, the mutex-like sequence lock of Dalessandro, Dice, Scott, Shavit and Spear ("Transactional Mutex Locks", 2010):
+//! the clock is even while nobody writes. A reader loads it again after each word, and the first write makes it odd;
+//! from then on the attempt is irrevocable, and works in place.
 //!
 //! Invariant (`IsTml`): while the clock is even the heap is the memory at that time; while it is odd, that under the
 //! stores of the one writer, whose start is the clock less one. What a reader read is the memory at its start.

@@ -1,5 +1,5 @@
-//! Callers move money between the accounts of a bank, on threads of their own, while an auditor adds all balances up in one
-//! transaction. It stands on no engine: `example_bank` runs it.
+//! Callers move money between the accounts of a bank, on threads of their own, while an auditor adds all balances up in
+//! one transaction. It stands on no engine: `example_bank` runs it.
 #![tactic(auto)]
 
 ghost use Rattle.std.specs.Prelude.{◌≡◌, ◌<◌, ◌≢◌, length, slice_index};
@@ -19,8 +19,8 @@ const TRANSFERS: usize = 1_000;
 
 const AUDITS: usize = 100;
 
-/// What each caller does on its thread: the first opens the bank, and adds the balances up again and again; the others move
-/// money, also before it opens. Answers what the auditor found last.
+/// What each caller does on its thread: the first opens the bank, and adds the balances up again and again; the others
+/// move money, also before it opens. Answers what the auditor found last.
 pub struct Day;
 
 impl<R: Wait> Job<R, Bank> for Day {

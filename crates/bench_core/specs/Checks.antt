@@ -13,7 +13,8 @@ use Rattle.bench_core.specs.declared.status.Status.{Status}
 use Rattle.bench_core.specs.declared.status.Status.TheVariants.{Ok as Done, Refused, No}
 use Rattle.bench_core.specs.Messages.{refused_line, yes_line, no_line}
 
--- `yes` exactly of a workload and a report that replays it, `no` exactly of a workload and a report that doesn't, and else the first fault
+-- `yes` exactly of a workload and a report that replays it, `no` exactly of a workload and a report that doesn't, and
+-- else the first fault
 abbrev pub SaidOfCheck : List ℕ → Status → List ℕ → Type 0
 SaidOfCheck text Done said = IsYes text × (said ≡ yes_line)
 SaidOfCheck text (No line) said = IsNo text line × (said ≡ no_line line)

@@ -1,22 +1,28 @@
--- THE HEADLINE, to be read aloud: what `run` at status 0 means, from the text read to the text written. `bench` promises it (`laws::run_is_right`, of its clause `IsOutcome`).
+-- THE HEADLINE, to be read aloud: what `run` at status 0 means, from the text read to the text written. `bench`
+-- promises it (`laws::run_is_right`, of its clause `IsOutcome`).
 --
--- A memory ran the text's transactions, its callers on threads of their own, across every switch of algorithm; then it was closed. What is
--- written is as if one thread had run them one after the other: the definitions say so, and stand where their names are imported from.
+-- A memory ran the text's transactions, its callers on threads of their own, across every switch of algorithm; then it
+-- was closed. What is written is as if one thread had run them one after the other: the definitions say so, and stand
+-- where their names are imported from.
 --
 --   workload_of   the text is a workload, by the grammar                                    stm_text, Grammar.antt
 --   report_bytes  the text of a report                                                      stm_text, Reports.antt
---   IsHistory     the committed writing transactions stand in one legal history: each once, in the order of its caller; each read what those before it had left (IsLegal), and every structure was well formed at every moment
---                                                                                           stm_driver, Runs.antt; stm_model, Histories.antt
---   Replays       one thread that runs the script of each row in turn gets what the row says, and ends with the report's memory; each transaction has one row, a caller's in the order of the text
+--   IsHistory     the committed writing transactions stand in one legal history: each once, in the order of its
+--                 caller; each read what those before it had left (IsLegal), and every structure was well formed at
+--                 every moment                                                              stm_driver, Runs.antt
+--                                                                                           stm_model, Histories.antt
+--   Replays       one thread that runs the script of each row in turn gets what the row says, and ends with the
+--                 report's memory; each transaction has one row, a caller's in the order of the text
 --                                                                                           stm_script, Reports.antt
---   Shows         the report's writers are those of the history, in its order, and its memory is what the history leaves
---                                                                                           stm_script, Reports.antt
+--   Shows         the report's writers are those of the history, in its order, and its memory is what the history
+--                 leaves                                                                    stm_script, Reports.antt
 --   GoesAlong     each row is replayed on the memory after one prefix of the history: the one at its place
 --                                                                                           stm_driver, Along.antt
 --   AreInstalls   each caller installed the algorithms of its text and those that its policy asked for, and no other
 --                                                                                           stm_driver, Runs.antt
 --
--- What every attempt reads, aborted ones too, and that an irrevocable one ends committed, is said of the calls that `run` makes (stm_tx): MODEL and PROMISES name those clauses.
+-- What every attempt reads, aborted ones too, and that an irrevocable one ends committed, is said of the calls that
+-- `run` makes (stm_tx): MODEL and PROMISES name those clauses.
 use Rattle.std.specs.Prelude.{ℕ, ◌≡◌, true, false, length, List, Option, Some, Ok}
 use Rattle.std.specs.Borrow.{Bor}
 use Rattle.stm_profile.specs.declared.policy.Policy.{Policy}

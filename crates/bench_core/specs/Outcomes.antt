@@ -29,7 +29,8 @@ use Rattle.stm_cli.specs.Asking.{Asks, texts_of}
 use Rattle.stm_cli.specs.Helping.{help_of}
 use Rattle.stm_cli.specs.declared.help.Topic.{Topic}
 
--- the run went to its end, and what is said is a report that replays the workload and shows the closed memory's history; its numbers are words of the machine
+-- the run went to its end, and what is said is a report that replays the workload and shows the closed memory's
+-- history; its numbers are words of the machine
 pub record RanToEnd (policy : Policy) (w : Workload) (closed : Ended) (said : List ℕ) : Type 0 where
   pub report : Report
   pub fits : ReportFits report
@@ -41,14 +42,16 @@ pub record RanToLimit (policy : Policy) (w : Workload) (clock : ℕ) (closed : E
   pub full : IsFull (ruling policy w.header.policy) w clock closed
   pub is : said ≡ clock_full_line clock
 
--- the run in turns went to its end, and what is said is its trace, which fits the workload and the report, and then the report
+-- the run in turns went to its end, and what is said is its trace, which fits the workload and the report, and then the
+-- report
 pub record SteppedToEnd (w : Workload) (closed : Ended) (said : List ℕ) : Type 0 where
   pub lines : List Line
   pub report : Report
   pub traced : IsTraced w lines report closed
   pub is : said ≡ trace_bytes lines ++ report_bytes report
 
--- the run in turns came to a call that found the clock at its limit, and what is said is its trace so far, and then that clock
+-- the run in turns came to a call that found the clock at its limit, and what is said is its trace so far, and then
+-- that clock
 pub record SteppedToLimit (w : Workload) (clock : ℕ) (closed : Ended) (said : List ℕ) : Type 0 where
   pub lines : List Line
   pub cut : IsCut w lines clock closed
@@ -86,7 +89,8 @@ SaidOf m policy text (Refused line fault) closed said = IsRefused m text line fa
 SaidOf m policy text (ClockFull clock) closed said = WasRun m policy text (ClockFull clock) closed said
 SaidOf m policy text status closed said = ⊥
 
--- the run of the workload that is drawn went to its end, and what is said is the summary of a report that replays it and shows the closed memory's history; the number of transactions alone tells which
+-- the run of the workload that is drawn went to its end, and what is said is the summary of a report that replays it
+-- and shows the closed memory's history; the number of transactions alone tells which
 pub record RanToSummary (n t seed : ℕ) (closed : Ended) (said : List ℕ) : Type 0 where
   pub report : Report
   pub shown : IsShown false Fixed (generated n t seed) report closed
@@ -222,7 +226,9 @@ module _ {S : Type 0} (left : S → Option (List ℕ)) (faults : S → ℕ) (sou
     Says WriteFault closed said = ⊥
     Says Memory closed said = ⊥
 
-    -- a call that was refused memory took at most the first 150,994,945 bytes of a source, but for `check` of one text the first 16,777,217 of the first one, and of the second one none but for `check` of two; under `gen` it took none; no take failed
+    -- a call that was refused memory took at most the first 150,994,945 bytes of a source, but for `check` of one text
+    -- the first 16,777,217 of the first one, and of the second one none but for `check` of two;
+    -- under `gen` it took none; no take failed
     pub record Spared : Type 0 where
       pub lost : TookSome most_checked (left source) (left source')
       pub run : (Asks (texts_of words) commands.Check → ⊥) → TookSome most_read (left source) (left source')

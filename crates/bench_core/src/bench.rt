@@ -42,8 +42,8 @@ const MOST_READ: usize = 16777217;
 /// transactions, 1 to 50,000, of T callers, 1 to 32, that is drawn from SEED, as `run` does, and writes its summary.
 /// `check` reads a workload's text and, after its line `done`, a report, and writes whether the report replays the
 /// workload. With FILE alone it writes whether the text is a workload; with REPORT the report, or what `step` wrote, is
-/// that of `report`, and lines count in the text that is at fault. Every other end writes one line, under `step` at a full clock after the trace so far, or with `Memory`
-/// nothing; see [`Status`].
+/// that of `report`, and lines count in the text that is at fault. Every other end writes one line, under `step` at a
+/// full clock after the trace so far, or with `Memory` nothing; see [`Status`].
 ///
 /// `ClockFull`, and `Ok` of every command but `check`, leave in `last` the closed memory of this call's run; every
 /// other status leaves `last` as it was, and so does `check`.
@@ -54,8 +54,8 @@ const MOST_READ: usize = 16777217;
 /// begins again, for as long as it takes. `turnstile` is passed right before an attempt's first commit; see
 /// [`Turnstile`].
 ///
-/// `Usage`, `Refused`, `ReadFault` and `No` leave in `why` what is wrong, in a sentence, and in which of the sources, where
-/// memory for it is there.
+/// `Usage`, `Refused`, `ReadFault` and `No` leave in `why` what is wrong, in a sentence, and in which of the sources,
+/// where memory for it is there.
 pub fn bench<R: Threads + Wait + Sync, S: Source, K: Sink, G: Turnstile + Sync>(
     rt: &R,
     alloc: Global,

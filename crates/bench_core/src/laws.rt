@@ -5,8 +5,8 @@ ghost use Rattle.bench_core.specs.Headline.{Headline};
 use stm_check::laws::after_is_confirmed;
 use stm_io::ends::{Sink, Source};
 
-/// Of a workload's text, and after it what `run` wrote of it at status 0, `check` says yes, where what was written isn't
-/// longer than a report may be.
+/// Of a workload's text, and after it what `run` wrote of it at status 0, `check` says yes, where what was written
+/// isn't longer than a report may be.
 pub fn run_is_confirmed()
     ensures { RunIsConfirmed }
 {

@@ -24,8 +24,8 @@ use stm_io::arguments::{arguments, words_in};
 use stm_io::ends::{Sink, Source};
 use stm_worker::turnstile::Open;
 
-/// Does what the arguments ask, over the files that they name, standard input and output, and answers the status as exit status. Once all is
-/// written, standard error says why, where the status isn't `Ok`.
+/// Does what the arguments ask, over the files that they name, standard input and output, and answers the status as
+/// exit status. Once all is written, standard error says why, where the status isn't `Ok`.
 pub fn program<R: Env + AllocGlobal + Files + Input + Print + Eprint + Threads + Wait + Sync>(
     rt: &R,
 ) -> ExitCode

@@ -12,9 +12,9 @@ pub enum Status {
     Help,
     /// The usage line: the words aren't a command, and ask for no help.
     Usage,
-    /// `refused L C name`: the text read isn't a workload, or under `check` not a workload and a report; `line` and `fault`
-    /// are those of its first one. Lines count from 1 in the text at fault; line 0 stands for the whole text, under
-    /// `check` for the whole of the part that is too long.
+    /// `refused L C name`: the text read isn't a workload, or under `check` not a workload and a report; `line` and
+    /// `fault` are those of its first one. Lines count from 1 in the text at fault; line 0 stands for the whole text,
+    /// under `check` for the whole of the part that is too long.
     Refused { line: usize, fault: Fault },
     /// `read fault`: the source failed.
     ReadFault,

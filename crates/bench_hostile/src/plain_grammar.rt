@@ -64,7 +64,8 @@ pub(crate) const FORMS: &[(LineGroup, &str, bool, &str)] = &[
 ];
 
 /// The lines that version 2 has besides, or in place of those of that word: as [`FORMS`], with the kind of the region
-/// in place of whether structures are needed. `r` is the number of a region, `p` a stripe of it, `l` the length of a log.
+/// in place of whether structures are needed. `r` is the number of a region, `p` a stripe of it, `l` the length of a
+/// log.
 const FORMS_TWO: &[(LineGroup, &str, &str, &str)] = &[
     (LineGroup::Items, "reserve", "", "cll"),
     (LineGroup::Script, "count", "counter", "rpn"),

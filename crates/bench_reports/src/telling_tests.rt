@@ -7,8 +7,8 @@ use std::test::Fail;
 use stm_check::checking::Part;
 use stm_cli::reading::Files;
 
-/// The words, the header's changes, the body of the workload, what stands after it, the takes that fail, the sink's room,
-/// and what is told.
+/// The words, the header's changes, the body of the workload, what stands after it, the takes that fail, the sink's
+/// room, and what is told.
 type Told<'a> = (
     &'a [&'a str],
     &'a str,

@@ -22,8 +22,8 @@ impl MemRule for Limiter {
     ghost good = { IsFair };
 }
 
-/// Adds `more` tokens to a client's bucket, as far as there is room, and hands out `amount` of them: all or none. Answers
-/// how many it handed out.
+/// Adds `more` tokens to a client's bucket, as far as there is room, and hands out `amount` of them: all or none.
+/// Answers how many it handed out.
 #[derive(Drop)]
 pub struct Wish {
     pub client: usize,

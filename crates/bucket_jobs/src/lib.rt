@@ -1,5 +1,5 @@
-//! Four callers hand out the tokens of sixteen clients, while the algorithm beneath them is changed. It stands on no engine:
-//! `token_bucket` runs it.
+//! Four callers hand out the tokens of sixteen clients, while the algorithm beneath them is changed. It stands on no
+//! engine: `token_bucket` runs it.
 #![tactic(auto)]
 
 ghost use Rattle.std.specs.Prelude.{◌≡◌, ◌<◌, length, slice_index};

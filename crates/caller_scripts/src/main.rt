@@ -1,9 +1,10 @@
-//! Plays scripts of calls on one thread: reads them on standard input, and writes each line with what its call answered.
+//! Plays scripts of calls on one thread: reads them on standard input,
+//! and writes each line with what its call answered.
 //!
 //! `memory WORDS RECORDS RING CALLERS READS WRITES CLOCK ALG` opens a memory that takes ranges out of the transactions,
 //! under the algorithm of this name. Each line below it is a caller's number, one of the words of [`calls`], and that
-//! word's numbers; or `learn`, and the number of the caller that tells. A line that begins with `#` and an empty one are
-//! repeated as they are.
+//! word's numbers; or `learn`, and the number of the caller that tells. A line that begins with `#` and an empty one
+//! are repeated as they are.
 #![tactic(auto)]
 
 mod calls;

@@ -89,6 +89,7 @@ impl Script {
             writes: sizes[5] as usize,
             clock: sizes[6],
             fence: true,
+            marks: 8,
         };
         let Some(alg) = algorithm(words.next().unwrap_or("")) else {
             return String::from_str(alloc, ": no such algorithm");

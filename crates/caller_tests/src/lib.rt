@@ -2,6 +2,8 @@
 #![tactic(auto)]
 
 #[cfg(test)]
+mod growth_tests;
+#[cfg(test)]
 mod observer_tests;
 #[cfg(test)]
 mod perf_core_tests;

@@ -81,8 +81,8 @@ fn as_many_callers_as_may_be(rt: HostRuntime) -> Result<(), Fail> {
     Ok(())
 }
 
-/// Two rows of 100,000 words, each read whole by the scans of it: none is promoted by a log that has room for a row, and
-/// each is by one that has room for a word less. What stands after the rows stays.
+/// Two rows of 100,000 words, each read whole by the scans of it: none is promoted by a log that has room for a row,
+/// and each is by one that has room for a word less. What stands after the rows stays.
 #[test]
 fn scans_of_rows(rt: HostRuntime) -> Result<(), Fail> {
     for (reads, promotions) in [(100_000, 0), (99_999, 20)] {
@@ -120,7 +120,8 @@ fn was_scanned(words: &[u64], from: usize, to: usize) -> bool {
     false
 }
 
-/// What stands at the first words of the two rows and after them, what the scans saw, and whether that is so of five scans.
+/// What stands at the first words of the two rows and after them, what the scans saw,
+/// and whether that is so of five scans.
 const LEFT: [([u64; 3], u64, bool); 7] = [
     ([5, 0, 0], 10, true),
     ([2, 3, 0], 4, true),

@@ -1,5 +1,6 @@
-//! What no clause says: who wakes a caller that sleeps until it gets a value, and that it comes to its end whatever comes to
-//! the memory meanwhile. 31 callers sleep, each until its own word holds something; caller 0 begins once all of them are about to.
+//! What no clause says: who wakes a caller that sleeps until it gets a value, and that it comes to its end whatever
+//! comes to the memory meanwhile. 31 callers sleep, each until its own word holds something; caller 0 begins once all
+//! of them are about to.
 ghost use Rattle.std.specs.Prelude.{◌≡◌, ◌<◌, ◌≤◌, All, length, true};
 ghost use Rattle.tx_atomic.specs.Callers.{IsReady, IsThrough, AllReady};
 
@@ -44,6 +45,7 @@ const SIZES: Config = Config {
     writes: 8,
     clock: 0,
     fence: true,
+    marks: 0,
 };
 
 /// A sleeper that nobody wakes looks again after so many milliseconds.
@@ -52,7 +54,8 @@ const LONGEST_SLEEP: u64 = 10;
 /// What the callers find, counted.
 #[derive(Drop)]
 struct Counts {
-    /// The sleeps that were about to begin, one a value: the sleeper has found its word empty after it announced its wait.
+    /// The sleeps that were about to begin, one a value: the sleeper has found its word empty after it announced its
+    /// wait.
     asleep: AtomicU64,
     /// Looks that found a word empty.
     empty: AtomicU64,
@@ -185,9 +188,9 @@ fn own_looks<R: Clock>(rt: &R, since: Instant) -> u64 {
 
 /// Sleeps until the word at `at` has a value, and empties the one at `to`. Answers whether a value came.
 ///
-/// All looks are commits. Those before the first sleep are known, so the others tell how many sleeps ended: all but the last
-/// one in vain. A sleeper that nobody wakes looks again, too, which on a busy machine comes often: so of the sleeps in vain so
-/// many are taken off as the whole wait was times as long as such a sleep.
+/// All looks are commits. Those before the first sleep are known, so the others tell how many sleeps ended: all but the
+/// last one in vain. A sleeper that nobody wakes looks again, too, which on a busy machine comes often: so of the
+/// sleeps in vain so many are taken off as the whole wait was times as long as such a sleep.
 fn sleep_once<'a, R: Wait + Clock>(
     rt: &R,
     desc: &mut Desc<AnyMem>,
@@ -263,8 +266,8 @@ enum Deed {
     Fill,
     /// Installs one algorithm after the other, and puts values.
     Switch,
-    /// Takes words 1 and 2 out of the transactions, writes a value to each there, gives them back, and puts values into the
-    /// others.
+    /// Takes words 1 and 2 out of the transactions, writes a value to each there, gives them back, and puts values into
+    /// the others.
     Range,
 }
 
@@ -346,7 +349,8 @@ fn wake(stm: &Stm<AnyMem>, rung: Rung<AnyMem>) {
     }
 }
 
-/// Takes words 1 and 2 out of the transactions, and gives them back with a value each, once sleepers have met the range.
+/// Takes words 1 and 2 out of the transactions, and gives them back with a value each,
+/// once sleepers have met the range.
 fn take_range<R: Wait>(rt: &R, desc: &mut Desc<AnyMem>, stm: &Stm<AnyMem>, counts: &Counts)
     requires ready { IsReady stm.now desc.old }
     requires words { stm.now.config.words ≡ 32 }
@@ -490,8 +494,8 @@ fn run<R: Threads + Wait + Clock + Sync>(
     Ok(counts)
 }
 
-/// Under the algorithms that log reads. Were each sleeper woken by each write, as it is under the others, most sleeps would be in
-/// vain.
+/// Under the algorithms that log reads. Were each sleeper woken by each write, as it is under the others, most sleeps
+/// would be in vain.
 #[test]
 fn each_sleeper_is_woken_by_its_own_word(rt: HostRuntime) -> Result<(), Fail> {
     for alg in [Alg::OrecLazy, Alg::OrecEager, Alg::RingSw] {

@@ -54,6 +54,7 @@ pub(crate) const COUNTING: Config = Config {
     writes: 4,
     clock: 0,
     fence: false,
+    marks: 0,
 };
 
 /// How often each caller counts.

@@ -63,8 +63,8 @@ impl Transaction<AnyMem> for Take {
     }
 }
 
-/// Caller 0 puts the values from 1 on into word 0, caller 1 takes them and answers whether they came in order, and each other
-/// caller installs one algorithm after the other meanwhile.
+/// Caller 0 puts the values from 1 on into word 0, caller 1 takes them and answers whether they came in order, and each
+/// other caller installs one algorithm after the other meanwhile.
 struct Hand;
 
 impl<R: Wait> Job<R, AnyMem> for Hand {

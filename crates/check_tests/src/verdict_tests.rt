@@ -174,8 +174,8 @@ fn finds_what_stands_in_no_line_of_a_report(rt: HostRuntime) -> Result<(), Fail>
     Ok(())
 }
 
-/// What a report of a workload of 20 lines comes to that has a byte outside 32 to 126: its line isn't in the form; where
-/// no LF ends it, that is its fault.
+/// What a report of a workload of 20 lines comes to that has a byte outside 32 to 126: its line isn't in the form;
+/// where no LF ends it, that is its fault.
 #[test]
 fn takes_no_wrong_byte(rt: HostRuntime) -> Result<(), Fail> {
     let table: [(&[u8], usize, u32); 10] = [

@@ -1,4 +1,5 @@
--- WHAT THE WORDS OF A COMMAND LINE ASK FOR: `stm_draw [--lines A..B] [--callers N,N..] [FILE [TRACE]]`, or a call for help.
+-- WHAT THE WORDS OF A COMMAND LINE ASK FOR: `stm_draw [--lines A..B] [--callers N,N..] [FILE [TRACE]]`, or a call for
+-- help.
 use Rattle.std.specs.Prelude.{ℕ, ◌||◌, Bool, true, false, List, [], ◌∷◌, take, if◌then◌else◌, Option, Some, None, is_some, is_none, option_map, map, codes, bytes_eq}
 use Rattle.std.specs.Borrow.{Bor}
 use Rattle.stm_check.specs.Grammar.{◌>>=◌}

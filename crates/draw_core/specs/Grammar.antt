@@ -191,7 +191,8 @@ abbrev pub go_on : Option Line → ℕ → (Line → Result (List Line) ℕ) →
 go_on None k rest = Err k
 go_on (Some line) k rest = rest line
 
--- the lines told so far and those of the text from the line k on, up to a report or a full clock; or the first line at fault
+-- the lines told so far and those of the text from the line k on, up to a report or a full clock;
+-- or the first line at fault
 abbrev pub read : List Line → ℕ → List TextLine → Result (List Line) ℕ
 read told k [] = Err k
 read told k (l ∷ ls) =

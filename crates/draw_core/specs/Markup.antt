@@ -1,4 +1,5 @@
--- MARKUP: tags that are closed in turn, the one opened last first, with attributes in quotes; and words, which have no character that a tag is made of.
+-- MARKUP: tags that are closed in turn, the one opened last first, with attributes in quotes; and words, which have no
+-- character that a tag is made of.
 use Rattle.std.specs.Prelude.{ℕ, ◌≡◌, ◌==◌, leb, Bool, ◌||◌, ◌&&◌, List, [], ◌∷◌, ◌++◌, if◌then◌else◌, Option, Some, None}
 
 -- how far a text is read: the names of the tags that are open, the last one first, and where in a tag it stands

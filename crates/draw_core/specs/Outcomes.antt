@@ -58,7 +58,8 @@ leaf_by part above = record { lines = part.lines; callers = lanes_with part.call
 abbrev pub leaf_of : Part → List Step → Leaf
 leaf_of part steps = leaf_by part (rows_above part (rows_in steps))
 
--- WHAT IS SAID OF A PART of these steps: its picture, text that is markup, of 2,000 boxes at most where no lines are named; or how many boxes it would have, where they are more, or where lines are named and have none
+-- WHAT IS SAID OF A PART of these steps: its picture, text that is markup, of 2,000 boxes at most where no lines are
+-- named; or how many boxes it would have, where they are more, or where lines are named and have none
 pub record IsDrawn (steps : List Step) (part : Part) (said : List ℕ) : Type 0 where
   pub few : IsFew part.lines (length (boxes_in part steps))
   pub is : said ≡ svg_of (leaf_of part steps) (page_boxes part steps)

@@ -17,7 +17,8 @@ use Rattle.draw_core.specs.declared.step.Step.{Step}
 use Rattle.draw_core.specs.Kinds.{kind_of, ends_attempt, is_finish, is_holding, is_opening, is_promotion}
 use Rattle.draw_core.specs.Labels.{label_of}
 
--- a box: the caller in whose lane it lies, what it is, the words on it, its line's number in the trace, and how many lines it is of; its row is its place in the list
+-- a box: the caller in whose lane it lies, what it is, the words on it, its line's number in the trace, and how many
+-- lines it is of; its row is its place in the list
 pub record Box : Type 0 where
   pub lane : ℕ
   pub kind : Kind

@@ -1,4 +1,5 @@
--- WORDS THAT FIT A BOX: of a number of more than eight digits the first three and the last three, and words up to where the box ends.
+-- WORDS THAT FIT A BOX: of a number of more than eight digits the first three and the last three,
+-- and words up to where the box ends.
 use Rattle.std.specs.Prelude.{ℕ, ◌≤◌, ◌+◌, ◌-◌, ◌==◌, leb, ltb, Bool, ◌||◌, ◌&&◌, if◌then◌else◌, List, [], ◌∷◌, ◌++◌, length, codes, bytes_eq}
 use Rattle.draw_core.specs.declared.style.TheConstants.{TIP}
 use Rattle.draw_core.specs.declared.shown.TheConstants.{MOST_SHOWN}

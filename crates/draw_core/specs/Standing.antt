@@ -1,4 +1,5 @@
--- WHAT STILL STANDS of the rows above a page: the begin of an open attempt, where it asks to be alone or was granted it, a gate that is closed, and the last commit.
+-- WHAT STILL STANDS of the rows above a page: the begin of an open attempt, where it asks to be alone or was granted
+-- it, a gate that is closed, and the last commit.
 use Rattle.std.specs.Prelude.{ℕ, zero, suc, ◌+◌, ◌==◌, Bool, false, ◌&&◌, if◌then◌else◌, List, [], ◌∷◌, ◌++◌, map, Option, Some, None}
 use Rattle.draw_core.specs.declared.standing.Mark.{Mark}
 use Rattle.draw_core.specs.declared.standing.Mark.TheVariants.{Begun, Held, Closed, Clock}

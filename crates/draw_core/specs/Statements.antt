@@ -81,11 +81,13 @@ LinesFit [] = Unit {0}
 LinesFit (Of caller said ∷ lines) = (caller < MAX_CALLERS) × IsOfMemory said × LinesFit lines
 LinesFit (Finish ∷ lines) = LinesFit lines
 
--- what follows a trace: a report of words of the machine, by ascending address and without zeros; or the clock that was full
+-- what follows a trace: a report of words of the machine, by ascending address and without zeros;
+-- or the clock that was full
 abbrev pub IsTail : List ℕ → Type 0
 IsTail text = ((r : Report) × IsReadable r × (text ≡ report_bytes r)) ⊎ ((clock : ℕ) × IsWord clock × (text ≡ codes "clock full " ++ (decimal clock ++ codes "\n")))
 
--- THE LAW: what is read of the text has the boxes of these lines: one for each, in its caller's lane, at its place, with its words
+-- THE LAW: what is read of the text has the boxes of these lines: one for each, in its caller's lane, at its place,
+-- with its words
 abbrev pub IsDrawnAs : List ℕ → List Line → Type 0
 IsDrawnAs text lines = (told : List Line) × (trace_of text ≡ Ok told) × (line_boxes 1 (bare_of told) ≡ line_boxes 1 (bare_of lines))
 

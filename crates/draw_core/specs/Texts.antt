@@ -16,7 +16,9 @@ use Rattle.draw_core.specs.Parts.{below}
 use Rattle.draw_core.specs.Shapes.{Box, shape_at}
 use Rattle.draw_core.specs.Shown.{words_bytes, shown_words}
 
--- what is unfoldable here is opened only where the function that writes it is proved, and where it is shown to be markup
+-- what is unfoldable here is opened only where the function that writes it is proved, and where it is shown to be
+-- markup
+
 -- a rectangle of two classes: where it lies, and how large it is
 abbrev pub place_bytes : List ℕ → List ℕ → ℕ → ℕ → List ℕ
 place_bytes class kind x y = codes "<rect class='" ++ (class ++ (codes " " ++ (kind ++ (codes "' x='" ++ (decimal x ++ (codes "' y='" ++ decimal y))))))
@@ -34,7 +36,8 @@ open_bytes class kind x y more =
 abbrev pub close_bytes : List ℕ
 close_bytes = codes "</text>\n"
 
--- a lane is 216 pixels wide, after 138 for the rows' numbers and the clock; a row is 24 high, after 44 for the heads, which stand once more above every fortieth
+-- a lane is 216 pixels wide, after 138 for the rows' numbers and the clock; a row is 24 high, after 44 for the heads,
+-- which stand once more above every fortieth
 -- lanes of callers that aren't drawn are left out
 abbrev pub column : Option Callers → ℕ → ℕ
 column None lane = lane

@@ -37,7 +37,8 @@ turn_of Dropped = Fails Inside
 turn_of Idle = Stays Over
 turn_of said = Stays Outside
 
--- where a caller stands: the scripts of its transactions that haven't ended; and of an open attempt, which runs the first of them, the operations still to come
+-- where a caller stands: the scripts of its transactions that haven't ended; and of an open attempt, which runs the
+-- first of them, the operations still to come
 pub record Stand : Type 0 where
   pub scripts : List (List Op)
   pub attempt : Option (List Op)

@@ -65,7 +65,8 @@ abbrev pub go_on : Option (Step × Along) → ℕ → (Step × Along → Result 
 go_on None k rest = Err k
 go_on (Some went) k rest = rest went
 
--- the steps told so far and those of these lines, the first of which is the text's line k; or the first line that may not come
+-- the steps told so far and those of these lines, the first of which is the text's line k;
+-- or the first line that may not come
 abbrev pub walked : Option Version → List Step → ℕ → Along → List Line → Result (List Step) ℕ
 walked version told k at [] = Ok told
 walked version told k at (line ∷ lines) = go_on (went version at line) k (λ w. walked version (told ++ w.0 ∷ []) (k + 1) w.1 lines)

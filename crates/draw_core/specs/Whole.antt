@@ -30,7 +30,8 @@ abbrev pub both : Result Workload (ℕ × ℕ) → ℕ → Result (List Line) �
 both (Ok w) above trace = follows (Some w) above trace
 both (Err fault) above trace = Err fault.0
 
--- THE STEPS OF A TEXT: its trace's lines, with what the workload above it tells of them; or the first line at fault, 0 for a text that is too long
+-- THE STEPS OF A TEXT: its trace's lines, with what the workload above it tells of them; or the first line at fault,
+-- 0 for a text that is too long
 abbrev pub steps_of : List ℕ → Result (List Step) ℕ
 steps_of text =
     if ltb MOST_DRAWN (length text) then Err 0 else

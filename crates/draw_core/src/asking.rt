@@ -1,5 +1,5 @@
-//! What the words of the command line ask for: `stm_draw [--lines A..B] [--callers N,N..] [FILE [TRACE]]`, or a call for
-//! help.
+//! What the words of the command line ask for: `stm_draw [--lines A..B] [--callers N,N..] [FILE [TRACE]]`, or a call
+//! for help.
 ghost use Rattle.std.specs.Prelude.{◌≡◌, bytes_eq, option_map};
 ghost use Rattle.draw_core.specs.Asking.{ask_of, asked, help_of, is_option, is_waiting, opened, taken, texts_of};
 

@@ -29,13 +29,13 @@ use stm_text::parting::part_at_done;
 /// How many bytes are read: one more than a text may have.
 const MOST_READ: usize = 134217729;
 
-/// Reads the text that `stm_bench step` writes from `source`, and writes its picture to `sink`, whole once it is made: one
-/// box for each line of the trace, in its caller's lane and in the order of the lines, with the line's words, but one box
-/// for idle turns of a caller that follow each other. Where the text is a workload and after its line `done` that, a box
-/// has what its caller did: the operation as the script has it, and the reply. `words`, the program's name and what
-/// follows it, name the lines and callers that are drawn, below what still stands of the rows before them, or call for
-/// help; where they are in no form, it writes the usage line. Then it reads nothing. Where no lines are named, a picture
-/// has at most 2,000 boxes. Every other end writes one line, or with `Memory` nothing; see [`Status`].
+/// Reads the text that `stm_bench step` writes from `source`, and writes its picture to `sink`, whole once it is made:
+/// one box for each line of the trace, in its caller's lane and in the order of the lines, with the line's words, but
+/// one box for idle turns of a caller that follow each other. Where the text is a workload and after its line `done`
+/// that, a box has what its caller did: the operation as the script has it, and the reply. `words`, the program's name
+/// and what follows it, name the lines and callers that are drawn, below what still stands of the rows before them, or
+/// call for help; where they are in no form, it writes the usage line. Then it reads nothing. Where no lines are named,
+/// a picture has at most 2,000 boxes. Every other end writes one line, or with `Memory` nothing; see [`Status`].
 ///
 /// `Refused` leaves in `why` what is wrong with the text, in a sentence, where memory for it is there.
 pub fn draw<S: Source, K: Sink>(
@@ -60,8 +60,8 @@ pub fn draw<S: Source, K: Sink>(
     }
 }
 
-/// A status, the whole text that it writes, and what is wrong with a text that was read, in a sentence, where memory for
-/// it is there.
+/// A status, the whole text that it writes, and what is wrong with a text that was read, in a sentence, where memory
+/// for it is there.
 #[derive(Drop)]
 pub struct Saying {
     pub status: Status,

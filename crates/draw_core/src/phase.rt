@@ -1,4 +1,5 @@
-//! Where a line may come by its caller's lines alone: in an attempt, between two, or while its caller has closed the gate.
+//! Where a line may come by its caller's lines alone: in an attempt, between two,
+//! or while its caller has closed the gate.
 ghost use Rattle.std.specs.Prelude.{◌≡◌, ◌<◌, length, Some, None, true, false};
 ghost use Rattle.draw_core.specs.Phases.{may_come, passed, phase_after, phase_at};
 

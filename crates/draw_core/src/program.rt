@@ -19,8 +19,8 @@ use stm_io::adapters::{ReadSource, WriteSink};
 use stm_io::arguments::{arguments, words_in};
 use stm_io::ends::{Sink, Source};
 
-/// Draws what the files have that the arguments name, or else standard input, to standard output, and answers the status
-/// as exit status. Once all is written, standard error says why, where the status isn't `Ok`.
+/// Draws what the files have that the arguments name, or else standard input, to standard output, and answers the
+/// status as exit status. Once all is written, standard error says why, where the status isn't `Ok`.
 pub fn program<R: Env + AllocGlobal + Files + Input + Print + Eprint>(rt: &R) -> ExitCode
     ensures { (words : List (List ℕ)) × EndsBy words (exit_status result) }
 {

@@ -14,7 +14,8 @@ use stm_trace::line::Line;
 use stm_trace::said::Said;
 use tx_answers::answers::{Begin, Cancel, CloseGate, Commit, Irrev, Look};
 
-/// The operations on plain words and those with three numbers, here with zeros. The others stand in the tables of stm_script.
+/// The operations on plain words and those with three numbers, here with zeros.
+/// The others stand in the tables of stm_script.
 pub const PLAIN: [Op; 8] = [
     Op::Read(0),
     Op::Write(0, 0),

@@ -10,8 +10,8 @@ pub enum Status {
     Help,
     /// The usage line: the words ask for nothing.
     Usage,
-    /// `refused L`: the text read isn't one that `step` writes, alone or after its workload; `line` is its first line at
-    /// fault, counted from 1, or 0 for a text that is too long.
+    /// `refused L`: the text read isn't one that `step` writes, alone or after its workload; `line` is its first line
+    /// at fault, counted from 1, or 0 for a text that is too long.
     Refused { line: usize },
     /// `read fault`: the source failed.
     ReadFault,

@@ -510,8 +510,8 @@ fn idle_turns_are_one_row(rt: HostRuntime) -> Result<(), Fail> {
     Ok(())
 }
 
-/// A part has what still stands above it: of a caller the begin of its open attempt and where it asks to be alone, a gate
-/// that is closed, and the last commit of all.
+/// A part has what still stands above it: of a caller the begin of its open attempt and where it asks to be alone, a
+/// gate that is closed, and the last commit of all.
 #[test]
 fn parts_begin_with_what_stands(rt: HostRuntime) -> Result<(), Fail> {
     let text =

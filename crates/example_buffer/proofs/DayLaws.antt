@@ -6,8 +6,9 @@ use Rattle.nekchhaul.specs.Histories.{Entry, memory_at}
 use Rattle.nekchhaul.specs.Logs.{Log, Reads, Keeps, IsExplained}
 use Rattle.nekchhaul.specs.Memories.{overlay, Explains}
 use Rattle.nekchhaul.specs.Handles.{BeginsHistory}
-use Rattle.nekchhaul.specs.CallerState.{CallerState, Grows, no_log}
+use Rattle.nekchhaul.specs.CallerState.{CallerState, no_log}
 use Rattle.nekchhaul.specs.Attempts.{TookEffect}
+use Rattle.nekchhaul.specs.Extends.{Extends}
 use Rattle.nekchhaul.specs.Moments.{Happened}
 use Rattle.nekchhaul.specs.MomentLaws.{happened}
 use Rattle.example_buffer.specs.declared.buffer.Sight.{Sight}
@@ -60,7 +61,7 @@ seen-whole when u w history sight due h =
 
 -- a look that took effect has its moment
 pub seen : (when : ℕ → Type 0) (config : Config) (n : ℕ) (o : Option Sight) (u w k : CallerState) (history : List Entry) → config ≡ CONFIG → ((at : ℕ) → u.front ≤ at → at ≤ w.front → when at)
-    → IfSome o (λ sight. TookEffect IsFilling config n (Saw sight) u.front u w) → Grows w k → BeginsHistory k.seen k.front history → IfSome o (SeenWhole when history)
+    → IfSome o (λ sight. TookEffect IsFilling config n (Saw sight) u.front u w) → Extends w k → BeginsHistory k.seen k.front history → IfSome o (SeenWhole when history)
 seen when config n None u w k history of due took grows begun = tt
 seen when config n (Some sight) u w k history of due took grows begun =
     let there = subst (λ (c : Config). TookEffect IsFilling c n (Saw sight) u.front u w) of took in

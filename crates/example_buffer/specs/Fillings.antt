@@ -30,7 +30,8 @@ pub record SeenWhole (when : ℕ → Type 0) (history : List Entry) (sight : Sig
   pub whole : memory_at at history (filling 0) ≡ filling sight.first
   pub same : sight.first ≡ sight.last
 
--- all or nothing of a filling: at each moment of the one history the buffer is one filling whole, the words are the last of them, and what was seen is that of one moment, the second no earlier than the first
+-- all or nothing of a filling: at each moment of the one history the buffer is one filling whole, the words are the
+-- last of them, and what was seen is that of one moment, the second no earlier than the first
 pub record IsDay (day : Day) : Type 0 where
   pub history : List Entry
   pub end : ℕ

@@ -17,6 +17,7 @@ const CONFIG: Config = Config {
     writes: 4,
     clock: 0,
     fence: true,
+    marks: 0,
 };
 
 /// What the reader saw, and the words of the closed memory.
@@ -27,9 +28,9 @@ pub struct Day {
     pub words: Vec<u64>,
 }
 
-/// The buffer is filled twice, and looked at before and in between. At each moment of the memory's one history it is one
-/// filling whole, whatever was written into it by and by; each look is at one such moment, and the words are the last.
-/// None where memory is refused, or the clock was found at its limit.
+/// The buffer is filled twice, and looked at before and in between. At each moment of the memory's one history it is
+/// one filling whole, whatever was written into it by and by; each look is at one such moment, and the words are the
+/// last. None where memory is refused, or the clock was found at its limit.
 pub fn run<R: Wait>(rt: &R, alloc: Global) -> Option<Day>
     ensures { IfSome result IsDay }
 {

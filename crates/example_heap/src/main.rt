@@ -1,5 +1,5 @@
-//! A heap of a runtime's size: 64 callers over 2^24 words, each of which marks words of its own 262,144th part and counts in
-//! one that all share.
+//! A heap of a runtime's size: 64 callers over 2^24 words, each of which marks words of its own 262,144th part and
+//! counts in one that all share.
 #![tactic(auto)]
 
 use nekchhaul::{

@@ -14,8 +14,9 @@ use Rattle.nekchhaul.specs.Insert.TheVariants.{Added, Present}
 use Rattle.nekchhaul.specs.Effects.{Does, DoesOver, unchanged}
 use Rattle.nekchhaul.specs.Keys.{has, free_from}
 use Rattle.nekchhaul.specs.Trees.{IsTree, keys, tag, inserted_by, inserted_in}
-use Rattle.nekchhaul.specs.CallerState.{CallerState, Grows, no_log}
+use Rattle.nekchhaul.specs.CallerState.{CallerState, no_log}
 use Rattle.nekchhaul.specs.Attempts.{TookEffect}
+use Rattle.nekchhaul.specs.Extends.{Extends}
 use Rattle.nekchhaul.specs.Moments.{Happened}
 use Rattle.nekchhaul.specs.MomentLaws.{happened}
 use Rattle.example_seats.specs.declared.hall.Seats.{Seats}
@@ -54,7 +55,7 @@ answered when seat u w history came due h =
 -- a wish that took effect has its moment
 moment : (config : Config) (rule : Seats) (n seat : ℕ) (came : Insert) (u w k : CallerState) (history : List Entry) → config ≡ CONFIG → rule ≡ record { taken = HALL }
     → TookEffect (IsTree rule.taken) config n
-    (λ log. DoesOver (IsTree rule.taken) config.words (inserted_in rule.taken seat) no_log came log) u.front u w → Grows w k
+    (λ log. DoesOver (IsTree rule.taken) config.words (inserted_in rule.taken seat) no_log came log) u.front u w → Extends w k
     → BeginsHistory k.seen k.front history → Happened (IsTree HALL) CONFIG (Tells seat came) u w history
 moment config rule n seat came u w k history of under took grows begun =
     let here = subst (λ (r : Seats). TookEffect (IsTree r.taken) config n (λ log. DoesOver (IsTree r.taken) config.words (inserted_in r.taken seat) no_log came log) u.front u w) under took in
@@ -85,7 +86,7 @@ pub wished : (when : ℕ → Type 0) (config : Config) (rule : Seats) (n seat : 
     (history : List Entry) → config ≡ CONFIG → rule ≡ record { taken = HALL } → ((at : ℕ) → u.front ≤ at → at ≤ w.front → when at)
     → IfSome o (λ came.
     TookEffect (IsTree rule.taken) config n (λ log. DoesOver (IsTree rule.taken) config.words (inserted_in rule.taken seat) no_log came log)
-    u.front u w) → IfNone o (w.made ≡ u.made) → Grows w k → BeginsHistory k.seen k.front history
+    u.front u w) → IfNone o (w.made ≡ u.made) → Extends w k → BeginsHistory k.seen k.front history
     → IfSome o (Answered when history seat) × (length w.made ≡ length u.made + seats_taken o)
 wished when config rule n seat None u w k history of under due took none grows begun = (tt, ap length none ∙ (omega arith))
 wished when config rule n seat (Some came) u w k history of under due took none grows begun =

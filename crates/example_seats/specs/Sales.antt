@@ -15,7 +15,8 @@ free_hall = replicate 31 0
 abbrev pub hall_at : ℕ → List Entry → List ℕ
 hall_at s history = memory_at s history free_hall
 
--- at such a moment the wish was answered as by an insertion into the set of the taken seats; where the seat was free, what the insertion leaves is the hall of the next moment
+-- at such a moment the wish was answered as by an insertion into the set of the taken seats; where the seat was free,
+-- what the insertion leaves is the hall of the next moment
 pub record Answered (when : ℕ → Type 0) (history : List Entry) (seat : ℕ) (came : Insert) : Type 0 where
   pub at : ℕ
   pub due : when at
@@ -29,7 +30,8 @@ seats_taken (Some Added) = 1
 seats_taken (Some Present) = 0
 seats_taken (Some NoRoom) = 0
 
--- the words are the hall at the end of one history, and each wish that was answered was so at a moment of it, the other's two wishes in their order; nothing else is in the history
+-- the words are the hall at the end of one history, and each wish that was answered was so at a moment of it, the
+-- other's two wishes in their order; nothing else is in the history
 pub record IsSale (sale : Sale) : Type 0 where
   pub history : List Entry
   pub end : ℕ

@@ -20,6 +20,7 @@ const CONFIG: Config = Config {
     writes: 8,
     clock: 0,
     fence: false,
+    marks: 0,
 };
 
 /// What came of each wish for a seat, and the words of the closed memory.
@@ -31,9 +32,9 @@ pub struct Sale {
     pub words: Vec<u64>,
 }
 
-/// Ten seats, of which two callers want three: first the one and then the other wants seat 7, and then the other seat 3.
-/// The words have the set of those that were taken. Each wish is answered as by an insertion into the set at one moment of
-/// the memory's one history, in which nothing else is, or by None where it found the clock at its limit.
+/// Ten seats, of which two callers want three: first the one and then the other wants seat 7, and then the other seat
+/// 3. The words have the set of those that were taken. Each wish is answered as by an insertion into the set at one
+/// moment of the memory's one history, in which nothing else is, or by None where it found the clock at its limit.
 ///
 /// # Errors
 /// Memory, where it is refused.

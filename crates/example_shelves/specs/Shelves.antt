@@ -20,7 +20,8 @@ room_on shelf = if shelf == 1 then 2 else 1
 abbrev pub IsFull : List ℕ → ℕ → Type 0
 IsFull m shelf = room_on shelf ≤ slice_index m shelf
 
--- THE MEANING: before, the memory was m, and then n. A piece is on one shelf, the first that had room, where it lay on the pile; else nothing changed
+-- THE MEANING: before, the memory was m, and then n. A piece is on one shelf, the first that had room, where it lay on
+-- the pile; else nothing changed
 abbrev pub IsStored : Stored → List ℕ → List ℕ → Type 0
 IsStored (On shelf) m n =
     (0 < slice_index m 0) × (1 ≤ shelf) × (shelf ≤ 3) × (slice_index m shelf < room_on shelf) × ((before : ℕ) → 1 ≤ before → before < shelf → IsFull m before)

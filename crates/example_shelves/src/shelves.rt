@@ -3,7 +3,7 @@ use nekchhaul::parts::nesting::Nesting;
 use nekchhaul::parts::or_else::OrElse;
 use nekchhaul::parts::part::Part;
 use nekchhaul::parts::wholly::{PartOutcome, wholly};
-use nekchhaul::{Access, AnyMem, Stop, Transaction, WriteLog};
+use nekchhaul::{Access, AnyMem, MOST_MARKS, Stop, Transaction, WriteLog};
 use std::alloc::Global;
 
 /// A transaction: five pieces are on the pile.
@@ -90,7 +90,7 @@ impl Transaction<AnyMem> for Store {
         if memory.read(0)? == 0 {
             return Ok(Stored::NoPiece);
         }
-        let Ok(mut room) = WriteLog::new(self.alloc, 2) else {
+        let Ok(mut room) = WriteLog::new(self.alloc, 2, MOST_MARKS) else {
             return Ok(Stored::Refused);
         };
         let shelves = OrElse {

@@ -38,8 +38,8 @@ impl Transaction<AnyMem> for Vote {
     }
 }
 
-/// What each caller does on its thread: it counts a thousand votes, from another candidate on than the others. Answers how
-/// many it counted.
+/// What each caller does on its thread: it counts a thousand votes, from another candidate on than the others. Answers
+/// how many it counted.
 #[derive(Drop)]
 struct Count {
     poll: Poll,

@@ -5,9 +5,9 @@ use tx_transaction::transaction::Transaction;
 use tx_transaction::words::{read_count, read_sum, read_words, write_words};
 use tx_transaction::{Access, MemRule, Stop};
 
-/// A hotel of eight rooms. Word `room` of its memory is the number of the room's guest, from 1 on, or 0 where it is free;
-/// word `8 + room` how many of its keys are out, of two; word 16 how many rooms are taken, and word 17 how many keys are
-/// out.
+/// A hotel of eight rooms. Word `room` of its memory is the number of the room's guest, from 1 on, or 0 where it is
+/// free; word `8 + room` how many of its keys are out, of two; word 16 how many rooms are taken, and word 17 how many
+/// keys are out.
 #[derive(Drop)]
 pub struct Hotel;
 
@@ -18,8 +18,8 @@ impl MemRule for Hotel {
     ghost good = { λ hotel memory. IsOrderly memory };
 }
 
-/// A guest takes a room, and a key of it. Answers None, having written nothing, where the room is taken; false where the
-/// guest has a room.
+/// A guest takes a room, and a key of it. Answers None, having written nothing, where the room is taken; false where
+/// the guest has a room.
 #[derive(Drop)]
 pub struct CheckIn {
     pub guest: u64,
@@ -80,8 +80,8 @@ impl Transaction<Hotel> for HandKey {
     }
 }
 
-/// A guest moves to another room, with as many keys as before. Answers false where there is no guest, or the other room is
-/// taken.
+/// A guest moves to another room, with as many keys as before. Answers false where there is no guest, or the other room
+/// is taken.
 #[derive(Drop)]
 pub struct Move {
     pub from: usize,

@@ -1,5 +1,5 @@
-//! Guests check in, are handed a second key, move and check out, on threads of their own, while one caller audits the keys.
-//! It stands on no engine: `example_hotel` runs it.
+//! Guests check in, are handed a second key, move and check out, on threads of their own, while one caller audits the
+//! keys. It stands on no engine: `example_hotel` runs it.
 #![tactic(auto)]
 
 pub mod hotel;
@@ -9,8 +9,8 @@ use std::sync::Wait;
 use tx_jobs::calls::Calls;
 use tx_jobs::rounds::Round;
 
-/// A guest's stay, one a round: each caller is a guest. It waits until the first room is free, and takes a second if that is
-/// free too; then it leaves. Caller 0 audits.
+/// A guest's stay, one a round: each caller is a guest. It waits until the first room is free, and takes a second if
+/// that is free too; then it leaves. Caller 0 audits.
 #[derive(Drop)]
 pub struct Stay;
 

@@ -1,5 +1,5 @@
-//! What no clause says: that a note is learnt, and that an access over an attempt comes to something, on one thread. The
-//! other calls of an attempt, on marks and on ranges are among the scripts of caller_scripts.
+//! What no clause says: that a note is learnt, and that an access over an attempt comes to something, on one thread.
+//! The other calls of an attempt, on marks and on ranges are among the scripts of caller_scripts.
 ghost use Rattle.std.specs.Prelude.{◌≡◌, ◌<◌, None, true, false};
 ghost use Rattle.stm_rule.specs.Callers.{IsOf, IsSameCaller, AllOpened};
 ghost use Rattle.tx_answers.specs.Answers.{Commits, KeepsRule};
@@ -31,6 +31,7 @@ pub(crate) const PAIR: Config = Config {
     writes: 256,
     clock: 0,
     fence: false,
+    marks: 8,
 };
 
 /// Installs the algorithm. Answers whether the gate was free and the caller alone.

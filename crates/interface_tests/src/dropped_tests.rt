@@ -1,5 +1,5 @@
-//! A descriptor that is dropped while it holds the gate: the gate stays closed, and nothing else breaks. One that is dropped
-//! in an attempt is among the scripts of caller_scripts.
+//! A descriptor that is dropped while it holds the gate: the gate stays closed, and nothing else breaks. One that is
+//! dropped in an attempt is among the scripts of caller_scripts.
 ghost use Rattle.std.specs.Prelude.{◌≡◌, true};
 ghost use Rattle.stm_rule.specs.Callers.{IsOf};
 ghost use Rattle.tx_answers.specs.CallerState.{IsIdle};

@@ -27,6 +27,7 @@ const PAIR: Config = Config {
     writes: 256,
     clock: 0,
     fence: false,
+    marks: 0,
 };
 
 /// The word of the record and the word as the reader loaded them, why its attempt ended, and the start of its next one

@@ -29,6 +29,7 @@ fn memory(callers: usize) -> Config
           writes = 256;
           clock = 0;
           fence = false;
+          marks = 0;
         } }
 {
     Config {
@@ -40,6 +41,7 @@ fn memory(callers: usize) -> Config
         writes: 256,
         clock: 0,
         fence: false,
+        marks: 0,
     }
 }
 

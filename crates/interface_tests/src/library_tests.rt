@@ -24,8 +24,8 @@ impl MemRule for Shelf {
     ghost good = { λ shelf memory. slice_index memory 0 + slice_index memory 1 ≤ shelf.room };
 }
 
-/// Begins an attempt, which asks to be irrevocable where `irrevocable` says so. Answers whether it runs; else it is to be
-/// tried again.
+/// Begins an attempt, which asks to be irrevocable where `irrevocable` says so. Answers whether it runs; else it is to
+/// be tried again.
 fn begin(desc: &mut Desc<Shelf>, stm: &Stm<Shelf>, irrevocable: bool) -> bool
     requires stm { IsOf desc.old stm.now }
     requires idle { IsIdle (known desc.old) }
@@ -125,6 +125,7 @@ fn fill(alloc: Global) -> Result<([Option<bool>; 4], Vec<u64>), NewError> {
         writes: 8,
         clock: 0,
         fence: false,
+        marks: 0,
     };
     let (stm, mut descs) = Stm::new(alloc, config, Shelf { room: 3 })?;
     let (Some(mut second), Some(mut first)) = (descs.pop(), descs.pop()) else {

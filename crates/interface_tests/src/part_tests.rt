@@ -9,7 +9,9 @@ use std::alloc::Global;
 use std::test::Fail;
 use stm_tx::calls::{commit, read, try_begin, write};
 use stm_tx::nesting::{checkpoint, release, roll_to};
-use stm_tx::{Alg, AnyMem, Begin, Check, Commit, Desc, NewError, Read, Roll, Stm, Write};
+use stm_tx::{
+    ALGORITHMS, Alg, AnyMem, Begin, Check, Commit, Config, Desc, NewError, Read, Roll, Stm, Write,
+};
 
 /// Adds to a word, and answers what it then is, modulo 2^64.
 fn add(desc: &mut Desc<AnyMem>, stm: &Stm<AnyMem>, a: usize, n: u64) -> Option<u64>
@@ -60,7 +62,8 @@ fn move_piece(desc: &mut Desc<AnyMem>, stm: &Stm<AnyMem>, room: u64) -> Option<u
     Some(2)
 }
 
-/// On which stock a piece was put that was taken off the three of stock 0, how the transaction ended, and the stocks then.
+/// On which stock a piece was put that was taken off the three of stock 0, how the transaction ended, and the stocks
+/// then.
 type Moved = (usize, Commit, [u64; 3]);
 
 /// Takes a piece off the three of stock 0, under this algorithm.
@@ -118,6 +121,45 @@ fn a_piece_goes_where_there_is_room(rt: HostRuntime) -> Result<(), Fail> {
     for alg in [Alg::OrecLazy, Alg::OrecEager, Alg::RingSw, Alg::Serial] {
         assert_eq!(rt; moved(rt.alloc(), alg, 1), Ok(Some((1, committed, first))));
         assert_eq!(rt; moved(rt.alloc(), alg, 0), Ok(Some((2, committed, second))));
+    }
+    Ok(())
+}
+
+/// What the first two calls for a mark come to in an attempt under this algorithm.
+fn marks_two(desc: &mut Desc<AnyMem>, stm: &Stm<AnyMem>, alg: Alg) -> Option<[Check; 2]>
+    requires stm { IsOf desc.old stm.now }
+    requires idle { IsIdle (known desc.old) }
+{
+    if !switch(stm, desc, alg) {
+        return None;
+    }
+    let Begin::Begun(_) = try_begin(desc, stm) else {
+        return None;
+    };
+    let first = checkpoint(desc);
+    Some([first, checkpoint(desc)])
+}
+
+/// The same in a memory whose attempts may have so many marks.
+fn two_marks(alloc: Global, alg: Alg, marks: usize) -> Result<Option<[Check; 2]>, NewError> {
+    let (stm, mut descs) = Stm::new(alloc, Config { marks, ..PAIR }, AnyMem)?;
+    match descs.as_mut_slice() {
+        [desc, ..] => Ok(marks_two(desc, &stm, alg)),
+        [] => Ok(None),
+    }
+}
+
+/// Also where the attempt is irrevocable from its begin on, as under CGL.
+#[test]
+fn as_many_marks_stand_as_the_memory_says(rt: HostRuntime) -> Result<(), Fail> {
+    for alg in ALGORITHMS {
+        for (marks, come) in [
+            (0, [Check::Deep { limit: 0 }, Check::Deep { limit: 0 }]),
+            (1, [Check::Marked { depth: 1 }, Check::Deep { limit: 1 }]),
+            (8, [Check::Marked { depth: 1 }, Check::Marked { depth: 2 }]),
+        ] {
+            assert_eq!(rt; two_marks(rt.alloc(), alg, marks), Ok(Some(come)));
+        }
     }
     Ok(())
 }

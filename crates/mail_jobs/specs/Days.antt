@@ -26,9 +26,9 @@ TellsIn mailbox words n share before after = HasDone (Did mailbox words) (done_b
 abbrev pub IsThrough : List ℕ → List Share → Type 0
 IsThrough words shares = ((n : ℕ) (a : Share) → n < 2 → length (slice_index_or shares n a).messages.items ≡ 300) × ((urgent : Bool) → mail_in MAILBOX words urgent ≡ [])
 
--- The history is one of posts and receipts, and those of each caller are what it answers, in its order. They lead from no message to those
--- that wait: so at each moment an urgent one was received before the others, and each kind in its order. A message that was posted was
--- received or waits, and none was posted twice.
+-- The history is one of posts and receipts, and those of each caller are what it answers, in its order. They lead from
+-- no message to those that wait: so at each moment an urgent one was received before the others, and each kind in its
+-- order. A message that was posted was received or waits, and none was posted twice.
 pub record IsDay (words : List ℕ) (shares : List Share) (history : List Entry) : Type 0 where
   pub order : InOneOrder (Did MAILBOX 20) Moves done_by 4 shares history (λ urgent. []) (mail_in MAILBOX words)
   pub own : (n : ℕ) (a : Share) → n < 4 → IsOwn n (slice_index_or shares n a)

@@ -52,7 +52,8 @@ TakeTells mailbox words urgent came = Told (IsMailbox mailbox) words (Takes mail
 abbrev pub ReceiveTells : Mailbox → ℕ → Option ℕ → Log → Log → Type 0
 ReceiveTells mailbox words = EitherTells (TakeTells mailbox words true) (TakeTells mailbox words false)
 
--- A DEED: this message was posted, urgent or not, or received: it was the first urgent one, or there was none and it was the first of the others
+-- A DEED: this message was posted, urgent or not, or received: it was the first urgent one,
+-- or there was none and it was the first of the others
 pub data Deed : Type 0 where
   Posted : Bool → ℕ → Deed
   Received : ℕ → Deed

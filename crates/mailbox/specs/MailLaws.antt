@@ -41,7 +41,8 @@ module _ (mailbox : Mailbox) (words : ℕ) (fits : Fits mailbox words) (urgent :
       let other = (beside (queue_of mailbox urgent) (queue_of mailbox (not urgent)) m 0 (apart mailbox urgent) (well urgent) here (well (not urgent))).1 in
       (both mailbox urgent _ told.1 other.0, (told.2, other.1))
 
--- a transaction that waits for a post is the deed of it, and one that waits for an urgent message or else another receives
+-- a transaction that waits for a post is the deed of it, and one that waits for an urgent message or else another
+-- receives
 pub posts-it : (mailbox : Mailbox) (words first room : ℕ) (urgent : Bool) (message : ℕ) (log : Log) → ComesAwaited (IsMailbox mailbox) words first room (PostTells mailbox words urgent message) (Some (Ok tt)) log
     → Did mailbox words (Posted urgent message) log
 posts-it mailbox words first room urgent message log came =

@@ -5,9 +5,9 @@ ghost use Rattle.tx_parts.specs.Laying.{ComesAwaited};
 ghost use Rattle.mailbox.specs.declared.mail.Mailbox.{Mailbox};
 ghost use Rattle.mailbox.specs.Mail.{IsMailbox, mail_in, PostTells, ReceiveTells, Deed, Posted, Received, Moves, Did, waiting, posts, receives};
 
-/// A transaction that posts is the deed of it, and one that takes an urgent message, or else another, receives: the first
-/// of the urgent messages, or there was none and it is the first of the others. In a history of such deeds it is so at
-/// each moment, and each message that was posted is received once, or waits.
+/// A transaction that posts is the deed of it, and one that takes an urgent message, or else another, receives: the
+/// first of the urgent messages, or there was none and it is the first of the others. In a history of such deeds it is
+/// so at each moment, and each message that was posted is received once, or waits.
 pub fn messages_come_in_order()
     ensures post { (mailbox : Mailbox) (words first room : ℕ) (urgent : Bool) (message : ℕ)
         (log : Log)

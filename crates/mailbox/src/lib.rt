@@ -1,4 +1,5 @@
-//! A mailbox of urgent messages and others: its rule, and the parts of its transactions. It is proved without an engine.
+//! A mailbox of urgent messages and others: its rule, and the parts of its transactions.
+//! It is proved without an engine.
 #![tactic(auto)]
 
 pub mod laws;

@@ -27,6 +27,7 @@ const SMALL: Config = Config {
     writes: 256,
     clock: 0,
     fence: false,
+    marks: 8,
 };
 
 /// What refuses a configuration, if anything does.
@@ -152,16 +153,25 @@ const REFUSED: &[(Config, NewError)] = &[
     (
         Config {
             clock: CLOCK_LIMIT + 1,
+            marks: 9,
             ..SMALL
         },
         NewError::Clock,
     ),
+    (Config { marks: 9, ..SMALL }, NewError::Marks),
 ];
 
 #[test]
 fn the_first_number_out_of_range_is_refused(rt: HostRuntime) {
     for (config, error) in REFUSED {
         assert_eq!(rt; refusal(rt.alloc(), *config), Some(*error));
+    }
+}
+
+#[test]
+fn an_attempt_may_have_no_mark_or_up_to_eight(rt: HostRuntime) {
+    for marks in [0, 1, 8] {
+        assert_eq!(rt; refusal(rt.alloc(), Config { marks, ..SMALL }), None);
     }
 }
 

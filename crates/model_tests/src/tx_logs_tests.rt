@@ -9,7 +9,7 @@ use tx_logs::write_log::WriteLog;
 
 #[test]
 fn a_find_looks_at_the_addresses_in_its_way(rt: HostRuntime) -> Result<(), Fail> {
-    let mut log = WriteLog::new(rt.alloc(), 256)?;
+    let mut log = WriteLog::new(rt.alloc(), 256, 0)?;
     for a in 0..256 {
         log.push(a, 7);
     }
@@ -47,7 +47,7 @@ fn a_log_finds_its_addresses_below_and_above_eight_items(rt: HostRuntime) -> Res
 #[test]
 fn a_log_finds_its_addresses_in_strides(rt: HostRuntime) -> Result<(), Fail> {
     let mut reads = ReadLog::new(rt.alloc(), 1024)?;
-    let mut writes = WriteLog::new(rt.alloc(), 1024)?;
+    let mut writes = WriteLog::new(rt.alloc(), 1024, 0)?;
     for stride in [16, 64, 1000, 1024, 2048, 8192, 65_536, 1 << 40] {
         reads.clear();
         writes.clear();
@@ -74,7 +74,7 @@ fn strided(i: usize, stride: usize) -> usize {
 
 #[test]
 fn the_generations_begin_again(rt: HostRuntime) -> Result<(), Fail> {
-    let mut log = WriteLog::with_generation(rt.alloc(), 2, 4294967294)?;
+    let mut log = WriteLog::with_generation(rt.alloc(), 2, 0, 4294967294)?;
     log.push(3, 1);
     log.push(3, 2);
     log.push(5, 1);
@@ -108,7 +108,7 @@ fn reads_keep_the_first_value(rt: HostRuntime) -> Result<(), Fail> {
 
 #[test]
 fn writes_keep_the_last_value(rt: HostRuntime) -> Result<(), Fail> {
-    let mut writes = WriteLog::new(rt.alloc(), 1)?;
+    let mut writes = WriteLog::new(rt.alloc(), 1, 0)?;
     writes.reserve(rt.alloc(), 2)?;
     for (a, v) in [(9, 1), (4, 2), (9, 3)] {
         assert_eq!(rt; writes.push(a, v), Push::Done);
@@ -134,7 +134,7 @@ fn an_undo_log_keeps_the_first_value(rt: HostRuntime) -> Result<(), Fail> {
 /// Holds whether memory is refused or not, in `new` or in `reserve`.
 #[test]
 fn a_refused_reserve_leaves_all_as_before(rt: HostRuntime) {
-    let Ok(mut log) = WriteLog::new(rt.alloc(), 1) else {
+    let Ok(mut log) = WriteLog::new(rt.alloc(), 1, 0) else {
         return;
     };
     log.push(9, 1);

@@ -21,6 +21,9 @@ pub use Rattle.stm_tx.specs.Descs
 pub use Rattle.tx_atomic.specs.Attempts
 pub use Rattle.tx_atomic.specs.Callers
 pub use Rattle.tx_atomic.specs.CallerLaws
+pub use Rattle.tx_atomic.specs.Extends
+pub use Rattle.tx_atomic.specs.ExtendsLaws
+pub use Rattle.tx_atomic.specs.Lengths
 pub use Rattle.tx_atomic.specs.Moments
 pub use Rattle.tx_atomic.specs.MomentLaws
 pub use Rattle.tx_atomic.specs.Tallies
@@ -46,6 +49,7 @@ pub use Rattle.tx_parts.specs.declared.wholly.PartOutcome
 pub use Rattle.tx_places.specs.Codes
 pub use Rattle.tx_places.specs.Fits
 pub use Rattle.tx_queue.specs.Queues
+pub use Rattle.tx_queue.specs.QueueLaws
 pub use Rattle.tx_queue.specs.Statements as QueueStatements
 pub use Rattle.tx_queue.specs.declared.queue.Put
 pub use Rattle.tx_queue.specs.declared.queue.Queue

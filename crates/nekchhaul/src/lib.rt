@@ -8,6 +8,7 @@ pub mod regions;
 pub mod sums;
 pub mod tree;
 
+pub use stm_model::config::MOST_MARKS;
 pub use stm_model::plain::Plain;
 pub use stm_tx as calls;
 pub use stm_tx::{
@@ -15,6 +16,7 @@ pub use stm_tx::{
     Stop, close,
 };
 pub use tx_atomic::atomically::atomically;
+pub use tx_atomic::growth::Growth;
 pub use tx_atomic::laws::transactions_have_moments;
 pub use tx_atomic::observer::Observer;
 pub use tx_atomic::pace::{Pace, Pacing};
@@ -23,7 +25,6 @@ pub use tx_atomic::tally::{Ended, Tally};
 pub use tx_atomic::transaction::Transaction;
 pub use tx_atomic::waiting::until_some;
 pub use tx_backoff::Backoff;
-pub use tx_checked as checked;
 pub use tx_jobs::calls::Calls;
 pub use tx_jobs::closed::ClosedMemory;
 pub use tx_jobs::job::Job;

@@ -1,5 +1,5 @@
 -- The numbers of the answers.
-use Rattle.std.specs.Prelude.{ℕ, Bool, true, false, ◌+◌, ◌==◌, nat_le, if◌then◌else◌, Result, Ok, Err}
+use Rattle.std.specs.Prelude.{ℕ, Bool, true, false, ◌+◌, ◌==◌, ◌||◌, nat_le, if◌then◌else◌, Result, Ok, Err}
 use Rattle.stm_model.specs.Algorithms.{alg_number}
 use Rattle.stm_model.specs.declared.memory.Memory.{Memory}
 use Rattle.stm_rule.specs.declared.refusal.NewError.{NewError}
@@ -188,6 +188,7 @@ size_code sizes.Ring = 35
 size_code sizes.Callers = 36
 size_code sizes.Logs = 37
 size_code sizes.Clock = 38
+size_code sizes.Marks = 37
 size_code sizes.Memory = 23
 
 abbrev pub open_code : OpenError → ℕ
@@ -195,9 +196,10 @@ open_code (opens.Refused e) = size_code e
 open_code opens.Memory = 23
 open_code (opens.Busy e) = 4
 
--- what a body came to that answered so: it was done; a status that another attempt may be spared; a full log; a word that is out; it is to run again; else it stopped
+-- what a body came to that answered so: it was done; a status that another attempt may be spared; a full log; a word
+-- that is out; it is to run again; else it stopped
 abbrev pub how_numbered : ℕ → How
-how_numbered n = if n == 0 then hows.Done else (if nat_le n 5 then hows.Refused else (if n == 6 then hows.Full else (if n == 25 then hows.Fenced else (if n == 49 then hows.Retry else hows.Stopped))))
+how_numbered n = if n == 0 then hows.Done else (if nat_le n 5 || (n == 52) then hows.Refused else (if n == 6 then hows.Full else (if n == 25 then hows.Fenced else (if n == 49 then hows.Retry else hows.Stopped))))
 
 -- what is to be done next, after a body that answered `how`
 abbrev pub turn_code : ℕ → Result Turn Misuse → ℕ

@@ -60,6 +60,6 @@ pub record HoldHindered (c : Config) (hs : List Handle) : Type 0 where
 abbrev pub IsOpenRefusal : ℕ → Config → List Handle → ℕ → Type 0
 IsOpenRefusal number c hs k = ((k ≡ 21) × (algorithm_numbered number ≡ None)) ⊎ (((k ≡ 24) × (NoneHeld hs → ⊥)) ⊎ ((e : OpenError) × (k ≡ open_code e) × IsOpenError c e []))
 
--- the sizes, for so many callers
+-- the sizes, for so many callers; a transaction within another is a mark
 abbrev pub config_for : Sizes → ℕ → Config
-config_for s n = record { words = s.words; records = s.records; ring = s.ring; callers = n; reads = s.reads; writes = s.writes; clock = s.clock; fence = true }
+config_for s n = record { words = s.words; records = s.records; ring = s.ring; callers = n; reads = s.reads; writes = s.writes; clock = s.clock; fence = true; marks = 8 }

@@ -20,7 +20,8 @@ ReadsInTurn [] (x ∷ xs) m n = ⊥
 ReadsInTurn (a ∷ at) [] m n = ⊥
 ReadsInTurn (a ∷ at) (x ∷ xs) m n = (k : LoopingCaller) × ReadTells a (Ok (Value x)) m k × ReadsInTurn at xs k n
 
--- the words at the first addresses were read, the places from there on are as they were, and the read of the next was refused by this status
+-- the words at the first addresses were read, the places from there on are as they were,
+-- and the read of the next was refused by this status
 pub record StopsAt (at old xs : List ℕ) (status : ℕ) (m n : LoopingCaller) : Type 0 where
   pub count : ℕ
   pub low : count < length at
@@ -31,7 +32,8 @@ pub record StopsAt (at old xs : List ℕ) (status : ℕ) (m n : LoopingCaller) :
   pub number : status ≡ read_code answer
   pub tells : ReadTells (get_or at count 0) answer before n
 
--- the same caller of the same memory, and the places after those of the addresses as they were; without room nothing was read, and with 0 all was
+-- the same caller of the same memory, and the places after those of the addresses as they were;
+-- without room nothing was read, and with 0 all was
 pub record ReadManySays (at old xs : List ℕ) (status : ℕ) (m n : LoopingCaller) : Type 0 where
   pub same : IsSameCheckedCaller m.caller n.caller
   pub long : length xs ≡ length old

@@ -81,7 +81,8 @@ WaitTells old new k m n = (r : Result Bool Misuse) × (k ≡ wait_code r) × Put
 abbrev pub BeginSays : ℕ → ℕ → ℕ → LoopingCaller → LoopingCaller → Type 0
 BeginSays old new k m n = (r : Result Begin Misuse) × (k ≡ begin_code r) × (new ≡ begin_value r (is_beside (known_to n.caller)) old) × PassesFree outside HasBegun m n r
 
--- only a caller in no attempt that hasn't closed the gate and has no range out is let go, and then the handle holds none
+-- only a caller in no attempt that hasn't closed the gate and has no range out is let go,
+-- and then the handle holds none
 abbrev pub LetsGo : ℕ → Option LoopingCaller → Option LoopingCaller → Type 0
 LetsGo k None None = k ≡ 16
 LetsGo k None (Some n) = ⊥

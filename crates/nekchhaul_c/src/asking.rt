@@ -110,7 +110,8 @@ fn algorithm_number(state: TxState) -> u32
 pub struct Why {
     /// The status that told of it, or 0 where nothing has.
     pub status: u32,
-    /// Of a full log: 1 that of the reads, 2 those of the writes. Of a conflict: 1 the clock moved, 2 a record, 3 a record moved, 4 the ring's filter, 5 the ring was overrun.
+    /// Of a full log: 1 that of the reads, 2 those of the writes. Of a conflict: 1 the clock moved, 2 a record, 3 a
+    /// record moved, 4 the ring's filter, 5 the ring was overrun.
     pub kind: u32,
     /// What was found, in the order of the header's table.
     pub first: u64,

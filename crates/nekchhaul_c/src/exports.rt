@@ -25,8 +25,8 @@ pub extern "C" fn nekchhaul_begin(caller: &mut Handle) -> u32
     nekchhaul_begin_under(caller, &mut under)
 }
 
-/// Tries to begin an attempt, and tells under which algorithm, and whether a range was out of the transactions. `under` is
-/// written only where the answer is 0.
+/// Tries to begin an attempt, and tells under which algorithm, and whether a range was out of the transactions. `under`
+/// is written only where the answer is 0.
 #[unsafe(no_mangle)]
 pub extern "C" fn nekchhaul_begin_under(caller: &mut Handle, under: &mut u32) -> u32
     ensures { Holds ((result ≡ 16) × (under.new ≡ under.old)) (BeginSays under.old under.new result)
@@ -157,7 +157,8 @@ pub(crate) fn algorithm_by_number(number: u32) -> Option<Alg>
     }
 }
 
-/// Lets a caller go that is in no attempt, hasn't closed the gate and has no range out. The memory goes with the last of its callers.
+/// Lets a caller go that is in no attempt, hasn't closed the gate and has no range out. The memory goes with the last
+/// of its callers.
 #[unsafe(no_mangle)]
 pub extern "C" fn nekchhaul_release(alloc: Global, caller: &mut Handle) -> u32
     ensures { LetsGo result caller.old.inside caller.new.inside }

@@ -106,7 +106,8 @@ fn leave_undone(looping_caller: &mut LoopingCaller, how: u32, pause: &mut Pause)
     told(turn, how, looping_caller, pause)
 }
 
-/// Commits what was only read, or leaves it to `commit_apart`. These are tests one by one: so the commit of writes isn't compiled in.
+/// Commits what was only read, or leaves it to `commit_apart`. These are tests one by one: so the commit of writes
+/// isn't compiled in.
 #[inline(never)]
 fn leave_done<C: Calls + Drop>(
     calls: C,

@@ -8,7 +8,7 @@ use crate::handle::Handle;
 use crate::status;
 use std::alloc::Global;
 use stm_model::alg::Alg;
-use stm_model::config::Config;
+use stm_model::config::{Config, MOST_MARKS};
 use stm_model::memory::Memory;
 use tx_checked::opening::OpenError;
 use tx_loops::looping_caller::LoopingCaller;
@@ -26,8 +26,8 @@ pub struct Sizes {
     pub clock: u64,
 }
 
-/// Opens a memory under an algorithm, with a caller for each place of `callers`. At BUSY another caller was in the way of
-/// the install, and the memory is open under CGL; where it is refused otherwise, no handle changes.
+/// Opens a memory under an algorithm, with a caller for each place of `callers`. At BUSY another caller was in the way
+/// of the install, and the memory is open under CGL; where it is refused otherwise, no handle changes.
 #[unsafe(no_mangle)]
 pub extern "C" fn nekchhaul_open(
     alloc: Global,
@@ -62,6 +62,7 @@ pub extern "C" fn nekchhaul_open(
         writes: sizes.writes,
         clock: sizes.clock,
         fence: true,
+        marks: MOST_MARKS,
     };
     match open(alloc, config, alg) {
         Ok(opened) => match hold_each(alloc, opened, callers) {

@@ -63,8 +63,8 @@ impl Pause {
     }
 }
 
-/// Announces that the caller's user will wait, for the next attempt to look whether it has to; or answers PAUSE where that was
-/// announced before an attempt which has looked. `pause` is written only where the answer is PAUSE.
+/// Announces that the caller's user will wait, for the next attempt to look whether it has to; or answers PAUSE where
+/// that was announced before an attempt which has looked. `pause` is written only where the answer is PAUSE.
 #[unsafe(no_mangle)]
 pub extern "C" fn nekchhaul_announce(caller: &mut Handle, pause: &mut Pause) -> u32
     ensures { Holds ((result ≡ 16) × (pause.new ≡ pause.old)) (WaitTells pause.old pause.new result)

@@ -95,7 +95,7 @@ pub(crate) fn how_of(number: u32) -> How
 {
     match number {
         OK => How::Done,
-        CONFLICT | GATE_CLOSED | HELD | BUSY | AGAIN => How::Refused,
+        CONFLICT | GATE_CLOSED | HELD | BUSY | AGAIN | PAUSE => How::Refused,
         LOG_FULL => How::Full,
         FENCED => How::Fenced,
         RETRY => How::Retry,
@@ -371,7 +371,8 @@ pub(crate) fn of_open(error: OpenError) -> u32
         OpenError::Refused(NewError::Records) => SIZE_RECORDS,
         OpenError::Refused(NewError::Ring) => SIZE_RING,
         OpenError::Refused(NewError::Callers) => SIZE_CALLERS,
-        OpenError::Refused(NewError::Logs) => SIZE_LOGS,
+        // Marks are room in a log, and C has no number of them.
+        OpenError::Refused(NewError::Logs | NewError::Marks) => SIZE_LOGS,
         OpenError::Refused(NewError::Clock) => SIZE_CLOCK,
         OpenError::Refused(NewError::Memory) | OpenError::Memory => MEMORY,
         OpenError::Busy(_) => BUSY,

@@ -8,8 +8,8 @@ use crate::handle::Handle;
 use crate::status;
 use tx_loops::looping_caller::LoopingCaller;
 
-/// Writes these values to the words at these addresses, in turn, up to the first that is refused. `taken` is how many were
-/// written.
+/// Writes these values to the words at these addresses, in turn, up to the first that is refused. `taken` is how many
+/// were written.
 #[unsafe(no_mangle)]
 pub extern "C" fn nekchhaul_write_many(
     caller: &mut Handle,

@@ -18,8 +18,8 @@ use stm_tx::{Desc, Stm};
 use tx_atomic::atomically::atomically;
 use tx_atomic::pace::Pacing;
 
-/// The transactions of a workload. Code that is generic in that asks once which workload it is, and not for each transaction;
-/// and each kind of transaction is compiled on its own.
+/// The transactions of a workload. Code that is generic in that asks once which workload it is, and not for each
+/// transaction; and each kind of transaction is compiled on its own.
 pub trait Draw {
     /// Draws a transaction, commits it, and counts what it came to. None where the clock was found at its limit.
     fn commit<R: Wait>(

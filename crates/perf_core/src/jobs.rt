@@ -1,5 +1,5 @@
-//! Transactions: what each does to a memory, over any access. One that is not for the region of its memory does nothing. Their
-//! numbers are short, so that little is written and read for each that is drawn.
+//! Transactions: what each does to a memory, over any access. One that is not for the region of its memory does
+//! nothing. Their numbers are short, so that little is written and read for each that is drawn.
 ghost use Rattle.std.specs.Prelude.{◌≡◌, ◌<◌, ◌≤◌, None, Some, OnOk, IfErr};
 ghost use Rattle.stm_model.specs.Logs.{SameMemories};
 ghost use Rattle.tx_effects.specs.Effects.{Under};

@@ -2,8 +2,8 @@
 
 use std::fmt::{self, Display, Formatter, Write};
 
-/// How often a caller that switched had to look at the others until all were out of their attempts. A count stands still at
-/// 2^64 - 1.
+/// How often a caller that switched had to look at the others until all were out of their attempts. A count stands
+/// still at 2^64 - 1.
 #[derive(Clone, Copy, Drop, Debug, PartialEq, Eq)]
 pub struct Looks {
     pub switches: u64,

@@ -40,6 +40,7 @@ pub fn open<R: Wait>(
         writes: 16,
         clock: 0,
         fence: false,
+        marks: 0,
     };
     let (stm, mut descs) = Stm::new(alloc, config, WorkRegion::of(plan.workload, plan.words))?;
     begin(rt, alloc, &mut descs[0], &stm, plan);

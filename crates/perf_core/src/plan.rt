@@ -11,8 +11,8 @@ use stm_profile::numbers::{number, number_up_to};
 /// search through every cell of a structure.
 const READS: usize = 2_048;
 
-/// The words of a memory where the command line names none, but for scans; and the fewest. A hash set of 512 cells takes
-/// the most.
+/// The words of a memory where the command line names none, but for scans; and the fewest. A hash set of 512 cells
+/// takes the most.
 pub const WORDS: usize = 1_040;
 
 /// The words that are scanned where the command line names none: ten rows.
@@ -140,10 +140,10 @@ fn algorithm_of(word: &str) -> Option<Alg> {
     None
 }
 
-/// The run that the words ask for, the first of them the program's name: `WORKLOAD ALGORITHM THREADS COUNT SEED`, a read
-/// log's length where it is to be another, `words N` where the memory is to have so many, `switches N` where the first
-/// caller is to switch so often, and `conflicts` where the words that conflict most are to be named. Numbers are decimal,
-/// without sign and leading zeros.
+/// The run that the words ask for, the first of them the program's name: `WORKLOAD ALGORITHM THREADS COUNT SEED`, a
+/// read log's length where it is to be another, `words N` where the memory is to have so many, `switches N` where the
+/// first caller is to switch so often, and `conflicts` where the words that conflict most are to be named. Numbers are
+/// decimal, without sign and leading zeros.
 pub fn plan_of(words: &[&str]) -> Option<Plan>
     ensures { IfSome result IsPlan }
 {

@@ -103,8 +103,8 @@ fn print<R: Print>(rt: &R, report: &Report, is_timed: bool) -> io::Result<()> {
     println!(rt; "{report}")
 }
 
-/// The exit status. Tells on standard error what the ending means, where there is something to tell and memory to say it;
-/// not who has closed standard output, and so wants to hear no more.
+/// The exit status. Tells on standard error what the ending means, where there is something to tell and memory to say
+/// it; not who has closed standard output, and so wants to hear no more.
 fn told<R: AllocGlobal + Eprint>(
     rt: &R,
     ending: Ending,

@@ -105,8 +105,8 @@ fn counted(plan: &Plan) -> usize {
     if plan.conflicts { plan.words } else { 0 }
 }
 
-/// The seed of a caller's drawing. 32 callers share what a run's seed is; those after them are as the first 32 of a seed
-/// far off, so that runs of neighbouring seeds have no caller in common.
+/// The seed of a caller's drawing. 32 callers share what a run's seed is; those after them are as the first 32 of a
+/// seed far off, so that runs of neighbouring seeds have no caller in common.
 fn seed_of(seed: u64, number: u64) -> u64 {
     seed.wrapping_add((number / 32).wrapping_mul(FAR))
         .wrapping_mul(32)

@@ -76,9 +76,9 @@ IsWhole plan day = (length day.words.items ≡ plan.room + 2) × (length day.ans
 abbrev pub times_taken : ℕ → List Hand → ℕ
 times_taken job hands = sum_by (λ (a : Hand). times job a.took.items) hands
 
--- The history is one of jobs that were given and taken, and those of each caller are what it answers, in its order. From no job they lead to
--- those that wait: so the jobs that were taken are the first of those that were given, in the same order, and the others wait. No job was
--- taken twice, or taken and waits.
+-- The history is one of jobs that were given and taken, and those of each caller are what it answers, in its order.
+-- From no job they lead to those that wait: so the jobs that were taken are the first of those that were given, in the
+-- same order, and the others wait. No job was taken twice, or taken and waits.
 pub record IsDay {P : Type 0} (plan : Plan) (day : ClosedMemory Hand P) (history : List Entry) : Type 0 where
   pub order : InOneOrder (Did (queue_of plan) (plan.room + 2)) Moves (done_by plan) (plan.producers + plan.workers) day.answers.items history [] (left_in plan day)
   pub in_order : given order.deeds ≡ taken order.deeds ++ left_in plan day

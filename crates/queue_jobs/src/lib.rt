@@ -1,5 +1,5 @@
-//! Producers give numbered jobs, and workers take them, on threads of their own: each job is taken once. It stands on no
-//! engine: `example_jobs` runs it.
+//! Producers give numbered jobs, and workers take them, on threads of their own: each job is taken once. It stands on
+//! no engine: `example_jobs` runs it.
 #![tactic(auto)]
 
 pub mod day;

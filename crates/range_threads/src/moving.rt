@@ -89,8 +89,8 @@ pub fn attempt<R: Wait>(
     }
 }
 
-/// Makes attempts, each from another word to another one, until the caller that takes the range is through. It never makes
-/// room for that one.
+/// Makes attempts, each from another word to another one, until the caller that takes the range is through. It never
+/// makes room for that one.
 pub fn move_often<R: Wait>(rt: &R, checked_caller: &mut CheckedCaller, counts: &Counts) {
     let mut backoff = Backoff::new();
     let mut i: usize = 0;

@@ -23,6 +23,7 @@ const SHARED: Config = Config {
     writes: 32,
     clock: 0,
     fence: true,
+    marks: 0,
 };
 
 /// How often the range goes and comes.

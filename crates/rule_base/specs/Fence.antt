@@ -1,4 +1,5 @@
--- The one range of words that a caller may take out of the transactions, and the heap as all others see it (`without_fence`).
+-- The one range of words that a caller may take out of the transactions,
+-- and the heap as all others see it (`without_fence`).
 -- In the range lies the memory under its caller's stores, and that memory is the one at which the range was taken.
 -- Without `mine` and `owner` two callers could have a range. Without `stored`, `still` and `sees` the entry of a
 -- give-back needn't be legal. Without `apart` an attempt that aborts or writes back could store in the range.
@@ -21,7 +22,8 @@ heap_without_fence fence heap history a = if fenced fence a then word_now histor
 abbrev pub without_fence : World → World
 without_fence w = record w { heap = heap_without_fence (fence_of w.gate) w.heap w.history }
 
--- a is among the addresses at which an attempt stored, or has still to store: each list counts while its flag says that it means something
+-- a is among the addresses at which an attempt stored, or has still to store:
+-- each list counts while its flag says that it means something
 abbrev pub stored : View → ℕ → Bool
 stored v a = (v.lock.taken || (v.tml.writer || v.gate.granted)) && touches v.attempt.stores a
 
@@ -57,7 +59,8 @@ pub record KnowsPast (s : FenceProjection) (v : FenceView) : Type 0 where
 
 -- what stands of the caller whose fence it is
 pub record FenceHolder (s : FenceProjection) (v : FenceView) : Type 0 where
-  -- in the range lies the memory under its stores: its loads see them, and the give-back makes the heap the memory again
+  -- in the range lies the memory under its stores: its loads see them,
+  -- and the give-back makes the heap the memory again
   pub stored : (a : ℕ) → fenced s.fence a ≡ true → s.heap a ≡ over v.stores a (word_now s.history a)
   -- the memory there is that at the fence still
   pub still : (a : ℕ) → fenced s.fence a ≡ true → word_now s.history a ≡ word_now v.past.seen a

@@ -106,7 +106,8 @@ module _ (c : Config) where
     owed = (ap (parts owes) is ∙ parts-put owes w.views n v) i;
   }
 
-  -- A STEP OF ANY OTHER KIND: it leaves the fence, what lies there, and what its caller knows of it, and owes nothing there afterwards
+  -- A STEP OF ANY OTHER KIND: it leaves the fence, what lies there, and what its caller knows of it,
+  -- and owes nothing there afterwards
   pub fence-stays : (w x : World) (n : ℕ) (v : View) → x.views ≡ put w.views n v → fence_of x.gate ≡ fence_of w.gate → w.clock ≤ x.clock
       → ((a : ℕ) → fenced (fence_of w.gate) a ≡ true → x.heap a ≡ w.heap a)
       → ((a : ℕ) → fenced (fence_of w.gate) a ≡ true → word_now x.history a ≡ word_now w.history a)

@@ -1,4 +1,5 @@
--- The kinds of step of a fence: a caller that holds the quiet gate takes a range out of the transactions, loads and stores there, and gives it back.
+-- The kinds of step of a fence: a caller that holds the quiet gate takes a range out of the transactions, loads and
+-- stores there, and gives it back.
 use Rattle.std.specs.Prelude.{ℕ, ◌≡◌, ◌≢◌, ◌+◌, ◌<◌, ◌≤◌, ◌^◌, if◌then◌else◌, [], ◌∷◌, length, true, false}
 use Rattle.stm_model.specs.Algorithms.{entry_rise}
 use Rattle.stm_model.specs.declared.alg.Alg.{Alg}
@@ -92,7 +93,8 @@ fence_commit n alg t = record {
   grown = λ w v x. fence_entry n t v ∷ w.history;
 }
 
--- THE MEMORY RULE of a give-back: from every good memory of words that has in the range what it had at the fence, the stores lead to a good one
+-- THE MEMORY RULE of a give-back: from every good memory of words that has in the range what it had at the fence,
+-- the stores lead to a good one
 abbrev pub KeepsFenced : ((ℕ → ℕ) → Type 0) → FenceView → Type 0
 KeepsFenced good f = (m : ℕ → ℕ) → good m → ((a : ℕ) → fenced f.number a ≡ true → m a ≡ word_now f.past.seen a) → AreWords m → good (λ a. over f.stores a (m a))
 
@@ -107,7 +109,8 @@ pub record CanFenceCommit (good : (ℕ → ℕ) → Type 0) (alg : Alg) (t : ℕ
   pub wrote : v.fence.stores ≢ []
   pub keeps : KeepsFenced good v.fence
 
--- what the entry shows: a legal history up to it, of which the seat had seen a part, and found a part as it took the range
+-- what the entry shows: a legal history up to it, of which the seat had seen a part,
+-- and found a part as it took the range
 pub record FenceCommits (good : (ℕ → ℕ) → Type 0) (c : Config) (n t : ℕ) (w : World) (v : View) (x : ℕ) : Type 0 where
   pub legal : Legal good c (fence_entry n t v ∷ w.history)
   pub below : Below (fence_entry n t v ∷ w.history) (t + 1)

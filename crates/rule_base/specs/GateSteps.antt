@@ -1,4 +1,5 @@
--- The kinds of step at the gate: a caller comes to an attempt and leaves it, closes the gate, looks at the others, and reopens.
+-- The kinds of step at the gate: a caller comes to an attempt and leaves it, closes the gate, looks at the others, and
+-- reopens.
 use Rattle.std.specs.Prelude.{ℕ, ◌≡◌, ◌≢◌, ◌+◌, ◌==◌, if◌then◌else◌, Bool, true, false, [], ◌∷◌}
 use Rattle.stm_model.specs.declared.alg.Alg.{Alg}
 use Rattle.rule_base.specs.declared.layout.At.TheVariants.{Gate, Status}

@@ -1,7 +1,8 @@
--- BASE, DONE and the caller that is alone (`quiescent`), under every algorithm: both words lie between the opening clock and
--- the clock, and while a caller is quiescent the clock is the number that it knows. So an install, a promotion or a
--- give-back that stores the clock in BASE and DONE takes nothing back. Without `alone` and `time` the clock could rise
--- between its load and that store. Without `rebased` and `completed` the gate could name the next algorithm too early.
+-- BASE, DONE and the caller that is alone (`quiescent`), under every algorithm: both words lie between the opening
+-- clock and the clock, and while a caller is quiescent the clock is the number that it knows. So an install, a
+-- promotion or a give-back that stores the clock in BASE and DONE takes nothing back. Without `alone` and `time` the
+-- clock could rise between its load and that store. Without `rebased` and `completed` the gate could name the next
+-- algorithm too early.
 -- Without `promoted` and `giving` their flags could outlast what they stand for.
 use Rattle.std.specs.Prelude.{ℕ, ◌≡◌, ◌≢◌, ◌<◌, ◌≤◌, true}
 use Rattle.stm_model.specs.declared.config.Config.{Config}
@@ -27,7 +28,8 @@ pub record InstallRule (c : Config) (s : InstallProjection) : Type 0 where
   pub done : s.done ≤ s.clock
   -- nor is one below the opening clock: no attempt begins before it
   pub opened : (c.clock ≤ s.base) × (c.clock ≤ s.done)
-  -- who loaded the clock to install, or to be promoted, has closed the gate and seen all others idle, so the clock is its own until it reopens
+  -- who loaded the clock to install, or to be promoted, has closed the gate and seen all others idle,
+  -- so the clock is its own until it reopens
   pub holding : (n : ℕ) → (s.views n).quiescent ≡ true → (s.views n).holds ≡ true
   pub promoted : (n : ℕ) → (s.views n).granted ≡ true → ((s.views n).quiescent ≡ true) × ((s.views n).phase ≡ In)
   -- and so has who gave a fence back

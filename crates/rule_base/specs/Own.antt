@@ -8,6 +8,8 @@ pub record Own : Type 0 where
   -- the length of its read log, and of its write and undo logs
   pub reads_limit : ℕ
   pub writes_limit : ℕ
+  -- how many marks may stand
+  pub marks_limit : ℕ
   -- what it wrote that is not yet stored in the heap, the latest first
   pub buffered : List Cell
   -- how many marks stand; and while the attempt can be taken back, what it had written at each, the oldest first

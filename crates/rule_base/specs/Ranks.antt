@@ -13,7 +13,8 @@ pub data Rec : Type 0 where
 abbrev pub rec_of : ℕ → Rec
 rec_of word = if is_owned word then Taken (owner_of word) else Free (version_of word)
 
--- Twice the version that record r will have at least, and 1 more where its words are as the history has them. A version alone isn't enough: a holder whose entry has the very time that was sampled may have stored half of its words.
+-- Twice the version that record r will have at least, and 1 more where its words are as the history has them. A version
+-- alone isn't enough: a holder whose entry has the very time that was sampled may have stored half of its words.
 abbrev pub rank_in : Ownership → ℕ → ℕ
 rank_in v r = if v.committed then 2 * v.time else (if v.eager then 2 * over v.held r 0 + 2 else 2 * over v.held r 0 + 1)
 

@@ -1,4 +1,5 @@
--- What the clauses of a running algorithm see of the world: the words but for the statuses and the gate, the history, and of each caller its attempt.
+-- What the clauses of a running algorithm see of the world: the words but for the statuses and the gate, the history,
+-- and of each caller its attempt.
 use Rattle.std.specs.Prelude.{ℕ, List}
 use Rattle.rule_base.specs.declared.entries.Entry.{Entry}
 use Rattle.rule_base.specs.declared.views.Attempt.{Attempt}

@@ -28,8 +28,8 @@ pub enum Act {
     Raise(u64),
 }
 
-/// A step that was taken: the word, the act, and what a load, an exchange or a fetch_max found there. Nobody is told what
-/// the load of a split or a join of seats finds.
+/// A step that was taken: the word, the act, and what a load, an exchange or a fetch_max found there. Nobody is told
+/// what the load of a split or a join of seats finds.
 pub struct TracedStep {
     pub place: At,
     pub act: Act,

@@ -214,7 +214,8 @@ module _ (good : (ℕ → ℕ) → Type 0) (c : Config) where
       shown = record { legal = r.history.legal; below = r.history.below; seen = (r.history.known n).seen; front = (r.history.known n).front; limit = r.history.limit };
     }
 
-    -- a step of an attempt that leaves the clock, the history and what is seen of it alone, after which these clauses stand
+    -- a step of an attempt that leaves the clock, the history and what is seen of it alone,
+    -- after which these clauses stand
     plainly : (kind : StepKind) (shows : World → View → ℕ → Type 0) (w : World) → OrecWorld good c w → (w.views n).gate.phase ≡ In
         → ((world_after kind n w).clock ≡ w.clock) × ((world_after kind n w).lock ≡ w.lock) × ((world_after kind n w).done ≡ w.done) × ((world_after kind n w).gate ≡ w.gate) × ((world_after kind n w).history ≡ w.history)
         → ((kind.after w (w.views n) (answer kind w)).history ≡ (w.views n).history)

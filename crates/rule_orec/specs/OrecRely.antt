@@ -163,7 +163,8 @@ module _ (home : ℕ → ℕ) (words : ℕ) where
   abbrev pub seated : OrecProjection → OrecProjection → ℕ → Ownership → OrecProjection
   seated w y n h = record y { views = put w.views n (record (w.views n) { owned = h }) }
 
-  -- BY PARTS: a step of n, in an attempt, that changes what it owns and a word: the words, what grows, what n owns, and what is left to the others
+  -- BY PARTS: a step of n, in an attempt, that changes what it owns and a word: the words, what grows, what n owns,
+  -- and what is left to the others
   pub by_parts : (w y : OrecProjection) (n : ℕ) (h : Ownership) (front : ℕ) → Full w → (w.views n).owned.inside ≡ true → h.inside ≡ true → (h.committed ≡ false → front ≡ (w.views n).attempt.start)
       → Words (record y { views = put w.views n (record (w.views n) { owned = h; front = front }) }) → Grows w (record y { views = put w.views n (record (w.views n) { owned = h; front = front }) })
       → OwnOwned home (record y { views = put w.views n (record (w.views n) { owned = h; front = front }) }) n (w.views n).attempt.start h

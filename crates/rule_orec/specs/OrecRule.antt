@@ -116,7 +116,8 @@ module _ (home : ℕ → ℕ) where
     pub shut : (n : ℕ) → (s.views n).owned.inside ≡ false → (r : ℕ) → touches (s.views n).owned.held r ≡ false
     -- each entry later than BASE has a time at most the stamp of the record of each address that it wrote
     pub stamped : (a : ℕ) → s.base < last_write s.history a → 2 * last_write s.history a ≤ rank s (home a)
-    -- in a free record lies the memory, and in an owned one that under its owner's values; of what its owner still owes nothing is said
+    -- in a free record lies the memory, and in an owned one that under its owner's values;
+    -- of what its owner still owes nothing is said
     pub clean : (a v : ℕ) → s.records (home a) ≡ Free v → s.heap a ≡ word_now s.history a
     pub mixed : (a n : ℕ) → s.records (home a) ≡ Taken n → touches (s.views n).owned.back a ≡ false → s.heap a ≡ over (s.views n).owned.in_place a (word_now s.history a)
     pub own : (n : ℕ) → (s.views n).owned.inside ≡ true → Own words s n (s.views n)

@@ -113,7 +113,8 @@ pub record CanOrecConfirm (home : ℕ → ℕ) (words r : ℕ) (v : View) : Type
   pub its : home v.sample.from ≡ r
   pub inside : v.sample.from < words
 
--- what it shows: where the record is as sampled, the word loaded is that of the memory after what was seen, which explains all reads
+-- what it shows: where the record is as sampled, the word loaded is that of the memory after what was seen, which
+-- explains all reads
 pub record OrecConfirms (good : (ℕ → ℕ) → Type 0) (c : Config) (w : World) (v : View) (x : ℕ) : Type 0 where
   pub value : x ≡ free_record v.sample.version → v.sample.value ≡ word_now v.history.seen v.sample.from
   pub sees : TmlSees good c v (confirms x v)
@@ -214,7 +215,8 @@ pub record CanOrecLock (version : ℕ) (v : View) : Type 0 where
 abbrev pub orec_entry : ℕ → ℕ → List Cell → View → Entry
 orec_entry n t writes v = record { time = t; caller = n; number = length v.history.made; reads = v.attempt.reads; writes = writes }
 
--- exchange the clock, the start for the next number, which appends the entry with these writes; back is still to be stored in the heap
+-- exchange the clock, the start for the next number, which appends the entry with these writes;
+-- back is still to be stored in the heap
 abbrev pub orec_commit : ℕ → ℕ → List Cell → List Cell → StepKind
 orec_commit n start writes back = record {
   place = Clock;
@@ -372,7 +374,8 @@ pub record CanOrecRaiseClock (least : ℕ) (v : View) : Type 0 where
   -- the least number that does: the greatest old version and one more
   pub greatest : (r : ℕ) × (touches v.owned.held r ≡ true) × (least ≡ over v.owned.held r 0 + 1)
 
--- PROMOTION. The attempt is promoted at the number of its validation: what it stored in place becomes its stores, and nothing can be taken back; the undo log tells of which records it may hold still
+-- PROMOTION. The attempt is promoted at the number of its validation: what it stored in place becomes its stores, and
+-- nothing can be taken back; the undo log tells of which records it may hold still
 abbrev pub direct_attempt : ℕ → View → Attempt
 direct_attempt t v = record { start = t; reads = v.attempt.reads; stores = v.owned.in_place; entered = false }
 

@@ -81,11 +81,13 @@ pub record TmlSuits (s : SuitProjection) : Type 0 where
 -- while the attempt has no entry the stamps vouch as before; afterwards nobody looks at them until BASE has its time
 pub record OrecSuits (home : ℕ → ℕ) (s : SuitProjection) : Type 0 where
   pub stamped : s.own.attempt.entered ≡ false → (a : ℕ) → s.base < last_write s.history a → 2 * last_write s.history a ≤ rank_one s.own.owned (home a) (rec_of (s.records (home a)))
-  -- what it holds had versions at most the clock, and older ones once it has raised the clock: given back with that number no stamp falls
+  -- what it holds had versions at most the clock, and older ones once it has raised the clock:
+  -- given back with that number no stamp falls
   pub uncommitted : s.own.owned.committed ≡ false
   pub olds : (r : ℕ) → touches s.own.owned.held r ≡ true → over s.own.owned.held r 0 ≤ s.clock
   pub older : s.own.attempt.entered ≡ true → (r : ℕ) → touches s.own.owned.held r ≡ true → over s.own.owned.held r 0 < s.clock
-  -- older too once it has raised the clock without an entry; and the word of what it holds is an own lock: given back one later than it was, no stamp falls
+  -- older too once it has raised the clock without an entry; and the word of what it holds is an own lock: given back
+  -- one later than it was, no stamp falls
   pub raised : s.own.owned.raised ≡ true → (r : ℕ) → touches s.own.owned.held r ≡ true → over s.own.owned.held r 0 < s.clock
   pub locked : (r : ℕ) → touches s.own.owned.held r ≡ true → is_owned (s.records r) ≡ true
 

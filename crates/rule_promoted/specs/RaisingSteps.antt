@@ -1,4 +1,5 @@
--- The kinds of step by which a promoted attempt of OrecEager ends that holds records still and wrote nothing else: as a rollback does, it raises the clock above the versions that they had, and gives each back one later than it was.
+-- The kinds of step by which a promoted attempt of OrecEager ends that holds records still and wrote nothing else: as a
+-- rollback does, it raises the clock above the versions that they had, and gives each back one later than it was.
 use Rattle.std.specs.Prelude.{ℕ, ◌≡◌, ◌+◌, ◌<◌, ◌≤◌, max, ltb, if◌then◌else◌, [], true, false}
 use Rattle.stm_model.specs.declared.alg.Alg.TheVariants.{OrecEager}
 use Rattle.stm_model.specs.declared.config.TheConstants.{CLOCK_LIMIT}

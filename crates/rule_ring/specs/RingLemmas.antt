@@ -69,7 +69,8 @@ entered-before vs n u own all m = go (eqb m n) refl
     go false e = let apart : (m ≡ n → ⊥) = (λ q. grind (arith, e, q)) in sym (ap (λ (v : RingPart). v.attempt.entered) (put-else vs n m u apart)) ∙ all m
 
 module _ (F : Filters) (ring words : ℕ) where
-  -- nobody is in an attempt, no entry is later than BASE or DONE, and the heap is the memory: whatever ran before, RingSW may run
+  -- nobody is in an attempt, no entry is later than BASE or DONE, and the heap is the memory: whatever ran before,
+  -- RingSW may run
   pub ring-from-rest : (s : RingProjection) → ((n : ℕ) → (s.views n).read.inside ≡ true → ⊥) → ((n : ℕ) → (s.views n).turn.committed ≡ true → ⊥) → ((n : ℕ) → (s.views n).lock.taken ≡ true → ⊥)
       → s.base ≤ s.clock → s.done ≤ s.clock → ((n : ℕ) → (s.views n).front ≤ s.done) → Below s.history (s.done + 1) → (((n : ℕ) → (s.views n).attempt.entered ≡ false) → s.done ≡ s.clock)
       → ((e i : ℕ) → s.base < e → s.clock + 1 < e + ring → has_entry s.history e ≡ true → i < SLOT_WORDS → s.slots (slot_place ring e i) ≡ F.word (writes_of s.history e) i)

@@ -188,7 +188,8 @@ module _ (F : Filters) (good : (ℕ → ℕ) → Type 0) (c : Config) (n : ℕ) 
       go true l a t = grind (arith, aim l, watched a, t)
       go false l a t = watched a t
 
-  -- a check that passed, with what is watched the same at all times from the start to t and to that of the word under way
+  -- a check that passed, with what is watched the same at all times from the start to t and to that of the word under
+  -- way
   ended : (w : World) (t : ℕ) (u : RingPart) → (w.views n).ring_read.inside ≡ true → Ruled w → t ≤ w.done → (w.views n).attempt.start ≤ t
       → ((a : ℕ) → touches (w.views n).ring_read.watched a ≡ true → word_at w.history t a ≡ word_at w.history (w.views n).attempt.start a)
       → ((w.views n).ring_read.loaded ≡ true → word_at w.history (w.views n).ring_read.at (w.views n).ring_read.from ≡ word_at w.history (w.views n).attempt.start (w.views n).ring_read.from)

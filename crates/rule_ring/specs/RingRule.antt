@@ -71,7 +71,8 @@ module _ (F : Filters) where
     pub onward : v.read.checking ≡ true → v.attempt.start ≤ v.read.clock
     pub covers : v.read.checking ≡ true → v.read.loaded ≡ true → v.read.at ≤ v.read.clock
     pub timely : (e i : ℕ) → v.read.checking ≡ true → has_word v.read.words e i ≡ true → e ≤ v.read.clock
-    -- the slot words loaded are of the filters of the entries, if no later entry has taken their slots; the second load of the clock makes that sure
+    -- the slot words loaded are of the filters of the entries, if no later entry has taken their slots;
+    -- the second load of the clock makes that sure
     pub clear : (e i : ℕ) → v.read.checking ≡ true → clock < v.attempt.start + ring → v.attempt.start < e → has_word v.read.words e i ≡ true
         → has_entry history e ≡ true → loaded_word v.read.words e i ≡ F.word (writes_of history e) i
     pub sure : (e i : ℕ) → v.read.checking ≡ true → v.read.sure ≡ true → v.attempt.start < e → has_word v.read.words e i ≡ true → has_entry history e ≡ true → loaded_word v.read.words e i ≡ F.word (writes_of history e) i

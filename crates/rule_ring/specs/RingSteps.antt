@@ -110,7 +110,8 @@ ring_look = record {
 pub record CanRingLook (v : View) : Type 0 where
   pub has : HasRing v
 
--- what an attempt with start t sees after a check that passed: the memory after what was seen up to t explains all reads, and has the word loaded
+-- what an attempt with start t sees after a check that passed: the memory after what was seen up to t explains all
+-- reads, and has the word loaded
 pub record RingSees (good : (ℕ → ℕ) → Type 0) (c : Config) (w : World) (v : View) (t : ℕ) : Type 0 where
   pub value : v.ring_read.loaded ≡ true → v.ring_read.value ≡ word_now (upto w.history t) v.ring_read.from
   pub sees : Explains (word_now (upto w.history t)) (read_in v)

@@ -1,4 +1,5 @@
--- The filter of a slot: 16 words in four parts of 256 bits, in each of which an address sets one bit. Two filters meet where all four parts have a common bit.
+-- The filter of a slot: 16 words in four parts of 256 bits, in each of which an address sets one bit. Two filters meet
+-- where all four parts have a common bit.
 use Rattle.std.proofs.Common.{◌≡◌, ℕ, zero, suc, ◌+◌, ◌*◌, ◌/◌, ◌%◌, ◌^◌, ◌<◌, List, [], ◌∷◌, Bool, true, false, arith, refl, sym, subst, ap, ◌∙◌}
 use Rattle.std.specs.Int.{bit_at}
 use Rattle.rule_base.specs.declared.layout.TheConstants.{SLOT_WORDS}
@@ -25,7 +26,8 @@ part_bit-low (suc zero) a = omega arith
 part_bit-low (suc (suc zero)) a = omega arith
 part_bit-low (suc (suc (suc p))) a = omega arith
 
--- what an address sets in word i: words 4p to 4p + 3 are of part p, and bit b of a part is bit b mod 64 of its word b div 64
+-- what an address sets in word i: words 4p to 4p + 3 are of part p,
+-- and bit b of a part is bit b mod 64 of its word b div 64
 abbrev pub address_word : ℕ → ℕ → ℕ
 address_word a i = if part_bit (i / 4) a / 64 == i % 4 then 2 ^ (part_bit (i / 4) a % 64) else 0
 

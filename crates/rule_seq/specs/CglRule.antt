@@ -35,9 +35,11 @@ cgl_projection w = record { clock = w.clock; lock = w.lock; heap = w.heap; histo
 
 -- what stands of the caller that has the lock
 pub record CglHolder (words : ℕ) (s : CglProjection) (v : CglView) : Type 0 where
-  -- the heap is the memory after the history under the holder's stores: its loads see its own writes, and the entry makes the heap the memory again
+  -- the heap is the memory after the history under the holder's stores: its loads see its own writes, and the entry
+  -- makes the heap the memory again
   pub stored : (a : ℕ) → s.heap a ≡ over v.attempt.stores a (word_now s.history a)
-  -- nothing is stored before the start is loaded, and nothing is left when the entry stands: freeing the lock then leaves the memory
+  -- nothing is stored before the start is loaded, and nothing is left when the entry stands:
+  -- freeing the lock then leaves the memory
   pub unstored : v.lock.started ≡ false → v.attempt.stores ≡ []
   -- the start is the clock: start + 1 is the next time
   pub start : v.lock.started ≡ true → v.attempt.start ≡ s.clock
@@ -49,7 +51,8 @@ pub record CglHolder (words : ℕ) (s : CglProjection) (v : CglView) : Type 0 wh
   pub reads_inside : Inside words v.attempt.reads
   pub stores_inside : Inside words v.attempt.stores
   pub stores_small : Small v.attempt.stores
-  -- what the undo log has of an address is the memory there, and until the attempt is irrevocable it has each address stored: taking all back leaves the memory
+  -- what the undo log has of an address is the memory there, and until the attempt is irrevocable it has each address
+  -- stored: taking all back leaves the memory
   pub undone : (a : ℕ) → touches v.lock.undo a ≡ true → (d : ℕ) → over v.lock.undo a d ≡ word_now s.history a
   pub covered : v.lock.irrevocable ≡ false → (a : ℕ) → touches v.attempt.stores a ≡ true → touches v.lock.undo a ≡ true
 

@@ -69,7 +69,8 @@ CglOpens good c = (gates : ℕ → GateView) → CglWorld good c (opened_with c 
 abbrev pub one_commit : ℕ → ℕ → ℕ → List (ℕ × CglStep)
 one_commit t a x = (0, acquires_lock) ∷ (0, loads_start) ∷ (0, loads_heap a) ∷ (0, stores_heap a x) ∷ (0, stores_clock t) ∷ (0, frees_lock) ∷ []
 
--- below the clock's limit, a caller that the gate has let in may take these steps from the opening, and the history is then this one entry
+-- below the clock's limit, a caller that the gate has let in may take these steps from the opening,
+-- and the history is then this one entry
 abbrev pub CglCommits : ((ℕ → ℕ) → Type 0) → Config → Type 0
 CglCommits good c = (gates : ℕ → GateView) (a x : ℕ) → (gates 0).phase ≡ In → (gates 0).algorithm ≡ Cgl → (gates 0).holds ≡ false → 0 < c.callers → c.clock < CLOCK_LIMIT → a < c.words → x < 2 ^ 64
     → Keeps good (record { at = a; value = 0 } ∷ []) (record { at = a; value = x } ∷ [])

@@ -12,7 +12,8 @@ use Rattle.rule_base.specs.World.{World}
 use Rattle.rule_seq.specs.CglRuns.{CglStep, cgl_kind, CglMay, opened_with}
 use Rattle.rule_seq.specs.CglRuns.CglStep.{acquires_lock, loads_start, loads_heap, stores_heap, stores_clock, frees_lock, loads_undo, loads_limit, stores_back}
 
--- caller 0 stores 1 in word 0; after a mark it loads its own value, and stores 2 there and 3 in word 1; then it rolls back, and commits
+-- caller 0 stores 1 in word 0; after a mark it loads its own value, and stores 2 there and 3 in word 1;
+-- then it rolls back, and commits
 abbrev pub serial_back : ℕ → List (ℕ × CglStep)
 serial_back t = (0, acquires_lock) ∷ (0, loads_start) ∷ (0, loads_limit false) ∷ (0, loads_undo 0) ∷ (0, stores_heap 0 1) ∷ (0, loads_heap 0) ∷ (0, stores_heap 0 2) ∷ (0, loads_undo 1) ∷ (0, stores_heap 1 3)
     ∷ (0, stores_heap 0 1) ∷ (0, stores_back 1 0) ∷ (0, stores_clock t) ∷ (0, frees_lock) ∷ []
@@ -24,7 +25,8 @@ left_stored = record { at = 0; value = 1 } ∷ record { at = 0; value = 2 } ∷ 
 abbrev pub serial_end : ((ℕ → ℕ) → Type 0) → Config → (ℕ → GateView) → World
 serial_end good c gates = run cgl_kind (CglMay good c) (serial_back (c.clock + 1)) (opened_with c gates)
 
--- all these steps are allowed; after them word 0 has its value at the mark and word 1 what it had before, and the entry writes word 0 alone
+-- all these steps are allowed; after them word 0 has its value at the mark and word 1 what it had before,
+-- and the entry writes word 0 alone
 abbrev pub SerialRollsBack : ((ℕ → ℕ) → Type 0) → Config → Type 0
 SerialRollsBack good c = (gates : ℕ → GateView) → (gates 0).phase ≡ In → (gates 0).algorithm ≡ Serial → (gates 0).holds ≡ false → 0 < c.callers → c.clock < CLOCK_LIMIT → 1 < c.words → Keeps good [] left_stored
     → Allowed cgl_kind (CglMay good c) (serial_back (c.clock + 1)) (opened_with c gates) × ((serial_end good c gates).heap 0 ≡ 1) × ((serial_end good c gates).heap 1 ≡ 0)

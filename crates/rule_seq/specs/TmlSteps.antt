@@ -100,7 +100,8 @@ pub record CanTmlAgain (v : View) : Type 0 where
   pub has : HasTml v
   pub reads : v.tml.writer ≡ false
 
--- what it shows: where the clock is still the start, the word loaded is that of the memory after what was seen, which explains all reads
+-- what it shows: where the clock is still the start, the word loaded is that of the memory after what was seen, which
+-- explains all reads
 pub record TmlAgain (good : (ℕ → ℕ) → Type 0) (c : Config) (w : World) (v : View) (clock : ℕ) : Type 0 where
   pub value : clock ≡ v.attempt.start → v.tml.loaded ≡ true → v.tml.value ≡ word_now v.history.seen v.tml.from
   pub sees : TmlSees good c v (still_at clock v)

@@ -1,4 +1,5 @@
--- What a step of OrecLazy and OrecEager shows: of the word found, of the other callers, and of the history where it moves the start or appends the entry.
+-- What a step of OrecLazy and OrecEager shows: of the word found, of the other callers, and of the history where it
+-- moves the start or appends the entry.
 use Rattle.std.specs.Prelude.{ℕ, ◌≡◌, ◌+◌, ◌≤◌, true, false, Some, List, ◌∷◌}
 use Rattle.stm_model.specs.declared.config.Config.{Config}
 use Rattle.stm_model.specs.declared.config.TheConstants.{CLOCK_LIMIT}
@@ -42,7 +43,8 @@ pub record FindsStill (c : Config) (w : World) (v : View) (x : ℕ) : Type 0 whe
   pub sole : FindsSole c w v x
   pub within : x ≤ CLOCK_LIMIT
 
--- The start may move to this number, of which this is the history: it is legal, begins with what was seen before, and leaves a memory that explains all reads.
+-- The start may move to this number, of which this is the history: it is legal, begins with what was seen before, and
+-- leaves a memory that explains all reads.
 pub record Moves (good : (ℕ → ℕ) → Type 0) (c : Config) (history : List Entry) (v : View) (start : ℕ) : Type 0 where
   pub legal : Legal good c history
   pub below : Below history (start + 1)

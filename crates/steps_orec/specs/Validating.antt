@@ -1,4 +1,5 @@
--- Which reads a validation has to look at: a record that the attempt holds vouches for its words itself, where the version that it replaced is at most the start.
+-- Which reads a validation has to look at: a record that the attempt holds vouches for its words itself, where the
+-- version that it replaced is at most the start.
 use Rattle.std.proofs.Common.{◌≡◌, ℕ, ◌≤◌, List, [], ◌∷◌, Bool, true, false, arith, refl, sym, ap, ◌∙◌}
 use Rattle.std.specs.Prelude.{if◌then◌else◌, nat_le}
 use Rattle.std.proofs.lemmas.Bool.Decides.{nat_tests}

@@ -28,8 +28,8 @@ pub fn begin<K: MemRule>(stm: &Stm<K>, seat: &mut Token<K>, caller: usize) -> u6
     stm.load_as::<Brand, usize>(seat, At::Clock, &caller)
 }
 
-/// Loads record `r`, that of address `a`, before the word: a free one is sampled. `at` is its index in the table. Answers
-/// its word.
+/// Loads record `r`, that of address `a`, before the word: a free one is sampled. `at` is its index in the table.
+/// Answers its word.
 pub fn sample<K: MemRule>(
     stm: &Stm<K>,
     seat: &mut Token<K>,

@@ -23,8 +23,8 @@ pub fn look_grant<K: MemRule>(stm: &Stm<K>, seat: &mut Token<K>, caller: usize) 
     stm.load_as::<Brand, usize>(seat, At::Clock, &caller)
 }
 
-/// Loads DONE, the last of a check that passes, and answers it: the start moves to the settled clock, and the attempt is
-/// promoted.
+/// Loads DONE, the last of a check that passes, and answers it: the start moves to the settled clock, and the attempt
+/// is promoted.
 pub fn advance_grant<K: MemRule>(stm: &Stm<K>, seat: &mut Token<K>, caller: usize) -> u64
     requires seat { IsSeatOf stm.now caller seat.old }
     requires view { CanRingMoveGrant slot_filter (view_of seat.old) }

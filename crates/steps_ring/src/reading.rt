@@ -51,8 +51,8 @@ pub fn look<K: MemRule>(stm: &Stm<K>, seat: &mut Token<K>, caller: usize) -> u64
     stm.load_as::<Brand, usize>(seat, At::Clock, &caller)
 }
 
-/// The index in the table of the first word of the slot of `time`. It takes a division, so that a caller asks once for all
-/// 16 words.
+/// The index in the table of the first word of the slot of `time`. It takes a division, so that a caller asks once for
+/// all 16 words.
 pub fn first_word<K: MemRule>(stm: &Stm<K>, time: u64) -> usize
     ensures { result ≡ offset stm.now.config (Slot (time % stm.now.config.ring * SLOT_WORDS)) }
 {

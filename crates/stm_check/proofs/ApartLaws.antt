@@ -1,6 +1,6 @@
 -- The report below a trace.
-use Rattle.std.proofs.Common.{ℕ, ◌≡◌, ◌+◌, List, [], ◌∷◌, length, take, drop, true, false, refl, sym, ap, ◌∙◌, subst}
-use Rattle.std.specs.Prelude.{ltb, bytes_eq, codes, Option, Some, None, if◌then◌else◌}
+use Rattle.std.proofs.Common.{ℕ, ◌≡◌, ◌+◌, List, [], ◌∷◌, length, take, drop, true, false, refl, sym, ap, ◌∙◌}
+use Rattle.std.specs.Prelude.{ltb, bytes_eq, codes, Some, None, if◌then◌else◌}
 use Rattle.stm_text.specs.Lines.{Line, lines_of, Lacks}
 use Rattle.stm_text.specs.LineLaws.{lines_of-last}
 use Rattle.stm_check.specs.declared.apart.TheConstants.{MOST_TOLD}
@@ -17,22 +17,8 @@ by_size told = ltb MOST_TOLD (length told) ≡ false
 short : (told : List ℕ) → by_size told → report_lines told ≡ or_all (lines_of told) (titled 0 (lines_of told))
 short told few = ap (λ b. if b then (0, lines_of told) else or_all (lines_of told) (titled 0 (lines_of told))) few
 
--- a text that is too long
-pub long-report : (told : List ℕ) → ltb MOST_TOLD (length told) ≡ true → IsReportIn told 0 told
-long-report told many = record { begins = 0; cut = drop-none told; is = sym (ap (λ b. if b then (0, lines_of told) else or_all (lines_of told) (titled 0 (lines_of told))) many) }
-
 module _ (told : List ℕ) (above : ℕ) (rest : List ℕ) (same : titled 0 (lines_of told) ≡ titled above (lines_of rest)) where
   module _ (i : ℕ) (r : List ℕ) (lacks : Lacks 10 (take i rest)) (at : drop i rest ≡ 10 ∷ r) where
-    here : bytes_eq (take i rest) (codes "report 1") ≡ true → titled above (lines_of rest) ≡ Some (above, lines_of rest)
-    here is =
-        let first = first-line rest i r lacks at in
-        let line : Line = record { bytes = take i rest; ended = true } in
-        let step : titled above (line ∷ lines_of r) ≡ Some (above, line ∷ lines_of r) = ap (λ b. if b then Some (above, line ∷ lines_of r) else titled (above + 1) (lines_of r)) is in
-        subst (λ (ls : List Line). titled above ls ≡ Some (above, ls)) (sym first) step
-
-    pub found-report : by_size told → (k : ℕ) → rest ≡ drop k told → bytes_eq (take i rest) (codes "report 1") ≡ true → IsReportIn told above rest
-    found-report few k cut is = record { begins = k; cut = cut; is = sym (short told few ∙ ap (or_all (lines_of told)) (same ∙ here is)) }
-
     pub passed-line : bytes_eq (take i rest) (codes "report 1") ≡ false → titled 0 (lines_of told) ≡ titled (above + 1) (lines_of r)
     passed-line not =
         let line : Line = record { bytes = take i rest; ended = true } in

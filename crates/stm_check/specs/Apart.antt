@@ -20,7 +20,8 @@ abbrev pub or_all : List Line → Option (ℕ × List Line) → ℕ × List Line
 or_all ls None = (0, ls)
 or_all ls (Some found) = found
 
--- THE REPORT in what a step wrote, or in a report alone: its lines, and how many stand above them. A text that is too long has no lines above
+-- THE REPORT in what a step wrote, or in a report alone: its lines, and how many stand above them.
+-- A text that is too long has no lines above
 abbrev pub report_lines : List ℕ → ℕ × List Line
 report_lines told = if ltb MOST_TOLD (length told) then (0, lines_of told) else or_all (lines_of told) (titled 0 (lines_of told))
 

@@ -51,10 +51,12 @@ pub record IsConfirmed (w : Workload) (r : Report) : Type 0 where
 abbrev pub ReplayedIsReadable : Type 0
 ReplayedIsReadable = (w : Workload) (r : Report) → Replays w r → ReportFits r → IsReadable r
 
--- a report of words of the machine that replays the workload of a text is read back and found to do so, where its text isn't too long
+-- a report of words of the machine that replays the workload of a text is read back and found to do so,
+-- where its text isn't too long
 abbrev pub ReplayedIsConfirmed : Type 0
 ReplayedIsConfirmed = (m : Mode) (text : List ℕ) (w : Workload) (r : Report) → workload_of m text ≡ Ok w → Replays w r → ReportFits r → length (report_bytes r) ≤ MAX_REPORT → IsConfirmed w r
 
--- after the text of a workload, the text of a report of words of the machine that replays it is found to do so, where it isn't too long
+-- after the text of a workload, the text of a report of words of the machine that replays it is found to do so, where
+-- it isn't too long
 abbrev pub AfterIsConfirmed : Type 0
 AfterIsConfirmed = (m : Mode) (text : List ℕ) (w : Workload) (r : Report) → workload_of m text ≡ Ok w → Replays w r → ReportFits r → length (report_bytes r) ≤ MAX_REPORT → IsYes (text ++ report_bytes r)

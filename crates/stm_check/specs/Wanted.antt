@@ -15,7 +15,8 @@ use Rattle.stm_check.specs.declared.verdict.Verdict.TheVariants.{Yes, No}
 use Rattle.stm_check.specs.declared.wanted.Wanted.{Wanted}
 use Rattle.stm_check.specs.declared.wanted.Wanted.TheVariants as wants
 
--- THE ROW WANTED in the place of r, of this script on the memory m: it is what the script does there, for the same transaction at the same place, and cancelled only where r is
+-- THE ROW WANTED in the place of r, of this script on the memory m: it is what the script does there, for the same
+-- transaction at the same place, and cancelled only where r is
 pub record IsWantedRow (regions : List Region) (script : List Op) (m : List ℕ) (r want : Row) : Type 0 where
   pub fits : RowFits regions script want m
   pub place : want.place ≡ r.place

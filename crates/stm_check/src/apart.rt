@@ -14,8 +14,8 @@ use stm_text::lines;
 /// The greatest number of bytes of a report and the trace above it.
 pub const MOST_TOLD: usize = 150_994_944;
 
-/// The report in what a step wrote, from its first line `report 1` on, and how many lines stand above it. A text without
-/// such a line, or a longer one than [`MOST_TOLD`], is a report from its first line on.
+/// The report in what a step wrote, from its first line `report 1` on, and how many lines stand above it. A text
+/// without such a line, or a longer one than [`MOST_TOLD`], is a report from its first line on.
 pub fn report_in(told: &[u8]) -> (usize, &[u8])
     ensures within { result.0 + length result.1.now ≤ length told.now }
     ensures is { IsReportIn told.now result.0 result.1.now }
@@ -35,8 +35,8 @@ pub fn report_in(told: &[u8]) -> (usize, &[u8])
     (0, told)
 }
 
-/// Checks the text of a workload, and another of a report, or of what a step wrote: its trace, which isn't looked at, and
-/// its report. A fault of the workload comes before one of the report.
+/// Checks the text of a workload, and another of a report, or of what a step wrote: its trace, which isn't looked at,
+/// and its report. A fault of the workload comes before one of the report.
 ///
 /// # Errors
 /// Memory, where it is refused.

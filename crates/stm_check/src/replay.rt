@@ -263,8 +263,8 @@ fn judge_end(
     })
 }
 
-/// Whether the report replays the workload, and else its first line at fault, counted from the report's first as 1, with
-/// what is wanted there. Each row's script is run once, in as many steps as it has; all rows together go over the
+/// Whether the report replays the workload, and else its first line at fault, counted from the report's first as 1,
+/// with what is wanted there. Each row's script is run once, in as many steps as it has; all rows together go over the
 /// workload's items once for each caller, and over the memory's words once.
 ///
 /// # Errors

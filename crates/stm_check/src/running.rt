@@ -139,8 +139,8 @@ fn is_told(ran: &Ran, row: &Row) -> bool
     row.emits.as_slice() == ran.emits.as_slice()
 }
 
-/// The row wanted in the place of one that doesn't tell what its script does on this memory. Where it does there is none,
-/// and the memory is then that after the row.
+/// The row wanted in the place of one that doesn't tell what its script does on this memory. Where it does there is
+/// none, and the memory is then that after the row.
 ///
 /// # Errors
 /// Memory, where it is refused.

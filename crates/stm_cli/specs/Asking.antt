@@ -52,7 +52,8 @@ pub record Asks (words : List Text) (command : Command) : Type 0 where
   pub taken : AreTaken words
   pub asks : AsksIn (subcommand_of bench_app words) command
 
--- the names of the files that a subcommand and its entries give: of the text that is read first, and of a report of its own
+-- the names of the files that a subcommand and its entries give: of the text that is read first,
+-- and of a report of its own
 abbrev pub file_in : Option (Text × List Row) → Option Text
 file_in None = None
 file_in (Some found) = first_of (codes "FILE") found.1

@@ -1,4 +1,5 @@
--- THE COMMAND LINE'S GRAMMAR: `stm_bench run [--policy P] [FILE]`, `stm_bench step [FILE]`, `stm_bench gen N T SEED`, `stm_bench check [FILE [REPORT]]`.
+-- THE COMMAND LINE'S GRAMMAR: `stm_bench run [--policy P] [FILE]`, `stm_bench step [FILE]`, `stm_bench gen N T SEED`,
+-- `stm_bench check [FILE [REPORT]]`.
 use Rattle.std.specs.Prelude.{◌≡◌, true, false, Some, List, [], codes}
 use Rattle.clap.specs.Words.{App, Rule, Text, Shape, app_of, new_app, new_rule, with_rule, with_subcommand}
 use Rattle.clap.specs.Simple.{shape_of, on_top}

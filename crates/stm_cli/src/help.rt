@@ -16,8 +16,8 @@ pub enum Topic {
     Version,
 }
 
-/// The help that words ask for, the first of them the program's name: `--help`, `-h` or `help` alone or beside a command,
-/// `--version` or `-V`.
+/// The help that words ask for, the first of them the program's name: `--help`, `-h` or `help` alone or beside a
+/// command, `--version` or `-V`.
 pub fn help_of(words: &[&str]) -> Option<Topic>
     ensures { result ≡ help_of (texts_of words.now) }
 {

@@ -1,4 +1,5 @@
--- The rows that one thread replays are those of a history whose W rows have its times: so the replay's memories are the history's.
+-- The rows that one thread replays are those of a history whose W rows have its times:
+-- so the replay's memories are the history's.
 use Rattle.std.proofs.Common.{ℕ, ◌≡◌, ◌<◌, ◌≤◌, ◌-◌, ◌+◌, ◌*◌, List, [], ◌∷◌, Bool, true, false, refl, sym, ap, ◌∙◌, arith, subst, inl, inr, get_or, length, map}
 use Rattle.std.specs.Prelude.{◌⊎◌, ◌||◌, leb, ltb, if◌then◌else◌, All, Contains}
 use Rattle.std.proofs.lemmas.Bool.Decides.{nat_tests}

@@ -39,7 +39,8 @@ WorkloadKeeps good w = All (ItemKeeps good w.header) w.items
 abbrev pub Forms : (List ℕ → Type 0) → Workload → Type 0
 Forms good w = (m : List ℕ) → good m → AllWellFormed (regions_of w.header) m
 
--- the memory is open for the header, and each caller has a worker that has done nothing, with its part to do; caller 0 has the policy
+-- the memory is open for the header, and each caller has a worker that has done nothing, with its part to do; caller 0
+-- has the policy
 pub record IsPrepared {K : Type 0} (h : Header) (policy : Policy) (parts : List (List Item)) (stm : Stm K) (ws : List (Worker K)) : Type 0 where
   pub sized : stm.config ≡ config_of h
   pub descs : List (Handle K)
@@ -65,7 +66,8 @@ pub record IsReadyFor {K : Type 0} (good : List ℕ → Type 0) (m : Mode) (poli
   pub prepared : IsPrepared w.header policy (parted w.header.callers w.items) p.stm (workers_in p.runners.items)
   pub room : HasRoom w.header.callers (length w.items) w.header.words p.room
 
--- the rule of the header's regions: it holds of a memory of zeros, and each script of a workload that was parsed keeps it
+-- the rule of the header's regions: it holds of a memory of zeros,
+-- and each script of a workload that was parsed keeps it
 abbrev pub RuleHolds : Type 0
 RuleHolds = (w : Workload) → AllWellFormed (regions_of w.header) (zeros w.header.words)
 

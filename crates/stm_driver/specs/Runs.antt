@@ -22,8 +22,9 @@ use Rattle.stm_driver.specs.Openings.{first_installs}
 use Rattle.stm_driver.specs.declared.outcome.RunOutcome.{RunOutcome}
 use Rattle.stm_driver.specs.declared.outcome.RunOutcome.TheVariants.{ToEnd, ToLimit, OutOfMemory}
 
--- what caller n installed, caller 0 after the header's algorithm: the switches of its items, and after its transactions those that its
--- policy asked for, by what its rows say and the attempts before them. cut: whether a schedule may have ended with an attempt open
+-- what caller n installed, caller 0 after the header's algorithm: the switches of its items, and after its transactions
+-- those that its policy asked for, by what its rows say and the attempts before them.
+-- cut: whether a schedule may have ended with an attempt open
 pub record HasInstalled (cut whole : Bool) (policy : Policy) (w : Workload) (rows : List Row) (n : ℕ) (installs : List Alg) : Type 0 where
   pub more : List Alg
   pub first : installs ≡ first_installs w.header.alg n ++ more
@@ -37,12 +38,14 @@ abbrev pub AreInstalls : Bool → Bool → Policy → Workload → List Row → 
 AreInstalls cut whole policy w rows n [] = Unit {0}
 AreInstalls cut whole policy w rows n (installs ∷ others) = HasInstalled cut whole policy w rows n installs × AreInstalls cut whole policy w rows (suc n) others
 
--- the history of the memory that was closed is legal, over zeros from the header's clock on, with each structure well formed at every moment, and has no entry after the last clock
+-- the history of the memory that was closed is legal, over zeros from the header's clock on, with each structure well
+-- formed at every moment, and has no entry after the last clock
 pub record IsHistory (w : Workload) (closed : Ended) : Type 0 where
   pub legal : IsLegal (AllWellFormed (regions_of w.header)) (zeros w.header.words) w.header.clock closed.history
   pub times : Within closed.clock closed.history
 
--- the report replays the workload, and shows the one history of the memory that was closed, which is legal; each caller's installs are those of the text, and what its policy asked for, all of them where nothing is left
+-- the report replays the workload, and shows the one history of the memory that was closed, which is legal; each
+-- caller's installs are those of the text, and what its policy asked for, all of them where nothing is left
 pub record IsShownBy (cut whole : Bool) (policy : Policy) (w : Workload) (report : Report) (closed : Ended) : Type 0 where
   pub replays : Replays w report
   pub shows : Shows closed.history closed.opening closed.clock w report
@@ -59,11 +62,13 @@ IsShown cut policy w report closed = IsShownBy cut true policy w report closed
 abbrev pub AreFirst : List Item → List Item → Type 0
 AreFirst all some = (left : List Item) × (all ≡ some ++ left)
 
--- the first of all items, and maybe the first operations of the transaction that comes next: those of an attempt that couldn't be cancelled any more
+-- the first of all items, and maybe the first operations of the transaction that comes next: those of an attempt that
+-- couldn't be cancelled any more
 abbrev pub ArePart : List Item → List Item → Type 0
 ArePart all some = (left : List Item) × IsPart all left some
 
--- the memory that was closed is that of a run of some of each caller's items to their end: there is a report that replays these and shows its history, and its installs are theirs
+-- the memory that was closed is that of a run of some of each caller's items to their end: there is a report that
+-- replays these and shows its history, and its installs are theirs
 pub record RanSome (cut : Bool) (some : List Item → List Item → Type 0) (policy : Policy) (w : Workload) (closed : Ended) : Type 0 where
   pub part : Workload
   pub header : part.header ≡ w.header
@@ -71,11 +76,13 @@ pub record RanSome (cut : Bool) (some : List Item → List Item → Type 0) (pol
   pub report : Report
   pub shown : IsShownBy cut false policy part report closed
 
--- by how much an item raises the clock at most, with the attempts of it that failed: with one caller none is in the way of another
+-- by how much an item raises the clock at most, with the attempts of it that failed:
+-- with one caller none is in the way of another
 abbrev pub most_rises : ℕ → ℕ
 most_rises callers = if callers == 1 then 4 else 20
 
--- a transaction was still to do, and found the clock at its limit, which is that of the memory that was closed; the first install and the items can have brought it there
+-- a transaction was still to do, and found the clock at its limit, which is that of the memory that was closed; the
+-- first install and the items can have brought it there
 pub record IsFull (policy : Policy) (w : Workload) (clock : ℕ) (closed : Ended) : Type 0 where
   pub opening : closed.opening ≡ w.header.clock
   pub found : closed.clock ≡ clock
@@ -90,7 +97,8 @@ pub record IsTraced (w : Workload) (lines : List Line) (report : Report) (closed
   pub fits : TraceFits w lines report
   pub shown : IsShown true w.header.policy w report closed
 
--- the trace fits the workload up to a clock that was found at its limit, which is that of the memory that was closed; so many lines can have brought it there
+-- the trace fits the workload up to a clock that was found at its limit, which is that of the memory that was closed;
+-- so many lines can have brought it there
 pub record IsCut (w : Workload) (lines : List Line) (clock : ℕ) (closed : Ended) : Type 0 where
   pub fits : TraceFitsSoFar w lines clock
   pub opening : closed.opening ≡ w.header.clock
@@ -106,7 +114,8 @@ pub record IsStopped (cut : Bool) (some : List Item → List Item → Type 0) (p
   pub history : IsHistory w closed
   pub ran : RanSome cut some policy w closed
 
--- where memory was refused, for longer logs or for the report, the memory is that of a run of some of each caller's items to their end
+-- where memory was refused, for longer logs or for the report,
+-- the memory is that of a run of some of each caller's items to their end
 abbrev pub HasRun : Policy → Workload → RunOutcome → Type 0
 HasRun policy w (ToEnd report closed) = IsShown false policy w report closed
 HasRun policy w (ToLimit clock closed) = IsFull policy w clock closed

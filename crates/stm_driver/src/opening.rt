@@ -19,8 +19,8 @@ use stm_tx::gate::{close_gate, install, look, reopen};
 use tx_answers::answers::{CloseGate, Look};
 use tx_backoff::Backoff;
 
-/// A memory of the header's sizes under this rule, and a descriptor for each caller. Caller 0 has installed the header's
-/// algorithm, and nobody has begun.
+/// A memory of the header's sizes under this rule, and a descriptor for each caller. Caller 0 has installed the
+/// header's algorithm, and nobody has begun.
 ///
 /// # Errors
 /// Memory, where it is refused.

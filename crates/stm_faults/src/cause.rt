@@ -230,8 +230,8 @@ pub(crate) fn wrong_byte(bytes: &[u8]) -> Option<(usize, u8)> {
     None
 }
 
-/// Why a line is at fault of which the forms have so many words, and which of its words is: the second, where the number is
-/// right.
+/// Why a line is at fault of which the forms have so many words, and which of its words is: the second, where the
+/// number is right.
 pub(crate) fn wrong_count<'a>(words: &[&'a [u8]], count: usize) -> (Cause<'a>, usize) {
     if words.len() < count {
         return (Cause::Line(LineFault::TooFew), 0);

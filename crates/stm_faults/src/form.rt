@@ -85,8 +85,8 @@ pub(crate) fn is_structured(word: &[u8]) -> bool {
     })
 }
 
-/// The forms that a place has, as far as the text above tells; those that can't stand there in fact are among them. These
-/// are the words of the line that stands there.
+/// The forms that a place has, as far as the text above tells; those that can't stand there in fact are among them.
+/// These are the words of the line that stands there.
 pub(crate) fn candidates(
     alloc: Global,
     known: &Known,

@@ -132,7 +132,8 @@ fn begun(alloc: Global, form: &str) -> Result<String, AllocError> {
     Ok(line)
 }
 
-/// The letters of a form; none where one of them can stand for nothing. These are the words of the line that stands there.
+/// The letters of a form; none where one of them can stand for nothing.
+/// These are the words of the line that stands there.
 pub(crate) fn letters_of(
     alloc: Global,
     known: &Known,

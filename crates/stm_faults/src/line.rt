@@ -53,8 +53,8 @@ impl FaultyLine<'_> {
         self.put_may(&mut parts.may, room)
     }
 
-    /// Appends what may stand there, in so many bytes: the form that begins as the line does, where there is one, and else
-    /// the names of all.
+    /// Appends what may stand there, in so many bytes: the form that begins as the line does, where there is one, and
+    /// else the names of all.
     fn put_may(&self, may: &mut String, room: usize) -> Result<(), AllocError> {
         match self.offers.as_slice() {
             [] => may.push_str(self.nothing),

@@ -35,8 +35,8 @@ enum ReportLine {
     After,
 }
 
-/// What is wrong with a text that `check` refuses with this line and this fault, of a workload and then a report: the line,
-/// what stands on it, why that is wrong, and what may stand there.
+/// What is wrong with a text that `check` refuses with this line and this fault, of a workload and then a report: the
+/// line, what stands on it, why that is wrong, and what may stand there.
 ///
 /// # Errors
 /// Memory, where it is refused.

@@ -26,8 +26,8 @@ enum Part {
     Closed,
 }
 
-/// What is wrong with a text that isn't one that `step` writes, at the line of this number, counted from 1, or 0 where it
-/// is too long.
+/// What is wrong with a text that isn't one that `step` writes, at the line of this number, counted from 1, or 0 where
+/// it is too long.
 ///
 /// # Errors
 /// Memory, where it is refused.

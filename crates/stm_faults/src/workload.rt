@@ -23,8 +23,8 @@ use stm_script::workload::Version;
 use stm_text::lines;
 use stm_text::parse::{MAX_TEXT, Mode};
 
-/// What is wrong with a text for `run` or for `step` that `parse` refuses with this line and this fault, in a sentence: the
-/// line, what stands on it, why that is wrong, and what may stand there.
+/// What is wrong with a text for `run` or for `step` that `parse` refuses with this line and this fault, in a sentence:
+/// the line, what stands on it, why that is wrong, and what may stand there.
 ///
 /// # Errors
 /// Memory, where it is refused.

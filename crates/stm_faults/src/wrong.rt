@@ -15,8 +15,8 @@ use stm_text::lines;
 use stm_text::parting::{count_lines, part_at_done};
 use stm_text::report::report_text;
 
-/// What is wrong with a workload and a report in one text of which `check` says `no` with this line: what stands on it, and
-/// what the replay wants there.
+/// What is wrong with a workload and a report in one text of which `check` says `no` with this line: what stands on it,
+/// and what the replay wants there.
 ///
 /// # Errors
 /// Memory, where it is refused.

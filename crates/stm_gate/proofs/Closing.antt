@@ -46,7 +46,7 @@ module _ (good : List ℕ → Type 0) (c : Config) (n : ℕ) where
       grows =
           grows-same (known_of v o) (known_of last o) refl refl (record { place = Status n; act = Store 0; found = None }
           ∷ record { place = Gate; act = Load; found = Some gate } ∷ record { place = Status n; act = Store announced; found = None } ∷ [])
-          refl refl refl refl;
+          refl refl refl refl refl;
       rises = refl;
       installs = refl;
       sole = λ one. absurd (let many = two who.0 n c.callers who.1 low who.2 in omega arith);
@@ -92,7 +92,7 @@ module _ (good : List ℕ → Type 0) (c : Config) (n : ℕ) where
           grows-same (known_of v o) (known_of last o) refl refl (record { place = Status n; act = Store 0; found = None }
           ∷ record { place = Gate; act = Exchange gate (gate_word (fence_of gate) (1 + n) (alg_of gate)); found = Some found }
           ∷ record { place = Gate; act = Load; found = Some gate } ∷ record { place = Status n; act = Store announced; found = None } ∷ [])
-          refl refl refl refl;
+          refl refl refl refl refl;
       rises = refl;
       installs = refl;
       sole = λ one. absurd (let many = two who.0 n c.callers who.1 low who.2 in omega arith);
@@ -139,7 +139,7 @@ module _ (good : List ℕ → Type 0) (c : Config) (n : ℕ) where
         grows-same (known_of v o) (known_of last o) refl refl (record { place = Status n; act = Store 0; found = None }
         ∷ record { place = Gate; act = Exchange gate (gate_word (fence_of gate) (1 + n) (alg_of gate)); found = Some found }
         ∷ record { place = Gate; act = Load; found = Some gate } ∷ record { place = Status n; act = Store announced; found = None } ∷ [])
-        refl refl refl refl;
+        refl refl refl refl refl;
     unseen = ap (λ b. (at b).checked) here;
     unsettled = ap (λ b. is_settled (at b)) here;
     rises = refl;
@@ -179,7 +179,7 @@ module _ (good : List ℕ → Type 0) (c : Config) (n : ℕ) where
   tells-reopened fence alg v w o unlocked t = subst (λ (y : View). Stays c (known_of v o) (known_of y o)) (sym t.2) (record {
     idle = (refl, refl, refl, refl, unlocked);
     made = refl;
-    grows = grows-same (known_of v o) (known_of (view_after (reopen fence alg) t.0 v (gate_word fence 0 alg)) o) refl refl (record { place = Gate; act = Store (gate_word fence 0 alg); found = None } ∷ []) refl refl refl refl;
+    grows = grows-same (known_of v o) (known_of (view_after (reopen fence alg) t.0 v (gate_word fence 0 alg)) o) refl refl (record { place = Gate; act = Store (gate_word fence 0 alg); found = None } ∷ []) refl refl refl refl refl;
     rises = refl;
     installs = refl;
     sole = λ one. refl;

@@ -109,7 +109,7 @@ module _ (good : List ℕ → Type 0) (c : Config) (n : ℕ) where
       holds = record { phase = h.phase; running = h.running; closing = h.closing; holds = h.holds; ungranted = granted-same v.gate.algorithm last.gate v.gate v.lock refl ∙ h.ungranted; unlocked = h.unlocked };
       grows =
           grows-same (known_of v o) (record (known_of last o) { fenced = (known_of v o).fenced }) refl refl
-          (record { place = Gate; act = Store (gate_word (fence_number n from count) (1 + n) alg); found = None } ∷ []) refl refl refl refl;
+          (record { place = Gate; act = Store (gate_word (fence_number n from count) (1 + n) alg); found = None } ∷ []) refl refl refl refl refl;
       checked = refl;
       alg = refl;
       installs = refl;
@@ -178,7 +178,7 @@ module _ (good : List ℕ → Type 0) (c : Config) (n : ℕ) where
     record {
       closed = record {
         holds = record { phase = h.phase; running = h.running; closing = h.closing; holds = h.holds; ungranted = granted-same v.gate.algorithm last.gate v.gate v.lock refl ∙ h.ungranted; unlocked = h.unlocked };
-        grows = grows-same (known_of v o) (record (known_of last o) { fenced = (known_of v o).fenced }) refl refl (record { place = Gate; act = Store (gate_word 0 (1 + n) alg); found = None } ∷ []) refl refl refl refl;
+        grows = grows-same (known_of v o) (record (known_of last o) { fenced = (known_of v o).fenced }) refl refl (record { place = Gate; act = Store (gate_word 0 (1 + n) alg); found = None } ∷ []) refl refl refl refl refl;
         checked = refl;
         alg = refl;
         installs = refl;
@@ -203,7 +203,7 @@ module _ (good : List ℕ → Type 0) (c : Config) (n : ℕ) where
     record {
       closed = record {
         holds = record { phase = h.phase; running = h.running; closing = h.closing; holds = h.holds; ungranted = granted-same v.gate.algorithm last.gate v.gate v.lock refl ∙ h.ungranted; unlocked = h.unlocked };
-        grows = grows-same (known_of v o) (record (known_of last o) { fenced = (known_of v o).fenced }) refl refl (record { place = Clock; act = Load; found = Some t } ∷ []) refl refl refl refl;
+        grows = grows-same (known_of v o) (record (known_of last o) { fenced = (known_of v o).fenced }) refl refl (record { place = Clock; act = Load; found = Some t } ∷ []) refl refl refl refl refl;
         checked = refl;
         alg = refl;
         installs = refl;
@@ -293,6 +293,7 @@ module _ (good : List ℕ → Type 0) (c : Config) (n : ℕ) where
         step_trace = refl;
         reads_limit = refl;
         writes_limit = refl;
+        marks_limit = refl;
         fenced = refl;
       };
       checked = refl;

@@ -53,7 +53,7 @@ module _ (good : List ℕ → Type 0) (c : Config) (n : ℕ) where
             unlocked = unlocked-of alg v.lock.taken v.tml.writer clear.unlocked clear.unwritten;
           };
       made = refl;
-      grows = grows-same (known_of v o) (known_of last o) refl refl (three ++ z.more) (sym (append_assoc three z.more v.steps.step_trace)) refl refl refl;
+      grows = grows-same (known_of v o) (known_of last o) refl refl (three ++ z.more) (sym (append_assoc three z.more v.steps.step_trace)) refl refl refl refl;
       checked = λ k e. e;
     };
     quiet = quiet;

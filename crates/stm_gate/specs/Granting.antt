@@ -157,7 +157,7 @@ module _ (good : List ℕ → Type 0) (c : Config) (n : ℕ) where
       running = ap is_in i.phase;
       closing = ap is_closing i.phase;
       made = refl;
-      grows = grows-same (known_of v o) (known_of v o) refl refl [] refl refl refl refl;
+      grows = grows-same (known_of v o) (known_of v o) refl refl [] refl refl refl refl refl;
       alg = refl;
       fence = refl;
       base = refl;

@@ -5,7 +5,8 @@ use Rattle.stm_model.specs.declared.alg.Alg.{Alg}
 use Rattle.rule_base.specs.declared.views.TracedStep.{TracedStep}
 use Rattle.rule_base.specs.declared.views.View.{View}
 
--- the clock is t, at which the algorithm may begin; the caller has loaded it, maybe raised it before, and nothing else changed
+-- the clock is t, at which the algorithm may begin; the caller has loaded it, maybe raised it before, and nothing else
+-- changed
 pub record Settles (alg : Alg) (t : ℕ) (v w : View) : Type 0 where
   pub rises : ℕ
   pub least : v.steps.rises ≤ rises

@@ -20,7 +20,8 @@ pub record CanLeave (v : View) : Type 0 where
   pub ungranted : v.gate.holds ≡ false → v.gate.granted ≡ false
   -- who wasn't promoted has raised the clock by no step that BASE and DONE are to have
   pub plain : v.gate.granted ≡ false → v.attempt.entered ≡ false
-  -- who closed the gate has no store in the heap that isn't in the history, and the time of its entry is in BASE and in DONE
+  -- who closed the gate has no store in the heap that isn't in the history,
+  -- and the time of its entry is in BASE and in DONE
   pub unstored : v.gate.holds ≡ true → v.attempt.stores ≡ []
   pub marked : v.gate.holds ≡ true → v.attempt.entered ≡ true → (v.gate.rebased ≡ true) × (v.gate.completed ≡ true)
 

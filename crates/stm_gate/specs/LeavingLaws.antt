@@ -121,6 +121,7 @@ module _ (n : ℕ) where
     step_trace = k.1;
     reads_limit = refl;
     writes_limit = refl;
+    marks_limit = refl;
     fenced = ap fenced_of m.carried.fence;
   })
 
@@ -168,6 +169,7 @@ module _ (n : ℕ) where
         step_trace = k.1;
         reads_limit = refl;
         writes_limit = refl;
+        marks_limit = refl;
         fenced = ap fenced_of m.carried.fence;
       });
       rises = m.rises;

@@ -18,7 +18,8 @@ use Rattle.tx_answers.specs.CallerState.{known_of}
 abbrev pub looked : View → List ℕ → List TracedStep → View
 looked v checked step_trace = record v { gate = record v.gate { checked = checked }; steps = record v.steps { step_trace = step_trace } }
 
--- some looks took place: only callers not yet seen idle were looked at, none seen is forgotten, and nothing else changed
+-- some looks took place: only callers not yet seen idle were looked at, none seen is forgotten, and nothing else
+-- changed
 pub record LooksOn (v w : View) : Type 0 where
   pub checked : List ℕ
   pub more : List TracedStep

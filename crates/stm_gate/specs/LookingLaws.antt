@@ -132,7 +132,7 @@ module _ (c : Config) (n : ℕ) where
       closed = record {
         holds = record { phase = h.phase; running = h.running; closing = h.closing; holds = h.holds; ungranted = granted-same u.gate.algorithm (record u.gate { checked = a.checked }) u.gate u.lock refl ∙ h.ungranted; unlocked = h.unlocked };
         made = refl;
-        grows = grows-same (known_of u o) (known_of (looked u a.checked (a.more ++ u.steps.step_trace)) o) refl refl a.more refl refl refl refl;
+        grows = grows-same (known_of u o) (known_of (looked u a.checked (a.more ++ u.steps.step_trace)) o) refl refl a.more refl refl refl refl refl;
         checked = a.kept;
       };
       steps = (a.more, refl, a.unseen);

@@ -141,7 +141,7 @@ module _ (c : Config) (n : ℕ) where
         running = ap is_in phase ∙ ap is_in inside;
         closing = ap is_closing phase ∙ ap is_closing inside;
         made = refl;
-        grows = grows-same (known_of v o) (known_of y o) refl refl more refl refl refl refl;
+        grows = grows-same (known_of v o) (known_of y o) refl refl more refl refl refl refl refl;
         alg = algorithm;
         fence = fence;
         base = refl;

@@ -51,8 +51,8 @@ pub fn direct_store<K: MemRule>(desc: &mut Desc<K>, stm: &Stm<K>, a: usize, x: u
 }
 
 /// Raises the clock where the attempt wrote, stores the time in BASE and in DONE, and reopens the gate. Five
-/// steps; two where it wrote nothing. Its write log stays. One of OrecEager holds records, which it gives back by its own
-/// call.
+/// steps; two where it wrote nothing. Its write log stays. One of OrecEager holds records, which it gives back by its
+/// own call.
 #[inline(always)]
 pub fn direct_commit<K: MemRule>(desc: &mut Desc<K>, stm: &Stm<K>) -> Commit
     requires stm { IsOf desc.old stm.now }

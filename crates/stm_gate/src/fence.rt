@@ -24,8 +24,8 @@ use stm_rule::stm::Stm;
 use tx_answers::answers::{Fence, Give};
 
 /// Takes `count` words from `from` out of the transactions. It asks for a memory that takes fences and a closing
-/// descriptor whose last look was quiet, leaves it closing, and takes one step. In a memory that isn't small the range is a
-/// number of blocks.
+/// descriptor whose last look was quiet, leaves it closing, and takes one step. In a memory that isn't small the range
+/// is a number of blocks.
 ///
 /// `Taken` comes exactly where a range is out already, and takes no step.
 pub fn fence<K: MemRule>(desc: &mut Desc<K>, stm: &Stm<K>, from: usize, count: usize) -> Fence

@@ -116,8 +116,8 @@ fn settle_for<K: MemRule>(seat: &mut Token<K>, stm: &Stm<K>, caller: usize, alg:
 }
 
 /// Reopens the gate, under the algorithm that it names. It asks for a closing descriptor, leaves it idle,
-/// is always done, and takes one step. It rings the memory's bell, since a range that was written directly may be back: one load
-/// while nobody waits, beside the table.
+/// is always done, and takes one step. It rings the memory's bell, since a range that was written directly may be back:
+/// one load while nobody waits, beside the table.
 pub fn reopen<K: MemRule>(desc: &mut Desc<K>, stm: &Stm<K>) -> Rung<K>
     requires stm { IsOf desc.old stm.now }
     requires closing { HoldsClosed (known desc.old) }

@@ -19,3 +19,4 @@ pub record IsConfig (c : Config) : Type 0 where
   pub clock : c.clock ≤ 2 ^ 62
   -- where ranges may be taken out of the transactions, all words are such a range
   pub fenced : c.fence ≡ true → (IsSmall c → ⊥) → AreBlocks c.words
+  pub marks : c.marks ≤ 8

@@ -2,7 +2,8 @@
 use Rattle.std.specs.Prelude.{ℕ, ◌≡◌, ◌≢◌, ◌<◌, ◌-◌, ◌==◌, suc, List, [], ◌∷◌, All, leb, if◌then◌else◌}
 use Rattle.stm_model.specs.Memories.{AreWords, overlay, Once, Explains}
 
--- A committed transaction: when, by whom, how many its caller had committed before, what it read of words that it had not yet written, and what it wrote.
+-- A committed transaction: when, by whom, how many its caller had committed before, what it read of words that it had
+-- not yet written, and what it wrote.
 pub record Entry : Type 0 where
   pub time : ℕ
   pub caller : ℕ

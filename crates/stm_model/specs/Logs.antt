@@ -14,7 +14,8 @@ pub record IsLog (l : Log) : Type 0 where
   pub reads : Once l.reads
   pub writes : Once l.writes
 
--- a read of a answers the log's write of a; where there is none, the log's read of a; where there is neither, v, which the log gains
+-- a read of a answers the log's write of a; where there is none, the log's read of a; where there is neither, v, which
+-- the log gains
 abbrev pub Reads : Log → ℕ → ℕ → Log → Type 0
 Reads l a v k =
     (k.writes ≡ l.writes)
@@ -34,7 +35,8 @@ SameMemories before after = (m : List ℕ) → (before m → after m) × (after 
 abbrev pub IsExplained : (List ℕ → Type 0) → ℕ → Log → Type 0
 IsExplained good words l = (m : List ℕ) × good m × (length m ≡ words) × Explains m l.reads × AreWords m
 
--- an attempt that began at start has read only the memory after one prefix of the history (opacity, Guerraoui and Kapalka)
+-- an attempt that began at start has read only the memory after one prefix of the history (opacity, Guerraoui and
+-- Kapalka)
 abbrev pub Sees : ℕ → List Entry → List ℕ → Log → Type 0
 Sees start history opening l = Explains (memory_at start history opening) l.reads
 

@@ -1,7 +1,8 @@
 -- Memories, write sets, and what explains a read set.
 use Rattle.std.specs.Prelude.{ℕ, ◌≡◌, ◌<◌, ◌^◌, ◌==◌, if◌then◌else◌, All, List, [], ◌∷◌, slice_index, slice_set, Option, Some, None, Bool, true, false}
 
--- A memory is the list of its words. A read set and a write set are lists of address and value, with one item an address.
+-- A memory is the list of its words. A read set and a write set are lists of address and value,
+-- with one item an address.
 
 -- each is a word
 abbrev pub AreWords : List ℕ → Type 0

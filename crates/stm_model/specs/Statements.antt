@@ -1,6 +1,6 @@
 -- What the law functions say.
 use Rattle.std.specs.Prelude.{ℕ, ◌≡◌, ◌<◌, ◌^◌, All, List}
-use Rattle.stm_model.specs.declared.config.TheConstants.{MOST_WORDS, MOST_RECORDS, MOST_RING, MOST_CALLERS, MOST_LOG, SMALL_WORDS, SMALL_CALLERS, BLOCK, MAX_WORDS, MAX_RECORDS, MIN_RING, MAX_RING, MAX_CALLERS, MAX_LOG, CLOCK_LIMIT}
+use Rattle.stm_model.specs.declared.config.TheConstants.{MOST_WORDS, MOST_RECORDS, MOST_RING, MOST_CALLERS, MOST_LOG, MOST_MARKS, SMALL_WORDS, SMALL_CALLERS, BLOCK, MAX_WORDS, MAX_RECORDS, MIN_RING, MAX_RING, MAX_CALLERS, MAX_LOG, CLOCK_LIMIT}
 use Rattle.stm_model.specs.Memories.{AreWords, overlay, written, Once}
 use Rattle.stm_model.specs.Logs.{Log, Keeps}
 
@@ -24,6 +24,7 @@ pub record LimitsAre : Type 0 where
   pub most_ring : MOST_RING ≡ 4096
   pub most_callers : MOST_CALLERS ≡ 254
   pub most_log : MOST_LOG ≡ 2 ^ 20
+  pub most_marks : MOST_MARKS ≡ 8
   pub small_words : SMALL_WORDS ≡ 2 ^ 20
   pub small_callers : SMALL_CALLERS ≡ 62
   pub block : BLOCK ≡ 2 ^ 13

@@ -11,6 +11,8 @@ pub const MOST_RING: usize = 4_096;
 pub const MOST_CALLERS: usize = 254;
 /// The greatest length of a log, 2^20.
 pub const MOST_LOG: usize = 1_048_576;
+/// The greatest number of marks of an attempt.
+pub const MOST_MARKS: usize = 8;
 /// In a memory of more words or callers than these, ranges are taken out of the transactions in whole blocks of `BLOCK`
 /// words, so that a fence's number fits into a gate word.
 pub const SMALL_WORDS: usize = 1_048_576;
@@ -50,7 +52,11 @@ pub struct Config {
     pub writes: usize,
     /// The clock at the start, at most `CLOCK_LIMIT`.
     pub clock: u64,
-    /// Whether a caller may take a range of words out of the transactions; where it is false, no fence ever stands. Where
-    /// it is true, and there are more than `SMALL_WORDS` words or `SMALL_CALLERS` callers, the words are whole blocks.
+    /// Whether a caller may take a range of words out of the transactions; where it is false, no fence ever stands.
+    /// Where it is true, and there are more than `SMALL_WORDS` words or `SMALL_CALLERS` callers,
+    /// the words are whole blocks.
     pub fence: bool,
+    /// The marks that an attempt may have at once, 0 to `MOST_MARKS`: each has room for a value an item of the write
+    /// log, 32 bytes.
+    pub marks: usize,
 }

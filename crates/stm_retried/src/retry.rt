@@ -1,5 +1,5 @@
-//! A memory whose logs are made longer, and which is closed: each is tried again where memory is refused for it, and all
-//! has to be as it was then.
+//! A memory whose logs are made longer, and which is closed: each is tried again where memory is refused for it, and
+//! all has to be as it was then.
 ghost use Rattle.std.specs.Prelude.{◌≡◌, ◌<◌, length, true, false, IfSome};
 ghost use Rattle.stm_rule.specs.Callers.{AllIdle, IsOf, IsSameCaller};
 ghost use Rattle.tx_answers.specs.CallerState.{IsIdle};
@@ -20,6 +20,7 @@ const SHORT: Config = Config {
     writes: 2,
     clock: 0,
     fence: false,
+    marks: 0,
 };
 
 /// Why there are no words.

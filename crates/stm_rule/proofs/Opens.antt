@@ -9,7 +9,7 @@ use Rattle.atomic_table.specs.Table.{opening}
 use Rattle.rule_base.specs.declared.layout.At.{At}
 use Rattle.rule_base.specs.declared.layout.At.TheVariants.{Clock, Lock, Gate, Base, Done, Status, Record, Slot, Heap}
 use Rattle.stm_model.specs.declared.config.Config.{Config}
-use Rattle.stm_model.specs.declared.config.TheConstants.{MOST_WORDS, MOST_RECORDS, MIN_RING, MOST_RING, MOST_CALLERS, SMALL_WORDS, SMALL_CALLERS, BLOCK, MOST_LOG, CLOCK_LIMIT}
+use Rattle.stm_model.specs.declared.config.TheConstants.{MOST_WORDS, MOST_RECORDS, MIN_RING, MOST_RING, MOST_CALLERS, SMALL_WORDS, SMALL_CALLERS, BLOCK, MOST_LOG, MOST_MARKS, CLOCK_LIMIT}
 use Rattle.rule_base.specs.declared.seats.Role.TheVariants.{Dealer, Note}
 use Rattle.rule_base.specs.declared.seats.SeatView.{SeatView}
 use Rattle.rule_base.specs.Lemmas.EncodingLemmas.{fenced-none}
@@ -27,7 +27,7 @@ use Rattle.rule_base.specs.Seating.{Claims, Seats}
 use Rattle.rule_base.specs.Lemmas.WordLemmas.{lies-write}
 use Rattle.rule_base.specs.World.{World, Lies, fetch}
 use Rattle.rule_seq.specs.CglOpening.{cgl_world-opening}
-use Rattle.stm_rule.specs.declared.refusal.NewError.TheVariants.{Words, Records, Ring, Callers, Logs}
+use Rattle.stm_rule.specs.declared.refusal.NewError.TheVariants.{Words, Records, Ring, Callers, Logs, Marks}
 use Rattle.stm_rule.specs.declared.refusal.NewError.TheVariants as faults
 use Rattle.stm_rule.specs.declared.stm.Key.{Key}
 use Rattle.stm_rule.specs.Kept.{good_of, Kept, newcomer}
@@ -197,14 +197,14 @@ fenced_in c e on large = by (nat_le c.words SMALL_WORDS) (nat_le c.callers SMALL
     by false y false a b d e = absurd cc
 
 pub no_fault : (c : Config) → first_fault c ≡ None → IsConfig c
-no_fault c e = go (in_range 1 c.words MOST_WORDS) (are_fenced_in c) (in_range 1 c.records MOST_RECORDS) (in_range MIN_RING c.ring MOST_RING) (in_range 1 c.callers MOST_CALLERS) (in_range 1 c.reads MOST_LOG) (in_range 1 c.writes MOST_LOG) (nat_le c.clock CLOCK_LIMIT)
-    refl refl refl refl refl refl refl refl e
+no_fault c e = go (in_range 1 c.words MOST_WORDS) (are_fenced_in c) (in_range 1 c.records MOST_RECORDS) (in_range MIN_RING c.ring MOST_RING) (in_range 1 c.callers MOST_CALLERS) (in_range 1 c.reads MOST_LOG) (in_range 1 c.writes MOST_LOG) (nat_le c.clock CLOCK_LIMIT) (nat_le c.marks MOST_MARKS)
+    refl refl refl refl refl refl refl refl refl e
   where
-    go : (w q r s k l m t : Bool) → in_range 1 c.words MOST_WORDS ≡ w → are_fenced_in c ≡ q → in_range 1 c.records MOST_RECORDS ≡ r
+    go : (w q r s k l m t n : Bool) → in_range 1 c.words MOST_WORDS ≡ w → are_fenced_in c ≡ q → in_range 1 c.records MOST_RECORDS ≡ r
         → in_range MIN_RING c.ring MOST_RING ≡ s → in_range 1 c.callers MOST_CALLERS ≡ k → in_range 1 c.reads MOST_LOG ≡ l
-        → in_range 1 c.writes MOST_LOG ≡ m → nat_le c.clock CLOCK_LIMIT ≡ t
-        → (if w && q then (if r then (if s then (if k then (if l && m then (if t then None else Some faults.Clock) else Some Logs) else Some Callers) else Some Ring) else Some Records) else Some Words) ≡ None → IsConfig c
-    go true true true true true true true true a p b d f g h i e = record {
+        → in_range 1 c.writes MOST_LOG ≡ m → nat_le c.clock CLOCK_LIMIT ≡ t → nat_le c.marks MOST_MARKS ≡ n
+        → (if w && q then (if r then (if s then (if k then (if l && m then (if t then (if n then None else Some Marks) else Some faults.Clock) else Some Logs) else Some Callers) else Some Ring) else Some Records) else Some Words) ≡ None → IsConfig c
+    go true true true true true true true true true a p b d f g h i j e = record {
       words = within 1 c.words MOST_WORDS a;
       records = within 1 c.records MOST_RECORDS b;
       ring = within MIN_RING c.ring MOST_RING d;
@@ -213,12 +213,14 @@ no_fault c e = go (in_range 1 c.words MOST_WORDS) (are_fenced_in c) (in_range 1 
       writes = within 1 c.writes MOST_LOG h;
       clock = grind (arith, nat_tests, i);
       fenced = fenced_in c p;
+      marks = grind (arith, nat_tests, j);
     }
-    go false q r s k l m t a p b d f g h i e = absurd cc
-    go true false r s k l m t a p b d f g h i e = absurd cc
-    go true true false s k l m t a p b d f g h i e = absurd cc
-    go true true true false k l m t a p b d f g h i e = absurd cc
-    go true true true true false l m t a p b d f g h i e = absurd cc
-    go true true true true true false m t a p b d f g h i e = absurd cc
-    go true true true true true true false t a p b d f g h i e = absurd cc
-    go true true true true true true true false a p b d f g h i e = absurd cc
+    go false q r s k l m t n a p b d f g h i j e = absurd cc
+    go true false r s k l m t n a p b d f g h i j e = absurd cc
+    go true true false s k l m t n a p b d f g h i j e = absurd cc
+    go true true true false k l m t n a p b d f g h i j e = absurd cc
+    go true true true true false l m t n a p b d f g h i j e = absurd cc
+    go true true true true true false m t n a p b d f g h i j e = absurd cc
+    go true true true true true true false t n a p b d f g h i j e = absurd cc
+    go true true true true true true true false n a p b d f g h i j e = absurd cc
+    go true true true true true true true true false a p b d f g h i j e = absurd cc

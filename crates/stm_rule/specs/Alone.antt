@@ -1,5 +1,5 @@
--- With one caller alone each record is as its last step there found or left it, as its step trace tells. So a record that it
--- sampled is found again as it was. Without this clause a caller that is alone could meet a conflict.
+-- With one caller alone each record is as its last step there found or left it, as its step trace tells. So a record
+-- that it sampled is found again as it was. Without this clause a caller that is alone could meet a conflict.
 use Rattle.std.proofs.Common.{◌≡◌, ℕ, List, [], ◌∷◌, Bool, true, false, eqb, refl, sym, ap, ◌∙◌, ⊎_elim}
 use Rattle.std.specs.Prelude.{◌==◌, ◌⊎◌, max, if◌then◌else◌, Option, Some, None}
 use Rattle.std.proofs.lemmas.Bool.{eqb-true, eqb-false}

@@ -34,7 +34,8 @@ pub record IsEager (c : Config) (l : Local) (v : View) : Type 0 where
   pub words : Inside c.words v.owned.in_place
   pub small : Small v.owned.in_place
   pub old_words : Inside c.words v.owned.undo
-  -- the record of each item is held; no more records are held than there are items, and each was free at a number of the clock that its start has seen
+  -- the record of each item is held; no more records are held than there are items, and each was free at a number of
+  -- the clock that its start has seen
   pub covered : (a : ℕ) → touches v.owned.undo a ≡ true → touches v.owned.held (home_of c a) ≡ true
   pub few : length l.locks.items ≤ length l.undo.items
   pub places : Inside c.records v.owned.held

@@ -1,4 +1,5 @@
--- PRIVATIZATION: while a caller has a range of words out of the transactions, nobody else loads or stores a word of it; and what its reads there are of is the one history.
+-- PRIVATIZATION: while a caller has a range of words out of the transactions, nobody else loads or stores a word of it;
+-- and what its reads there are of is the one history.
 use Rattle.std.specs.Prelude.{ℕ, ◌≡◌, Bool, true, false, List, [], ◌∷◌}
 use Rattle.stm_model.specs.declared.config.Config.{Config}
 use Rattle.rule_base.specs.declared.layout.At.{At}
@@ -44,11 +45,13 @@ abbrev pub AllLeaveAlone : ℕ → ℕ → List (ℕ × Deed) → Type 0
 AllLeaveAlone fence n [] = Unit {0}
 AllLeaveAlone fence n (d ∷ ds) = ((d.0 ≡ n → is_direct d.1 ≡ false) → LeavesAlone fence d.0 d.1) × AllLeaveAlone fence n ds
 
--- THE PRIVATIZATION LAW: whatever deeds any callers do from where caller n has a range, each allowed where it comes, until n gives it back: nobody loads or stores a word of it but n, and n in no attempt
+-- THE PRIVATIZATION LAW: whatever deeds any callers do from where caller n has a range, each allowed where it comes,
+-- until n gives it back: nobody loads or stores a word of it but n, and n in no attempt
 abbrev pub RangeIsPrivate : ((ℕ → ℕ) → Type 0) → Config → Type 0
 RangeIsPrivate good c = (n : ℕ) (deeds : List (ℕ × Deed)) (x : Shared) → SharedRule good c x → AllMay good c deeds x → (x.world.views n).fence.holds ≡ true → KeepsRange n deeds → AllLeaveAlone (x.world.views n).fence.number n deeds
 
--- THE HISTORY OF A RANGE: whatever deeds any callers do from where caller n has a range, each allowed where it comes, what had been committed as n took it begins the history after them, which is the one that closing tells
+-- THE HISTORY OF A RANGE: whatever deeds any callers do from where caller n has a range, each allowed where it comes,
+-- what had been committed as n took it begins the history after them, which is the one that closing tells
 abbrev pub RangeIsHistory : ((ℕ → ℕ) → Type 0) → Config → Type 0
 RangeIsHistory good c = (n : ℕ) (deeds : List (ℕ × Deed)) (x : Shared) → SharedRule good c x → AllMay good c deeds x → (x.world.views n).fence.holds ≡ true
     → BeginsHistory (public_history (x.world.views n).fence.past.seen) (x.world.views n).fence.past.front (public_history (after_deeds good c deeds x).world.history)

@@ -27,7 +27,8 @@ use Rattle.rule_orec.specs.OrecRule.{OrecRuns}
 use Rattle.stm_rule.specs.Alone.{Alone}
 use Rattle.stm_rule.specs.Kinds.Raised.{Raised}
 
--- A GIVE-BACK between its entry and the gate without the fence: nobody is in an attempt, and the memory lies in the heap; of records and slots nothing is said until BASE has the entry's time
+-- A GIVE-BACK between its entry and the gate without the fence: nobody is in an attempt, and the memory lies in the
+-- heap; of records and slots nothing is said until BASE has the entry's time
 pub record Gives (alg : Alg) (s : RunProjection) : Type 0 where
   pub heap : (a : ℕ) → s.heap a ≡ word_now s.history a
   pub even : alg ≡ Tml → s.clock % 2 ≡ 0
@@ -46,7 +47,8 @@ Runs c (Running Serial) = CglRuns c
 Runs c (Promoted alg n) = DirectRuns c alg n
 Runs c (Giving alg) = Gives alg
 
--- THE CORE of the rule, where there is no fence. good is what the user keeps true of memory. What runs has its clauses by the regime; all others stand always.
+-- THE CORE of the rule, where there is no fence. good is what the user keeps true of memory. What runs has its clauses
+-- by the regime; all others stand always.
 pub record Core (good : (ℕ → ℕ) → Type 0) (c : Config) (w : World) : Type 0 where
   pub history : HistoryRule good c (history_projection w)
   pub steps : StepsRule c (steps_projection w)
@@ -61,7 +63,8 @@ pub record Core (good : (ℕ → ℕ) → Type 0) (c : Config) (w : World) : Typ
   -- and what who raised the clock as the gate's holder knows of it
   pub raised : Raised w
 
--- THE ONE RULE: the core stands without the fence, in the world with the memory in place of the fenced range, and of the range the fence's clauses say what lies there.
+-- THE ONE RULE: the core stands without the fence, in the world with the memory in place of the fenced range, and of
+-- the range the fence's clauses say what lies there.
 pub record Invariant (good : (ℕ → ℕ) → Type 0) (c : Config) (w : World) : Type 0 where
   pub core : Core good c (without_fence w)
   pub fence : FenceRule c (fence_projection w)

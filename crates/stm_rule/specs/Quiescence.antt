@@ -26,7 +26,8 @@ module _ (good : (ℕ → ℕ) → Type 0) (c : Config) where
   abbrev pub QuietRests : Type 0
   QuietRests = (n : ℕ) (w : World) → Invariant good c w → IsQuiet c n w → AtRest n w
 
-  -- who holds the gate and has seen all others idle, be it in its attempt, is the only one in an attempt, aiming or closing
+  -- who holds the gate and has seen all others idle, be it in its attempt, is the only one in an attempt, aiming or
+  -- closing
   abbrev pub HolderAlone : Type 0
   HolderAlone = (n : ℕ) (w : World) → Invariant good c w → (w.views n).gate.holds ≡ true → HasChecked c.callers n (w.views n) → (holder_of w.gate ≡ 1 + n) × ((k : ℕ) → k ≢ n → rests (w.views k).gate.phase ≡ true)
 

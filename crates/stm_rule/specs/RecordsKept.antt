@@ -53,7 +53,8 @@ pub record IsOptimistic (v : View) : Type 0 where
   pub unstored : v.attempt.stores ≡ []
   pub rises : v.steps.rises ≡ v.steps.rises_at_begin
 
--- OrecLazy, between two calls: it holds records in the middle of its commit alone, and then all of the words that it wrote
+-- OrecLazy, between two calls: it holds records in the middle of its commit alone,
+-- and then all of the words that it wrote
 pub record IsLazy (c : Config) (l : Local) (v : View) : Type 0 where
   pub optimistic : IsOptimistic v
   pub buffers : Buffers c l

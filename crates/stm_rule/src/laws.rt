@@ -103,8 +103,8 @@ pub fn core_records<K: MemRule>()
     ensures { (rule : K) (c : Config) → CoreRecords (good_of K.good c rule) c }
 {}
 
-/// And one in which a promoted attempt of OrecEager that wrote nothing raises the clock without an entry, and gives back one
-/// version later the record of a word that it took back. BASE and DONE stay.
+/// And one in which a promoted attempt of OrecEager that wrote nothing raises the clock without an entry, and gives
+/// back one version later the record of a word that it took back. BASE and DONE stay.
 pub fn core_quits<K: MemRule>()
     ensures { (rule : K) (c : Config) → CoreQuits (good_of K.good c rule) c }
 {}

@@ -47,11 +47,11 @@ pub struct Local {
 
 impl Local {
     /// No attempt runs, and the gate isn't closed. It takes the room of a read log, and of the logs of writes and of
-    /// records held, which are as long as each other, each 1 to 1,048,576.
-    pub fn idle(alloc: Global, reads: usize, writes: usize) -> Result<Local, Memory>
+    /// records held, which are as long as each other, each 1 to 1,048,576, and of `marks` marks.
+    pub fn idle(alloc: Global, reads: usize, writes: usize, marks: usize) -> Result<Local, Memory>
         requires low { (1 ≤ reads) × (1 ≤ writes) }
         requires high { (reads ≤ 1048576) × (writes ≤ 1048576) }
-        ensures { IfOk result (λ l. l ≡ idle_local reads writes) }
+        ensures { IfOk result (λ l. l ≡ idle_local reads writes marks) }
     {
         Ok(Local {
             holds: false,
@@ -66,7 +66,7 @@ impl Local {
             next: 0,
             undo: UndoLog::new(alloc, writes)?,
             reads: ReadLog::new(alloc, reads)?,
-            writes: WriteLog::new(alloc, writes)?,
+            writes: WriteLog::new(alloc, writes, marks)?,
             locks: UndoLog::new(alloc, writes)?,
             loaded: Filter::new(),
             stored: Filter::new(),

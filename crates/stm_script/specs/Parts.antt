@@ -28,14 +28,16 @@ by_kind W wrote other = wrote
 by_kind R wrote other = other
 by_kind C wrote other = other
 
--- a W row is that of an entry of its caller; another is what its script does on the memory at its place, which the caller has seen
+-- a W row is that of an entry of its caller; another is what its script does on the memory at its place,
+-- which the caller has seen
 abbrev pub RowIn : (List ℕ → Type 0) → List ℕ → List Region → (Row → List Op) → List Entry → List Entry → ℕ → Row → Type 0
 RowIn good opening regions script made seen front r =
     by_kind r.kind
     ((e : Entry) × Contains made e × RowOf good (length opening) regions (script r) r e)
     ((r.place ≤ front) × RowFits regions (script r) r (memory_at r.place seen opening))
 
--- a caller's rows, in the order of the text: the W rows are its entries in order, and each row is what its script does, at a place that it has seen
+-- a caller's rows, in the order of the text: the W rows are its entries in order, and each row is what its script does,
+-- at a place that it has seen
 pub record Worked (good : List ℕ → Type 0) (opening : List ℕ) (regions : List Region) (script : Row → List Op) (caller : ℕ) (made seen : List Entry) (front : ℕ) (rows : List Row) : Type 0 where
   pub writers : writers rows ≡ times made
   pub each : All (RowIn good opening regions script made seen front) rows
@@ -60,7 +62,8 @@ abbrev pub all_rows : List Part → List Row
 all_rows [] = []
 all_rows (p ∷ ps) = p.rows ++ all_rows ps
 
--- the history has the entries of the callers, each once: whatever is counted, there is as much in it as in theirs together
+-- the history has the entries of the callers, each once: whatever is counted,
+-- there is as much in it as in theirs together
 abbrev pub Gathers : List Entry → List Part → Type 0
 Gathers es parts = (h : Entry → ℕ) → sum_by h es ≡ sum_by (λ (p : Part). sum_by h p.made) parts
 

@@ -38,7 +38,8 @@ pub record RowFits (regions : List Region) (script : List Op) (row : Row) (m : L
   pub emits : row.emits ≡ (run_row regions row.kind script m).emits
   pub kind : KindFits row.kind script (run_row regions row.kind script m).wrote
 
--- one thread that begins with the memory m runs the script of each row in turn, gets what the row says, and ends with the memory last
+-- one thread that begins with the memory m runs the script of each row in turn, gets what the row says,
+-- and ends with the memory last
 abbrev pub Replay : List Region → (Row → List Op) → List ℕ → List Row → List ℕ → Type 0
 Replay regions script m [] last = m ≡ last
 Replay regions script m (r ∷ rs) last = RowFits regions (script r) r m × Replay regions script (run_row regions r.kind (script r) m).memory rs last

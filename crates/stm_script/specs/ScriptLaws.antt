@@ -9,7 +9,8 @@ use Rattle.stm_script.specs.Operations.{effect_of}
 use Rattle.stm_script.specs.Scripts.{Ran, run}
 use Rattle.stm_script.specs.Outputs.{Output}
 
--- over the memory m under the log l, what ran (a script or one operation) gave this, told in `out`, after what `before` has
+-- over the memory m under the log l, what ran (a script or one operation) gave this, told in `out`, after what `before`
+-- has
 pub record Gave (ran : List ℕ → Ran) (m : List ℕ) (l : Log) (before : Output) (k : Log) (after : Output) : Type 0 where
   pub explained : Explains m l.reads
   pub replied : after.replies ≡ before.replies ++ (ran (overlay m l.writes)).replies

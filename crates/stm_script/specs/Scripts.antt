@@ -61,7 +61,8 @@ abbrev pub cancel_replied : Bool → Ran → Ran
 cancel_replied true r = record { replies = r.replies ++ 1 ∷ []; emits = r.emits; memory = r.memory; wrote = r.wrote }
 cancel_replied false r = r
 
--- what an attempt has done when it comes to its end: as its row says, but the writes before a cancel still stand in its log
+-- what an attempt has done when it comes to its end: as its row says,
+-- but the writes before a cancel still stand in its log
 abbrev pub ran_to_end : List Region → Kind → List Op → List ℕ → Ran
 ran_to_end regions W ops m = run regions ops m
 ran_to_end regions R ops m = run regions ops m

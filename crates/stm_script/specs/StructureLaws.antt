@@ -1,4 +1,5 @@
--- What calls of structures leave: as many words, and the memory as it was where they wrote nothing; and whether they wrote, as their reply tells.
+-- What calls of structures leave: as many words, and the memory as it was where they wrote nothing;
+-- and whether they wrote, as their reply tells.
 use Rattle.std.proofs.Common.{ℕ, zero, suc, ◌≡◌, List, length, Bool, true, false, refl, ◌∙◌}
 use Rattle.std.specs.Prelude.{◌==◌, leb, if◌then◌else◌, slice_index, Option, Some, None}
 use Rattle.std.proofs.Math.ListN.{length-set}

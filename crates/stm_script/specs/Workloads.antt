@@ -9,7 +9,7 @@ use Rattle.stm_script.specs.Operations.{ScriptFits}
 
 -- the sizes and the opening clock of the memory that a header asks for
 abbrev pub config_of : Header → Config
-config_of h = record { words = h.words; records = h.records; ring = h.ring; callers = h.callers; reads = h.reads; writes = h.writes; clock = h.clock; fence = false }
+config_of h = record { words = h.words; records = h.records; ring = h.ring; callers = h.callers; reads = h.reads; writes = h.writes; clock = h.clock; fence = false; marks = 8 }
 
 -- an item of a caller of the header; a script is one that its memory takes
 abbrev pub ItemFits : List Region → Header → Item → Type 0

@@ -34,8 +34,8 @@ impl Words {
     }
 }
 
-/// The operations of one transaction, in order. The one operation of a short script lies in it: who holds the item holds
-/// the operation, with no load of memory that another processor wrote while the transaction runs.
+/// The operations of one transaction, in order. The one operation of a short script lies in it: who holds the item
+/// holds the operation, with no load of memory that another processor wrote while the transaction runs.
 #[derive(Drop, Debug)]
 pub struct Script {
     ops: SmallVec<Op, 1>,

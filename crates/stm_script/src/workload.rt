@@ -5,7 +5,7 @@ use crate::lists::Script;
 use std::alloc::Global;
 use std::marker::Model;
 use stm_model::alg::Alg;
-use stm_model::config::Config;
+use stm_model::config::{Config, MOST_MARKS};
 use stm_model::memory::Memory;
 use stm_profile::policy::Policy;
 use tx_regions::region::Regions;
@@ -87,6 +87,7 @@ impl Header {
             writes: self.writes,
             clock: self.clock,
             fence: false,
+            marks: MOST_MARKS,
         }
     }
 

@@ -2,8 +2,8 @@
 //! caller's step in the middle of it.
 //!
 //! A word of moves has the caller's number and what it calls: b `try_begin`, r `read` and w `write` of a word,
-//! c `commit`, x `cancel`, p `try_irrevocable`, m `checkpoint`, u `roll_to` mark 1. `0p` while caller 1 is in an attempt answers Busy, and leaves caller 0 the
-//! gate, which it has to reopen at its end.
+//! c `commit`, x `cancel`, p `try_irrevocable`, m `checkpoint`, u `roll_to` mark 1. `0p` while caller 1 is in an
+//! attempt answers Busy, and leaves caller 0 the gate, which it has to reopen at its end.
 use crate::caller::{Answer, Move, play};
 use crate::counting::{begin_count, end_count};
 use std::alloc::Global;
@@ -24,6 +24,7 @@ const MEMORY: Config = Config {
     writes: 3,
     clock: 0,
     fence: false,
+    marks: 8,
 };
 
 /// What is counted, the algorithm, whether the clock is at its limit from the start, the moves before, and the one that

@@ -1,5 +1,5 @@
-//! A program for tools/count-steps: it brings each call to where it takes the most atomic steps, and prints what it came
-//! to.
+//! A program for tools/count-steps: it brings each call to where it takes the most atomic steps, and prints what it
+//! came to.
 #![tactic(auto)]
 
 mod caller;

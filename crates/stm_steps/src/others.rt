@@ -29,6 +29,7 @@ const ODD: Config = Config {
     writes: 3,
     clock: 1,
     fence: true,
+    marks: 8,
 };
 
 /// The same without ranges.

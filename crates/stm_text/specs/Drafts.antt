@@ -17,7 +17,8 @@ use Rattle.stm_text.specs.declared.draft.Field.{Field}
 use Rattle.stm_text.specs.declared.draft.Field.TheVariants as fields
 use Rattle.stm_text.specs.declared.draft.Step.TheVariants.{Head, Count, Begin, Change, Lengthen, Add, End, Schedule, Turn, Done}
 
--- the line that comes next, the header, how many regions it has, the items, the open transaction's caller and operations, the schedule and its turns in all
+-- the line that comes next, the header, how many regions it has, the items, the open transaction's caller and
+-- operations, the schedule and its turns in all
 pub record Writing : Type 0 where
   pub place : NextLine
   pub header : Header

@@ -309,7 +309,8 @@ stripe_in (kinds.SumMap r) n = Err REGION
 abbrev pub stripe_of : List Region → ℕ → ℕ → Result ℕ ℕ
 stripe_of regions r n = if ltb r (length regions) then stripe_in (region_at regions r) n else Err REGION
 
--- a region, a stripe and an amount; a region, a key and a value; a region and two keys: all of the form before any is in range
+-- a region, a stripe and an amount; a region, a key and a value; a region and two keys:
+-- all of the form before any is in range
 abbrev pub placed_count : Writing → List ℕ → List ℕ → List ℕ → Result Step ℕ
 placed_count d a b v =
     formed (number_of a) >>= λ i. formed (number_of b) >>= λ j. formed (number_of v) >>= λ n.

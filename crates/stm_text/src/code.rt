@@ -1,4 +1,5 @@
-//! The codes of faults in a text, of a workload and of a report that is read. Where a line has several, the lowest counts.
+//! The codes of faults in a text, of a workload and of a report that is read. Where a line has several, the lowest
+//! counts.
 
 /// The text is longer than 16,777,216 bytes. On line 0, before all others.
 pub const LONG: u32 = 1;

@@ -740,8 +740,8 @@ fn four_words_two(draft: &Draft, w: &[u8], a: &[u8], b: &[u8], v: &[u8]) -> Resu
     Err(code::WORD)
 }
 
-/// What the first line of a text does after those before it, or its lowest code; and where it has none, what stands after
-/// that line.
+/// What the first line of a text does after those before it, or its lowest code; and where it has none, what stands
+/// after that line.
 pub fn step_of<'t>(mode: Mode, draft: &Draft, text: &'t [u8]) -> (Result<Step, u32>, &'t [u8])
     ensures step { result.0 ≡ judged (by_words mode draft.now) (lines_of text.now) }
     ensures rest { OnOk result.0 (Leaves text.now result.1.now) }

@@ -104,7 +104,8 @@ all_told (at ∷ places) = at.rows ++ all_told places
 
 -- h is the workload's header
 module _ (h : Header) where
-  -- each line may come where its caller stands, as the lines before it tell, with fair numbers; after them the callers stand at last
+  -- each line may come where its caller stands, as the lines before it tell, with fair numbers;
+  -- after them the callers stand at last
   abbrev pub Path : (CallerProgress → Said → Type 0) → List CallerProgress → List Line → List CallerProgress → Type 0
   Path may places [] last = places ≡ last
   Path may places (Of n said ∷ lines) last = (n < length places) × may (place_of places n) said × IsFair h (place_of places n) said × Path may (says places n said) lines last
@@ -146,7 +147,8 @@ module _ (h : Header) where
     pub over : All IsOver now
     pub told : IsPermutation (all_told now) rows
 
-  -- the last line, and no other, tells of a full clock: this one. It is a turn of the schedule, or one of the turns to the end, and then nothing is left to the callers below
+  -- the last line, and no other, tells of a full clock: this one. It is a turn of the schedule, or one of the turns to
+  -- the end, and then nothing is left to the callers below
   pub record IsCut (start : List CallerProgress) (schedule : List Go) (lines : List Line) (clock : ℕ) : Type 0 where
     pub before : List Line
     pub caller : ℕ

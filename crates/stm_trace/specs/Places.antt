@@ -28,10 +28,11 @@ use Rattle.stm_trace.specs.declared.said.Phase.TheVariants.{Between, Inside, Clo
 use Rattle.stm_trace.specs.declared.said.Said.{Said}
 use Rattle.stm_trace.specs.declared.said.Said.TheVariants.{TryBegin, Reply, Stopped, TryCancel, TryIrrevocable, TryCommit, TryClose, Looked, Installed, Reserved, Idle, Dropped, Reopened}
 
--- what the caller has still to do; of its next transaction how many attempts were in somebody's way, and whether it must become
--- irrevocable; of its last attempt the algorithm, and of an open one the operations still to come, the replies and emits so far, whether it
--- wrote, and whether it was granted to be irrevocable; its rows; and its policy, what its attempts came to since it last switched by it,
--- and the switch that it asks for, which comes before the next item
+-- what the caller has still to do; of its next transaction how many attempts were in somebody's way, and whether it
+-- must become irrevocable; of its last attempt the algorithm, and of an open one the operations still to come, the
+-- replies and emits so far, whether it wrote, and whether it was granted to be irrevocable; its rows; and its policy,
+-- what its attempts came to since it last switched by it, and the switch that it asks for,
+-- which comes before the next item
 pub record CallerProgress : Type 0 where
   pub caller : ℕ
   pub left : List Item
@@ -120,7 +121,8 @@ replied op reply at = record at { rest = rest_of at.rest; replies = at.replies +
 abbrev pub given_up : CallerProgress → CallerProgress
 given_up at = record at { phase = Between; replies = []; emits = [] }
 
--- another caller was in its way: so it is counted, until the next one must become irrevocable; and what it came to is noted
+-- another caller was in its way: so it is counted, until the next one must become irrevocable;
+-- and what it came to is noted
 abbrev pub failed_next : Bool → ℕ → ℕ
 failed_next must failed = if must then failed else failed + 1
 

@@ -17,7 +17,8 @@ pub record EndsFull (lines : List Line) (clock : ℕ) : Type 0 where
   pub full : clock_of said ≡ Some clock
 
 module _ (h : Header) (may : CallerProgress → Said → Type 0) where
-  -- the lines that were added are those of the turns of these callers in this order, and lead from one list of places to another
+  -- the lines that were added are those of the turns of these callers in this order,
+  -- and lead from one list of places to another
   pub record Played (places now : List CallerProgress) (old new : List Line) (order : List ℕ) : Type 0 where
     pub more : List Line
     pub lines : new ≡ old ++ more

@@ -44,7 +44,8 @@ pub record EachHasItsRow (w : Workload) (rows : List Row) : Type 0 where
 abbrev pub TellsEachOnce : Type 0
 TellsEachOnce = (w : Workload) (lines : List Line) (report : Report) → TraceFits w lines report → EachHasItsRow w report.rows
 
--- a workload of one caller without a policy, whose one transaction writes v at a; and its trace and report under an algorithm
+-- a workload of one caller without a policy, whose one transaction writes v at a;
+-- and its trace and report under an algorithm
 abbrev pub one_writer : Header → ℕ → ℕ → Workload
 one_writer h a v = record { header = record h { callers = 1; policy = Fixed }; items = Tx 0 (Write a v ∷ []) ∷ []; schedule = [] }
 

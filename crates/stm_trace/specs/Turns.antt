@@ -98,7 +98,8 @@ MaySay at Idle = IsOver at
 MaySay at Dropped = ⊥
 MaySay at Reopened = ⊥
 
--- once the schedule is over, until no attempt and no closing is open: an attempt that can't be cancelled goes on to its end
+-- once the schedule is over, until no attempt and no closing is open:
+-- an attempt that can't be cancelled goes on to its end
 abbrev pub MayWind : CallerProgress → Said → Type 0
 MayWind at Dropped = (at.phase ≡ Inside) × (irrevocable at ≡ false)
 MayWind at Reopened = (at.phase ≡ Closing) ⊎ (at.phase ≡ Quiet)

@@ -68,9 +68,9 @@ module _ (good : List ℕ → Type 0) (c : Config) (n : ℕ) where
       open_gate = grind (arith, nat_tests)
 
   -- what the descriptor kept of an earlier attempt is nothing to a begin
-  pub begins-fresh : (alg : Alg) (v w : View) (o p : Own) → o.reads_limit ≡ p.reads_limit → o.writes_limit ≡ p.writes_limit
+  pub begins-fresh : (alg : Alg) (v w : View) (o p : Own) → o.reads_limit ≡ p.reads_limit → o.writes_limit ≡ p.writes_limit → o.marks_limit ≡ p.marks_limit
       → BeginsAt good c n alg (known_of v p) (known_of w p) → BeginsAt good c n alg (known_of v o) (known_of w p)
-  begins-fresh alg v w o p reads writes b = let g = b.grows in record {
+  begins-fresh alg v w o p reads writes marks b = let g = b.grows in record {
     running = b.running;
     committing = b.committing;
     closing = b.closing;
@@ -86,6 +86,7 @@ module _ (good : List ℕ → Type 0) (c : Config) (n : ℕ) where
           step_trace = g.step_trace;
           reads_limit = g.reads_limit ∙ sym reads;
           writes_limit = g.writes_limit ∙ sym writes;
+          marks_limit = g.marks_limit ∙ sym marks;
           fenced = g.fenced;
         };
     gate = b.gate;
@@ -120,7 +121,7 @@ module _ (good : List ℕ → Type 0) (c : Config) (n : ℕ) where
         unlocked-of last.gate.algorithm v.lock.taken v.tml.writer out.clear.unlocked out.clear.unwritten,
       );
       made = refl;
-      grows = grows-same (known_of v o) (known_of last o) refl refl (record { place = Status n; act = Store 0; found = None } ∷ first_steps gate) refl refl refl refl;
+      grows = grows-same (known_of v o) (known_of last o) refl refl (record { place = Status n; act = Store 0; found = None } ∷ first_steps gate) refl refl refl refl refl;
       rises = refl;
       installs = refl;
       sole = λ one. absurd (let many = two who.0 n c.callers who.1 low who.2 in omega arith);
@@ -153,7 +154,7 @@ module _ (good : List ℕ → Type 0) (c : Config) (n : ℕ) where
     pub grows-looked : Grows (known_of v o) (known_of t o)
     grows-looked =
         subst (λ (y : View). Grows (known_of v o) (known_of y o)) (sym (looked-at gate v s t a l))
-        (grows-same (known_of v o) (known_of (looked a.0 l.0 v gate) o) refl refl (first_steps gate) refl refl refl refl)
+        (grows-same (known_of v o) (known_of (looked a.0 l.0 v gate) o) refl refl (first_steps gate) refl refl refl refl refl)
 
     pub found-gate : Found Gate gate (known_of v o) (known_of t o)
     found-gate = subst (λ (y : View). Found Gate gate (known_of v o) (known_of y o)) (sym (looked-at gate v s t a l)) (first_steps gate, refl, Load, (0, omega arith, refl))
@@ -219,7 +220,7 @@ module _ (good : List ℕ → Type 0) (c : Config) (n : ℕ) where
         );
         made = q.made ∙ same (λ y. (known_of y o).made);
         grows = grows-trans (known_of v o) (known_of u o) (known_of (view_after (depart n) d.0 u 0) o) (grows-trans (known_of v o) (known_of t o) (known_of u o) grows-looked q.grows)
-            (grows-same (known_of u o) (known_of (view_after (depart n) d.0 u 0) o) refl refl (record { place = Status n; act = Store 0; found = None } ∷ []) refl refl refl refl);
+            (grows-same (known_of u o) (known_of (view_after (depart n) d.0 u 0) o) refl refl (record { place = Status n; act = Store 0; found = None } ∷ []) refl refl refl refl refl);
         rises = q.rises ∙ same (λ y. y.steps.rises);
         installs = q.installs ∙ same (λ y. reverse y.steps.installs);
         sole = λ one. b.can.named ∙ knew one;

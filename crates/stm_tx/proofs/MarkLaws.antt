@@ -1,4 +1,5 @@
--- What a mark and its release come to in an attempt, under whichever algorithm: the write log has other marks, and as many are counted.
+-- What a mark and its release come to in an attempt, under whichever algorithm: the write log has other marks, and as
+-- many are counted.
 use Rattle.std.proofs.Common.{ℕ, zero, suc, ◌≡◌, ◌≤◌, ◌+◌, ◌-◌, List, [], ◌∷◌, ◌++◌, length, take, Bool, true, false, refl, sym, ap, ◌∙◌, arith, length-append}
 use Rattle.std.specs.Prelude.{replicate, ◌&&◌}
 use Rattle.std.proofs.lemmas.List.{length-replicate, take-replicate, length-take-le}

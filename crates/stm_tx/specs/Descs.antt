@@ -59,9 +59,9 @@ Serves acts_as v = acts_as v.alg v.granted ≡ (v.alg, v.granted)
 pub serves-on : (acts_as : Alg → Bool → Alg × Bool) (v w : CallerState) → w.alg ≡ v.alg → w.granted ≡ v.granted → Serves acts_as v → Serves acts_as w
 serves-on acts_as v w alg granted h = (λ j. acts_as (alg j) (granted j)) ∙ (h ∙ λ j. (sym alg j, sym granted j))
 
--- each log is as long as it was, or as was asked, if that is more
+-- each log is as long as it was, or as was asked, if that is more; and there may be as many marks as before
 abbrev pub Reserves : ℕ → ℕ → CallerState → CallerState → Type 0
-Reserves reads writes v w = (w.reads_limit ≡ max v.reads_limit reads) × (w.writes_limit ≡ max v.writes_limit writes)
+Reserves reads writes v w = (w.reads_limit ≡ max v.reads_limit reads) × (w.writes_limit ≡ max v.writes_limit writes) × (w.marks_limit ≡ v.marks_limit)
 
 module _ (good : List ℕ → Type 0) (c : Config) (n : ℕ) where
   -- an attempt was stopped there and so: what was known right before the refused call
@@ -71,7 +71,8 @@ module _ (good : List ℕ → Type 0) (c : Config) (n : ℕ) where
     pub running : before.running ≡ true
     pub stops : Stops good c n halt.at halt.stop before w
 
-  -- what a caller knows since it knew v: an attempt that goes on carries it; one that was stopped says where; and after that nothing changes
+  -- what a caller knows since it knew v: an attempt that goes on carries it; one that was stopped says where;
+  -- and after that nothing changes
   abbrev pub Since : Option Halt → CallerState → Option Halt → CallerState → Type 0
   Since None v None w = Carries v w
   Since None v (Some halt) w = Carries v w × StoppedAt halt v w

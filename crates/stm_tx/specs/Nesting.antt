@@ -10,7 +10,8 @@ use Rattle.tx_answers.specs.CallerState.{CallerState, is_irrevocable}
 abbrev pub live_marks : CallerState → ℕ
 live_marks v = if v.running && not v.committing then v.depth else 0
 
--- THE CHECKPOINT LAW: u was marked, the attempt went on from v to w and may have set further marks, and was rolled back to that mark
+-- THE CHECKPOINT LAW: u was marked, the attempt went on from v to w and may have set further marks,
+-- and was rolled back to that mark
 abbrev pub RollsToMark : (List ℕ → Type 0) → Type 0
 RollsToMark good =
     (c : Config) (n depth : ℕ) (u v w x : CallerState) → is_irrevocable u ≡ false → Checks (Marked depth) u v

@@ -1,6 +1,6 @@
 //! The calls of an attempt. Each takes a descriptor and its memory. None but `reserve` takes memory, none waits, and
-//! all return. Each adds no more atomic steps than its clause `steps` says: those of an attempt what the table `costs` has
-//! for its algorithm, whatever other callers do.
+//! all return. Each adds no more atomic steps than its clause `steps` says: those of an attempt what the table `costs`
+//! has for its algorithm, whatever other callers do.
 ghost use Rattle.stm_rule.specs.Counting.{TakesAtMost};
 ghost use Rattle.tx_answers.specs.Counting.{AddsAtMost};
 ghost use Rattle.stm_tx.specs.Costs.{costs};
@@ -124,7 +124,8 @@ fn begin_under<K: MemRule>(
 
 /// Reads the word at `a`: the attempt's last write of it, else what it read there before, else the memory at its
 /// start. It asks for a running attempt. All answers but a value end the attempt. Under OrecLazy and OrecEager the
-/// start moves, and the record of another word refuses it, only where that of `a` was found free and newer than the start.
+/// start moves, and the record of another word refuses it,
+/// only where that of `a` was found free and newer than the start.
 ///
 /// One step under CGL and Serial and in an attempt that was promoted; under TML two before the first write, and
 /// three or four where the attempt ends. Under OrecLazy and OrecEager none for a word that it wrote or read before,
@@ -173,14 +174,14 @@ pub fn write<K: MemRule>(desc: &mut Desc<K>, stm: &Stm<K>, a: usize, x: u64) -> 
     under!(desc.local.algorithm, A::write(desc, stm, a, x))
 }
 
-/// Commits the attempt. An attempt that wrote asks that it keeps the memory rule. Where it has written it rings the memory's
-/// bell at last, for each word that it wrote: one load while nobody waits, beside the steps. Where that was `heard`, who has
-/// a handle is to wake (`Bell::wake`).
+/// Commits the attempt. An attempt that wrote asks that it keeps the memory rule. Where it has written it rings the
+/// memory's bell at last, for each word that it wrote: one load while nobody waits, beside the steps. Where that was
+/// `heard`, who has a handle is to wake (`Bell::wake`).
 ///
 /// `Committed` comes only where the attempt wrote, `ReadOnly` only where it did not. All answers but `Again` leave
-/// the descriptor idle; after `Again` the attempt is to be committed again or cancelled. Under OrecLazy and OrecEager the
-/// start moves, and the record of a word that was only read refuses it, only after an earlier `Again`, or where the record
-/// of a word that it wrote was found free and newer than the start.
+/// the descriptor idle; after `Again` the attempt is to be committed again or cancelled. Under OrecLazy and OrecEager
+/// the start moves, and the record of a word that was only read refuses it, only after an earlier `Again`, or where the
+/// record of a word that it wrote was found free and newer than the start.
 ///
 /// Three steps at most under CGL, TML and Serial, five where the attempt was promoted, and one or two where it wrote
 /// nothing. Under OrecLazy three for each record and one for each word that it wrote, two, and a validation where
@@ -261,7 +262,7 @@ pub fn reserve<K: MemRule>(
         writes: longer_writes,
         locks,
         ..
-    } = Local::idle(alloc, reads, writes)?;
+    } = Local::idle(alloc, reads, writes, desc.local.writes.marks_limit())?;
     if desc.local.reads.len() < reads {
         desc.local.reads = longer_reads;
     }

@@ -1,17 +1,18 @@
 //! The end of a commit: who has written rings the memory's bell, as the last thing that it does.
 //!
-//! So no wake-up is lost. All steps on words and bell are sequentially consistent, in one order. Let a commit have written a
-//! word that a waiter read, and let s be the odd number that the waiter had announced before it read.
+//! So no wake-up is lost. All steps on words and bell are sequentially consistent, in one order. Let a commit have
+//! written a word that a waiter read, and let s be the odd number that the waiter had announced before it read.
 //!
 //! 1. Each algorithm keeps one version of a word, and has stored it before its commit returns; the ring comes after.
 //! 2. Where the ring's load precedes the announcement, what was stored precedes all that the waiter reads: it sees it.
-//! 3. Else the ring finds s or a later number. At s, with a stripe of its own, it adds 1; at a later one somebody did. The
-//!    number only rises, and the system compares it and queues the sleeper under the lock that the waking takes too.
-//! 4. Where the ring finds s and no stripe of its own, it is for no word that was announced; and who has read beyond what it
-//!    announced doesn't sleep, but announces more and looks again.
+//! 3. Else the ring finds s or a later number. At s, with a stripe of its own, it adds 1; at a later one somebody did.
+//!    The number only rises, and the system compares it and queues the sleeper under the lock that the waking takes
+//!    too.
+//! 4. Where the ring finds s and no stripe of its own, it is for no word that was announced; and who has read beyond
+//!    what it announced doesn't sleep, but announces more and looks again.
 //!
-//! An announcement whose exchange fails announces nothing, and that sleep ends at once. Where somebody `heard` the ring, who has
-//! a handle wakes it (`Bell::wake`), as tx_atomic does: else it looks again after ten milliseconds.
+//! An announcement whose exchange fails announces nothing, and that sleep ends at once. Where somebody `heard` the
+//! ring, who has a handle wakes it (`Bell::wake`), as tx_atomic does: else it looks again after ten milliseconds.
 ghost use Rattle.std.specs.Prelude.{◌≡◌, ℕ, ◌&&◌, true, false};
 ghost use Rattle.stm_model.specs.Algorithms.{closes_gate};
 ghost use Rattle.stm_rule.specs.Callers.{IsOf, IsSameCaller};
@@ -39,8 +40,8 @@ pub struct Finish<K: MemRule> {
     pub rung: Option<Rung<K>>,
 }
 
-/// Commits an attempt of this algorithm and rings, as `calls::commit` says. `granted` may be false only where it was not
-/// promoted.
+/// Commits an attempt of this algorithm and rings, as `calls::commit` says. `granted` may be false only where it was
+/// not promoted.
 #[inline(always)]
 pub(crate) fn commit_by<A: Algorithm, K: MemRule>(
     desc: &mut Desc<K>,
@@ -65,8 +66,8 @@ pub(crate) fn commit_by<A: Algorithm, K: MemRule>(
     finish_with(desc, stm, answer, logged)
 }
 
-/// Whether the write log has all that the attempt has written. It is asked before the commit: afterwards nothing tells. A
-/// constant where `granted` is one.
+/// Whether the write log has all that the attempt has written. It is asked before the commit: afterwards nothing tells.
+/// A constant where `granted` is one.
 #[inline(always)]
 fn logs_all<A: Algorithm, K: MemRule>(desc: &Desc<K>, granted: bool) -> bool
     requires running { (known desc.now).running ≡ true }

@@ -24,9 +24,9 @@ pub fn rest_is_answered<K: MemRule>()
         → InstalledIsLevel (K.good rule) (good_of K.good c rule) c }
 {}
 
-/// At most one attempt is irrevocable at a time: two callers whose attempts run and are irrevocable, by what the answers
-/// told of each, are one, in every world that meets the rule. An attempt that was not granted with the gate closed has
-/// the lock, or is TML's writer: its begin or its first write told so.
+/// At most one attempt is irrevocable at a time: two callers whose attempts run and are irrevocable, by what the
+/// answers told of each, are one, in every world that meets the rule. An attempt that was not granted with the gate
+/// closed has the lock, or is TML's writer: its begin or its first write told so.
 pub fn one_is_irrevocable<K: MemRule>()
     ensures { (rule : K) (c : Config) → OneIsFixed (K.good rule) (good_of K.good c rule) c }
 {}

@@ -94,8 +94,8 @@ impl<'a, K: MemRule, C: Calls> Live<'a, K, C> {
     }
 }
 
-/// Stops a run that nothing has proved where the memory has no word at `a`: the difference is checked there. Else it does
-/// nothing, in no time, since nobody reads the difference.
+/// Stops a run that nothing has proved where the memory has no word at `a`: the difference is checked there. Else it
+/// does nothing, in no time, since nobody reads the difference.
 #[inline(always)]
 fn address_within(words: usize, a: usize)
     requires { a < words }

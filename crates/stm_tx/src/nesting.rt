@@ -1,6 +1,6 @@
-//! Closed nesting by marks: the calls of a running attempt that mark where it stands, and roll it back to there. None of
-//! them takes memory, none waits, and all return. They leave the attempt running. Its marks end with its first commit
-//! call, and with the attempt.
+//! Closed nesting by marks: the calls of a running attempt that mark where it stands, and roll it back to there. None
+//! of them takes memory, none waits, and all return. They leave the attempt running. Its marks end with its first
+//! commit call, and with the attempt.
 ghost use Rattle.alg_calls.specs.Costs.{roll_steps};
 ghost use Rattle.std.specs.Prelude.{◌≡◌, ℕ, ◌≤◌, true, if◌then◌else◌, ◌&&◌, not, ◌+◌, length};
 ghost use Rattle.stm_rule.specs.Callers.{IsOf, IsSameCaller};
@@ -16,10 +16,10 @@ use stm_model::rule::MemRule;
 use stm_rule::desc::Desc;
 use stm_rule::stm::Stm;
 use tx_answers::answers::{Check, Roll};
-use tx_logs::write_log::MAX_MARKS;
 
-/// Makes a mark at what the attempt has written: `depth` counts those that stand. Once the attempt is irrevocable a mark
-/// is a number, since it can't be rolled back to. `Deep` comes exactly where 8 stand, and changes nothing. No step.
+/// Makes a mark at what the attempt has written: `depth` counts those that stand. Once the attempt is irrevocable a
+/// mark is a number, since it can't be rolled back to. `Deep` comes exactly where as many stand as the memory's
+/// `Config` says, and changes nothing. No step.
 pub fn checkpoint<K: MemRule>(desc: &mut Desc<K>) -> Check
     requires running { IsRunning (known desc.old) }
     ensures same { IsSameCaller desc.old desc.new }
@@ -27,8 +27,9 @@ pub fn checkpoint<K: MemRule>(desc: &mut Desc<K>) -> Check
     ensures steps { AddsAtMost 0 (known desc.old) (known desc.new) }
 {
     let depth = desc.local.depth;
-    if depth >= MAX_MARKS {
-        return Check::Deep { limit: MAX_MARKS };
+    let limit = desc.local.writes.marks_limit();
+    if depth >= limit {
+        return Check::Deep { limit };
     }
     let irrevocable = desc
         .local
@@ -44,8 +45,8 @@ pub fn checkpoint<K: MemRule>(desc: &mut Desc<K>) -> Check
 }
 
 /// Rolls the attempt back to mark `depth`: what it has written is what it had written there, and what it has read stays
-/// read. The mark stands, and those above it are gone. `Irrevocable` comes exactly where the attempt is irrevocable, and
-/// changes nothing. Under Serial and OrecEager one step for each word that the attempt has stored, else none;
+/// read. The mark stands, and those above it are gone. `Irrevocable` comes exactly where the attempt is irrevocable,
+/// and changes nothing. Under Serial and OrecEager one step for each word that the attempt has stored, else none;
 /// under OrecEager it goes on to hold the records of the words.
 pub fn roll_to<K: MemRule>(desc: &mut Desc<K>, stm: &Stm<K>, depth: usize) -> Roll
     requires stm { IsOf desc.old stm.now }
@@ -93,8 +94,8 @@ pub fn marks<K: MemRule>(desc: &Desc<K>) -> usize
     }
 }
 
-/// The law of a mark: where an attempt is marked, goes on, maybe with further marks, and is rolled back to that mark, what
-/// it has written is what it had written there.
+/// The law of a mark: where an attempt is marked, goes on, maybe with further marks, and is rolled back to that mark,
+/// what it has written is what it had written there.
 pub fn rolls_to_its_mark<K: MemRule>()
     ensures { (rule : K) → RollsToMark (K.good rule) }
 {}

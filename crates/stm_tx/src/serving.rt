@@ -68,8 +68,8 @@ pub trait Calls {
             (known desc.new) };
 }
 
-/// Serves all, and looks at each call which algorithm the attempt runs under. An access of CGL is one load or store, less
-/// than the call that looks the algorithm up, so it stands in line.
+/// Serves all, and looks at each call which algorithm the attempt runs under. An access of CGL is one load or store,
+/// less than the call that looks the algorithm up, so it stands in line.
 #[derive(Clone, Copy, Drop, Debug, PartialEq, Eq)]
 pub struct AnyAlgorithm;
 

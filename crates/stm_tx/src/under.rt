@@ -1,9 +1,9 @@
 //! The look-up of an algorithm's type by its name.
 
 /// A call by the type of the algorithm that the first argument names, in which `A` stands for the type:
-/// `under!(alg, A::read(desc, stm, a))`, `under!(alg, run::<A>(desc))` where the second type argument is to be found, or
-/// `under!(alg, run(Only::<A>::new(), desc))`. It is a `match` with an arm for each algorithm, so each call is direct. Who
-/// calls a function of the trait has `Algorithm` in scope.
+/// `under!(alg, A::read(desc, stm, a))`, `under!(alg, run::<A>(desc))` where the second type argument is to be found,
+/// or `under!(alg, run(Only::<A>::new(), desc))`. It is a `match` with an arm for each algorithm, so each call is
+/// direct. Who calls a function of the trait has `Algorithm` in scope.
 #[macro_export]
 macro_rules! under {
     ($alg:expr, A::$call:ident($($given:expr),*)) => {

@@ -10,8 +10,8 @@ use stm_tx::{ALGORITHMS, AnyMem};
 use tx_jobs::calls::Calls;
 use tx_jobs::job::Job;
 
-/// Caller 0 puts the values from 1 on into word 0, after a pause each; caller 1 takes them; any other installs an algorithm for
-/// each.
+/// Caller 0 puts the values from 1 on into word 0, after a pause each; caller 1 takes them; any other installs an
+/// algorithm for each.
 #[derive(Drop)]
 pub struct Hand<'a, R> {
     pub rt: &'a R,

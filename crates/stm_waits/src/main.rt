@@ -1,6 +1,7 @@
-//! `stm_waits ALGORITHM VALUES PAUSE [switches]`: one caller hands so many values to another, each after a pause of so many
-//! microseconds, and with `switches` a third installs one algorithm after the other meanwhile. For tools/hand-over and
-//! tools/wait-times. Status 1 where a value was lost, 2 where the words are no such line, 4 where memory is refused.
+//! `stm_waits ALGORITHM VALUES PAUSE [switches]`: one caller hands so many values to another, each after a pause of so
+//! many microseconds, and with `switches` a third installs one algorithm after the other meanwhile. For tools/hand-over
+//! and tools/wait-times. Status 1 where a value was lost, 2 where the words are no such line,
+//! 4 where memory is refused.
 #![tactic(auto)]
 
 mod hand;
@@ -37,7 +38,8 @@ fn asked<R: Env + AllocGlobal>(rt: &R) -> Option<Plan> {
     plan_of(words.as_slice())
 }
 
-/// Runs it, and prints how many nanoseconds after the one caller's commit the other's was, a line a value that was paused for.
+/// Runs it, and prints how many nanoseconds after the one caller's commit the other's was,
+/// a line a value that was paused for.
 fn run<R: AllocGlobal + Print + Threads + Wait + Clock + Sync>(rt: &R, plan: Plan) -> ExitCode {
     let Ok(since) = Instant::now(rt) else {
         return ExitCode::from(4);

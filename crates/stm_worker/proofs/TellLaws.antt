@@ -1,4 +1,5 @@
--- What follows of what a call tells: the numbers of its line, the clock's rises, the clock that was found full, and the installs.
+-- What follows of what a call tells: the numbers of its line, the clock's rises, the clock that was found full, and the
+-- installs.
 use Rattle.std.proofs.Common.{ℕ, ◌≡◌, ◌≤◌, ◌+◌, ◌^◌, Bool, true, false, List, [], ◌∷◌, ◌++◌, refl, sym, ap, ◌∙◌, arith, subst}
 use Rattle.std.proofs.lemmas.List.{append-nil}
 use Rattle.std.proofs.lemmas.List.Elements.{Contains-append_left}

@@ -766,6 +766,7 @@ outside d e same =
       kept = (known_of v e.own).kept;
       reads_limit = e.own.reads_limit;
       writes_limit = e.own.writes_limit;
+      marks_limit = e.own.marks_limit;
     }) (sym same) refl
 
 -- each call's turn
@@ -858,13 +859,13 @@ module _ {K : Type 0} (good : List ℕ → Type 0) (stm : Stm K) (u : Worker K) 
       → known d ≡ known u.desc → is_irrevocable (known u.desc) ≡ true → o ≡ record u.out { replies = u.out.replies ++ 0 ∷ [] }
       → Turned good stm MaySay u (TryCancel Irrevocable) (record u { desc = d; operations_left = r; out = o })
   turned-refused r o comes is knows certain told =
-      let grows = subst (Grows (known u.desc)) (sym knows) (grows-same (known u.desc) (known u.desc) refl refl [] refl refl refl refl) in
+      let grows = subst (Grows (known u.desc)) (sym knows) (grows-same (known u.desc) (known u.desc) refl refl [] refl refl refl refl refl) in
       turned-by good stm u s MaySay (TryCancel Irrevocable) _ stm.ranges (λ m. m) comes (runs-now good stm u s comes.0) (knows, certain) (refused-now good stm u s d same grows r o is told)
       (record { same = same; all = refl; regions = refl; policy = refl })
       (refused good stm u s d same grows r o comes is knows certain told)
 
   pub dropped-refused : u.phase ≡ Inside → known d ≡ known u.desc → is_irrevocable (known u.desc) ≡ true → Refused good stm u (record u { desc = d })
-  dropped-refused inside knows certain = refused-drop good stm u s d same (subst (Grows (known u.desc)) (sym knows) (grows-same (known u.desc) (known u.desc) refl refl [] refl refl refl refl)) inside knows certain
+  dropped-refused inside knows certain = refused-drop good stm u s d same (subst (Grows (known u.desc)) (sym knows) (grows-same (known u.desc) (known u.desc) refl refl [] refl refl refl refl refl)) inside knows certain
 
   pub turned-forced : u.phase ≡ Inside → is_forced (place_of u) ≡ true
       → answers.TriesIrrevocable good stm.config (caller_of u.desc.who.role) (known u.desc) (known d)

@@ -18,7 +18,8 @@ MayTurn at Dropped = MayWind at Dropped
 MayTurn at Reopened = MayWind at Reopened
 MayTurn at said = MaySay at said
 
--- from one place to another, h being the workload's header: each turn says what may be said there, with fair numbers, and leads where that leads
+-- from one place to another, h being the workload's header: each turn says what may be said there, with fair numbers,
+-- and leads where that leads
 abbrev pub Went : Header → CallerProgress → List Said → CallerProgress → Type 0
 Went h at [] to = at ≡ to
 Went h at (said ∷ more) to = MayTurn at said × IsFair h at said × Went h (after at said) more to

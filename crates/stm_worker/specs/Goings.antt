@@ -22,7 +22,8 @@ no_log = record { reads = []; writes = [] }
 abbrev pub no_replies : Output
 no_replies = record { replies = []; emits = []; room = 0 }
 
--- the rest of the script fits and has room, and what the attempt did so far is what the first operations of its script do, on every good memory that explains its log
+-- the rest of the script fits and has room, and what the attempt did so far is what the first operations of its script
+-- do, on every good memory that explains its log
 pub record Going (good : List ℕ → Type 0) (words : ℕ) (regions : List Region) (script rest : List Op) (v : CallerState) (alg : Alg) (granted : Bool) (out : Output) (wrote : Bool) : Type 0 where
   pub fits : ScriptFits regions words rest
   pub rule : ScriptKeeps good words regions rest

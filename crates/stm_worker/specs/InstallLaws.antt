@@ -99,7 +99,8 @@ noted-more os o =
     let since : min (min (length os) MOST_SINCE + 1) MOST_SINCE ≡ min (length (os ++ o ∷ [])) MOST_SINCE = grind (arith, nat_tests, all) in
     λ i. record { window = window i; since = since i }
 
--- while an attempt is open no switch is asked for, and a transaction comes next; and since: what the attempts came to since the caller last switched by its policy, which is nothing where it is to switch now
+-- while an attempt is open no switch is asked for, and a transaction comes next; and since: what the attempts came to
+-- since the caller last switched by its policy, which is nothing where it is to switch now
 abbrev pub NotedWith : Option Alg → List Outcome → Noted → Type 0
 NotedWith None since p = p ≡ profile_of since
 NotedWith (Some alg) since p = since ≡ []
@@ -277,9 +278,11 @@ reserve-first reads writes (Tx caller script ∷ items) b = absurd b
 reserve-first reads writes (Switch caller alg ∷ items) b = absurd b
 reserve-first reads writes (Reserve caller r w ∷ items) b = (caller, λ i. Reserve caller (b.0 i) (b.1 i) ∷ items)
 
--- after its course the caller stands at `to`; of what it had begun there these items are counted as done, with rows of these kinds
+-- after its course the caller stands at `to`; of what it had begun there these items are counted as done, with rows of
+-- these kinds
 module _ (h : Header) (cut done : Bool) (policy : Policy) (to : CallerProgress) (items : List Item) (kinds : List Kind) where
-  -- what a course to there installs, where these items and this switch come first, under this algorithm; must: whether the next attempts must become irrevocable
+  -- what a course to there installs, where these items and this switch come first, under this algorithm; must: whether
+  -- the next attempts must become irrevocable
   record Tells (knows : Alg) (since : List Outcome) (left : List Item) (rows : List Row) (chosen : Option Alg) (must : Bool) (course : List Said) : Type 0 where
     did : List Item
     more : List Kind
@@ -580,7 +583,8 @@ by-policy cut callers done (Round n) start items kinds installs a = a
 by-policy cut callers done Expert start items kinds installs a = a
 by-policy cut callers done (State n) start items kinds installs a = a
 
--- of a caller that had done nothing, where these are the first of its items, or these and the first operations of an attempt
+-- of a caller that had done nothing, where these are the first of its items,
+-- or these and the first operations of an attempt
 module _ (cut : Bool) (h : Header) (at to : CallerProgress) (course : List Said) (start end : Alg) (fresh : IsFresh at)
     (went : Went h at course to) (uncut : cut ≡ false → IsUncut course) (alone : h.callers ≡ 1 → Knows start course end) (first : List Item)
     (is : at.left ≡ first ++ to.left) where

@@ -1,5 +1,6 @@
--- WHICH INSTALLS ARE A CALLER'S: the switches of its items, and after a transaction the switch that its policy asks for. With one caller
--- alone these are determined but for one thing: whether a transaction's first attempt met a log that was too short.
+-- WHICH INSTALLS ARE A CALLER'S: the switches of its items, and after a transaction the switch that its policy asks
+-- for. With one caller alone these are determined but for one thing:
+-- whether a transaction's first attempt met a log that was too short.
 use Rattle.std.specs.Prelude.{ℕ, suc, ◌≡◌, ◌<◌, ◌≤◌, ◌⊎◌, ◌==◌, Bool, true, List, [], ◌∷◌, ◌++◌, map, All, Option, Some, None, if◌then◌else◌}
 use Rattle.stm_model.specs.declared.alg.Alg.{Alg}
 use Rattle.stm_profile.specs.declared.outcome.Outcome.{Outcome}
@@ -19,13 +20,15 @@ switches_of (Tx caller script ∷ items) = switches_of items
 switches_of (Switch caller alg ∷ items) = alg ∷ switches_of items
 switches_of (Reserve caller reads writes ∷ items) = switches_of items
 
--- the attempts of a transaction: what those came to that failed; and of the last one the algorithm that ran, and the kind of its row
+-- the attempts of a transaction: what those came to that failed; and of the last one the algorithm that ran, and the
+-- kind of its row
 pub record Tried : Type 0 where
   pub failed : List Outcome
   pub alg : Alg
   pub kind : Kind
 
--- an attempt that failed met a log that was too short, or another of so many callers: in a conflict, or as who has the gate, for whom it was cancelled. Where a schedule may end with it open (cut) that cancels it too
+-- an attempt that failed met a log that was too short, or another of so many callers: in a conflict, or as who has the
+-- gate, for whom it was cancelled. Where a schedule may end with it open (cut) that cancels it too
 abbrev pub IsFailure : Bool → ℕ → Outcome → Type 0
 IsFailure cut callers Committed = ⊥
 IsFailure cut callers ReadOnly = ⊥
@@ -42,7 +45,8 @@ fulls (Cancelled ∷ more) = fulls more
 fulls (Conflict ∷ more) = fulls more
 fulls (Full ∷ more) = suc (fulls more)
 
--- how the attempts of a transaction fail: after a log that was too short they are irrevocable, and need none. So with one caller, and no schedule, at most one fails
+-- how the attempts of a transaction fail: after a log that was too short they are irrevocable, and need none. So with
+-- one caller, and no schedule, at most one fails
 pub record IsTried (cut : Bool) (callers : ℕ) (t : Tried) : Type 0 where
   pub failures : All (IsFailure cut callers) t.failed
   pub once : fulls t.failed ≤ 1
@@ -73,9 +77,9 @@ abbrev pub last_of : Alg → List Alg → Alg
 last_of knows [] = knows
 last_of knows (alg ∷ more) = last_of alg more
 
--- THE INSTALLS of one of so many callers that does these items, whose transactions were tried so. knows: the algorithm that was installed
--- last; since: what its attempts came to since it last switched by its policy; due: the switch that its policy asks for, which comes before
--- the next item; done: whether it is done where no item comes
+-- THE INSTALLS of one of so many callers that does these items, whose transactions were tried so. knows: the algorithm
+-- that was installed last; since: what its attempts came to since it last switched by its policy; due: the switch that
+-- its policy asks for, which comes before the next item; done: whether it is done where no item comes
 abbrev pub installs_by : ℕ → Bool → Policy → Alg → List Outcome → List Alg → List Item → List Tried → List Alg
 installs_by callers done policy knows since due [] tried = if done then due else []
 installs_by callers done policy knows since due (Switch caller alg ∷ items) tried = due ++ alg ∷ installs_by callers done policy alg since [] items tried
@@ -92,7 +96,8 @@ abbrev pub Adapts : Bool → ℕ → Bool → Policy → Alg → List Outcome �
 Adapts cut callers done policy knows since due items kinds installs =
     (tried : List Tried) × All (IsTried cut callers) tried × (map (λ (t : Tried). t.kind) tried ≡ kinds) × (installs ≡ installs_by callers done policy knows since due items tried)
 
--- these are the installs of a caller that did these items from the start, under this algorithm, one of so many, with rows of these kinds; with a fixed policy nothing is installed but the switches
+-- these are the installs of a caller that did these items from the start, under this algorithm, one of so many, with
+-- rows of these kinds; with a fixed policy nothing is installed but the switches
 abbrev pub InstallsBy : Bool → ℕ → Bool → Policy → Alg → List Item → List Kind → List Alg → Type 0
 InstallsBy cut callers done Fixed start items kinds installs = installs ≡ switches_of items
 InstallsBy cut callers done (Round n) start items kinds installs = Adapts cut callers done (Round n) start [] [] items kinds installs

@@ -41,7 +41,8 @@ module _ {K : Type 0} (good : List ℕ → Type 0) (stm : Stm K) where
     pub calm : clock_of said ≡ None
     pub nothing_open : HasNothingOpen (place_of w)
 
--- what the caller made and installed when its descriptor was left idle: an attempt that can be cancelled makes no entry, and another at most the one of its log
+-- what the caller made and installed when its descriptor was left idle: an attempt that can be cancelled makes no
+-- entry, and another at most the one of its log
 pub record KeepsMade (good : List ℕ → Type 0) (c : Config) (n : ℕ) (v w : CallerState) : Type 0 where
   pub grows : Grows v w
   pub made : (w.made ≡ v.made) ⊎ ((v.running ≡ true) × (is_irrevocable v ≡ true) × ((time : ℕ) × CommitsAt good c n time v w))
@@ -54,12 +55,14 @@ BeginsNext first (Tx caller script ∷ left) did = (ops rest : List Op) × (scri
 BeginsNext first (Switch caller alg ∷ left) did = ⊥
 BeginsNext first (Reserve caller reads writes ∷ left) did = ⊥
 
--- of all items the first ones, after which these are left, and maybe the first operations of the transaction that comes next
+-- of all items the first ones, after which these are left,
+-- and maybe the first operations of the transaction that comes next
 abbrev pub IsPart : List Item → List Item → List Item → Type 0
 IsPart all left did = (first : List Item) × (all ≡ first ++ left) × ((did ≡ first) ⊎ BeginsNext first left did)
 
 module _ {K : Type 0} (good : List ℕ → Type 0) (stm : Stm K) where
-  -- what the caller has done: a part of its items, with a row for each transaction; an attempt that couldn't be cancelled, and so was committed, has that of the operations that it had done
+  -- what the caller has done: a part of its items, with a row for each transaction; an attempt that couldn't be
+  -- cancelled, and so was committed, has that of the operations that it had done
   pub record DidPart (v w : Worker K) : Type 0 where
     pub items : List Item
     pub part : IsPart v.all.now v.items_left.now items

@@ -1,4 +1,5 @@
--- THE LAW OF RISES: what a turn raises the clock by is covered, by an item that is done or by an attempt that is counted.
+-- THE LAW OF RISES: what a turn raises the clock by is covered,
+-- by an item that is done or by an attempt that is counted.
 use Rattle.std.proofs.Common.{ℕ, ◌≡◌, ◌<◌, ◌≤◌, ◌+◌, ◌*◌, Bool, true, false, List, [], ◌∷◌, length, refl, sym, ap, ◌∙◌, arith, subst}
 use Rattle.std.proofs.Math.Nat.{mul-add}
 use Rattle.std.proofs.lemmas.List.Elements.{All-head, All-tail}
@@ -52,7 +53,8 @@ same-uncovered at Dropped may = absurd may
 same-uncovered at Reopened may = absurd may
 
 module _ {K : Type 0} (good : List ℕ → Type 0) (stm : Stm K) (u : Worker K) (said : Said) (w : Worker K) (s : Sound good stm u) where
-  -- an attempt is counted until there have been 16: so many rises cover them, two more for the one that ends the item, and what was uncovered stays so
+  -- an attempt is counted until there have been 16: so many rises cover them, two more for the one that ends the item,
+  -- and what was uncovered stays so
   pub turned-covers-but : (uncovered each most : ℕ) → Turned good stm MaySay u said w → most_failed ≤ most → most + 3 ≤ each → CoversBut uncovered each most u → CoversBut (uncovered + uncovered_by said) each most w
   turned-covers-but uncovered each most t much wide covers =
       covered-there good stm MaySay u said w (uncovered + uncovered_by said) each most t

@@ -19,7 +19,8 @@ use Rattle.stm_worker.specs.Workers.{Sound, Turned}
 abbrev pub raised : CallerState → ℕ
 raised v = if v.running then v.base else v.rises
 
--- the attempts of the next transaction that failed raised it by at most one each, until one has failed that must not again
+-- the attempts of the next transaction that failed raised it by at most one each,
+-- until one has failed that must not again
 abbrev pub failed_rises : ℕ → ℕ → Bool → ℕ
 failed_rises most failed true = most
 failed_rises most failed false = failed
@@ -69,7 +70,8 @@ CoversWindingAfter each most (Some clock) w = CoversBut (dropped_of w.items_left
 abbrev pub AllowsOneMore : {K : Type 0} → ℕ → Worker K → Type 0
 AllowsOneMore most w = w.must ≡ false → w.failed + 1 ≤ most
 
--- the rises of a turn that nothing covers: those of an attempt that found the clock full, or was dropped after the schedule
+-- the rises of a turn that nothing covers: those of an attempt that found the clock full,
+-- or was dropped after the schedule
 abbrev pub uncovered_at : Option ℕ → ℕ
 uncovered_at None = 0
 uncovered_at (Some clock) = 1

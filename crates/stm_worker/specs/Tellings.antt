@@ -18,7 +18,7 @@ use Rattle.tx_answers.specs.declared.answers.Irrev.TheVariants.{Granted, Busy, T
 
 -- all is as it was but what is said of an attempt and of its logs, where none is open
 abbrev pub IsOutside : CallerState → CallerState → Type 0
-IsOutside v w = w ≡ record v { committing = w.committing; log = w.log; depth = w.depth; marks = w.marks; kept = w.kept; reads_limit = w.reads_limit; writes_limit = w.writes_limit }
+IsOutside v w = w ≡ record v { committing = w.committing; log = w.log; depth = w.depth; marks = w.marks; kept = w.kept; reads_limit = w.reads_limit; writes_limit = w.writes_limit; marks_limit = w.marks_limit }
 
 -- an operation of the script that comes next is no operation on the memory
 abbrev pub OnlyCalls : CallerProgress → Type 0

@@ -152,7 +152,8 @@ pub record IsKept {K : Type 0} (v w : Worker K) : Type 0 where
   pub regions : w.regions.now ≡ v.regions.now
   pub policy : w.policy ≡ v.policy
 
--- the same caller later: it took turns, and installed what they say. cut: whether an attempt may have been cancelled as a schedule was over
+-- the same caller later: it took turns, and installed what they say.
+-- cut: whether an attempt may have been cancelled as a schedule was over
 pub record IsSame {K : Type 0} (cut : Bool) (v w : Worker K) : Type 0 where
   pub kept : IsKept v w
   pub course : List Said
@@ -233,7 +234,8 @@ pub record DoneIrrev {K : Type 0} (v w : Worker K) : Type 0 where
   pub told : w.out ≡ record v.out { replies = v.out.replies ++ 1 ∷ [] }
   pub is : w ≡ record v { operations_left = w.operations_left; out = w.out; granted = true }
 
--- an open attempt: where it is in the middle of its commit its script is over; where it must become irrevocable and is not yet, it has done nothing
+-- an open attempt: where it is in the middle of its commit its script is over;
+-- where it must become irrevocable and is not yet, it has done nothing
 pub record IsUnderWay {K : Type 0} (good : List ℕ → Type 0) (words : ℕ) (w : Worker K) : Type 0 where
   pub going : Going good words w.regions.now (script_at w.items_left.now) w.operations_left.now (known w.desc) w.alg w.granted w.out w.wrote
   pub here : BeforeTx w.items_left.now
@@ -260,14 +262,16 @@ module _ {K : Type 0} (good : List ℕ → Type 0) (stm : Stm K) where
     pub plain : stm.config.fence ≡ false
     pub under_way : WhenInside w.phase (IsUnderWay good stm.config.words w)
 
-  -- a turn says what may come at its place, tells what its call found, by the numbers that its cause allows, and leads where that leads
+  -- a turn says what may come at its place, tells what its call found, by the numbers that its cause allows,
+  -- and leads where that leads
   pub record Turned (may : CallerProgress → Said → Type 0) (v : Worker K) (said : Said) (w : Worker K) : Type 0 where
     pub sound : Sound w
     pub here : may (place_of v) said
     pub told : Tells good stm.config (caller_of v.desc.who.role) said (known v.desc) (known w.desc)
     pub now : place_of w ≡ after (place_of v) said
     pub same : IsSame (is_cut said) v w
-    -- what follows of it: the numbers of its line, the clock's rises (by the attempt and not by the turn), the clock that was found full, and what was installed
+    -- what follows of it: the numbers of its line, the clock's rises (by the attempt and not by the turn), the clock
+    -- that was found full, and what was installed
     pub fair : (h : Header) → HasSizes stm.config h → IsFair h (place_of v) said
     pub owes : owed (known w.desc) ≤ owed (known v.desc) + 2
     pub found : MatchOption (clock_of said) (Unit {0}) (λ clock. (2 ^ 62 ≤ clock) × Loaded (known w.desc) clock)

@@ -7,7 +7,8 @@ use Rattle.stock_jobs.specs.declared.stock.Order.{Order}
 use Rattle.stock_jobs.specs.declared.stock.Order.TheVariants.{Reserve, Release, Sell}
 use Rattle.stock_jobs.specs.declared.stock.Supply.{Supply}
 
--- THE RULE: of each item, what is in stock and what was sold add up to what was supplied, and no more is reserved than is in stock
+-- THE RULE: of each item, what is in stock and what was sold add up to what was supplied,
+-- and no more is reserved than is in stock
 abbrev pub IsStocked : List ℕ → Type 0
 IsStocked m = (item : ℕ) → item < 16 → (slice_index m (16 + item) + slice_index m (48 + item) ≡ slice_index m item) × (slice_index m (32 + item) ≤ slice_index m (16 + item))
 

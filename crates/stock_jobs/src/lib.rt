@@ -1,5 +1,5 @@
-//! One caller supplies items, and three reserve, release and sell them, each on a thread of its own. It stands on no engine:
-//! `example_stock` runs it.
+//! One caller supplies items, and three reserve, release and sell them, each on a thread of its own. It stands on no
+//! engine: `example_stock` runs it.
 #![tactic(auto)]
 
 ghost use Rattle.std.specs.Prelude.{◌<◌};

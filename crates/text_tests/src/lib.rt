@@ -1,5 +1,5 @@
-//! Tests of stm_text: which texts are workloads of version 1 and of version 2, where the first fault of the others is, how
-//! a text is parted at `done`, and how reports are written.
+//! Tests of stm_text: which texts are workloads of version 1 and of version 2, where the first fault of the others is,
+//! how a text is parted at `done`, and how reports are written.
 #![tactic(auto)]
 
 #[cfg(test)]

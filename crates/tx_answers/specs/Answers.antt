@@ -24,7 +24,6 @@ use Rattle.tx_answers.specs.declared.answers.Check.TheVariants.{Marked, Deep}
 use Rattle.tx_answers.specs.declared.answers.Roll.{Roll}
 use Rattle.tx_answers.specs.declared.answers.Roll.TheVariants.{Rolled}
 use Rattle.tx_answers.specs.declared.answers.Roll.TheVariants as rolls
-use Rattle.tx_logs.specs.declared.marks.TheConstants.{MAX_MARKS}
 use Rattle.tx_answers.specs.declared.answers.CloseGate.{CloseGate}
 use Rattle.tx_answers.specs.declared.answers.CloseGate.TheVariants as gates
 use Rattle.tx_answers.specs.declared.answers.Commit.{Commit}
@@ -65,8 +64,8 @@ start_word OrecEager = Clock
 start_word RingSw = Done
 start_word Serial = Clock
 
--- how a start moves in a call: not at all; where a validation was owed, to a clock that was loaded and up to which all reads are valid; where the clock was no
--- longer the start, up to DONE, within the clock
+-- how a start moves in a call: not at all; where a validation was owed, to a clock that was loaded and up to which all
+-- reads are valid; where the clock was no longer the start, up to DONE, within the clock
 abbrev pub StartMoves : Config → Asked → Alg → CallerState → CallerState → Type 0
 StartMoves c asked Cgl v w = w.start ≡ v.start
 StartMoves c asked Tml v w = w.start ≡ v.start
@@ -75,7 +74,8 @@ StartMoves c asked OrecEager v w = (w.start ≡ v.start) ⊎ (Found Clock w.star
 StartMoves c asked RingSw v w = ((w.start ≡ v.start) × FindsStart v w) ⊎ ((clock done : ℕ) × Found Clock clock v w × Found Done done v w × (w.start ≡ max v.start (min done clock)))
 StartMoves c asked Serial v w = w.start ≡ v.start
 
--- by how much at most a call raises the clock that leaves the attempt open: TML's first write makes it odd, and the attempt irrevocable
+-- by how much at most a call raises the clock that leaves the attempt open: TML's first write makes it odd,
+-- and the attempt irrevocable
 abbrev pub write_rise : Alg → Bool → ℕ
 write_rise Cgl irrevocable = 0
 write_rise Tml true = 0
@@ -93,7 +93,8 @@ WritesLocked w = w.alg ≡ Tml → w.granted ≡ false → w.locked ≡ true
 abbrev pub kept_with : ℕ → CallerState → List ℕ
 kept_with a v = if not (logs_writes v.alg) || (is_irrevocable v || member v.kept a) then v.kept else v.kept ++ a ∷ []
 
--- what has an item after a roll back to where this was written: an undo log keeps its items, a write log has those of its mark
+-- what has an item after a roll back to where this was written: an undo log keeps its items,
+-- a write log has those of its mark
 abbrev pub kept_rolled : Alg → List ℕ → List (ℕ × ℕ) → List ℕ
 kept_rolled Cgl kept writes = kept
 kept_rolled Tml kept writes = kept
@@ -155,8 +156,8 @@ pub record IsMarked (v w : CallerState) : Type 0 where
 
 -- what `checkpoint` tells
 abbrev pub Checks : Check → CallerState → CallerState → Type 0
-Checks (Marked depth) v w = (v.depth < MAX_MARKS) × (depth ≡ v.depth + 1) × IsMarked v w
-Checks (Deep limit) v w = (MAX_MARKS ≤ v.depth) × (limit ≡ MAX_MARKS) × (w ≡ v)
+Checks (Marked depth) v w = (v.depth < v.marks_limit) × (depth ≡ v.depth + 1) × IsMarked v w
+Checks (Deep limit) v w = (v.marks_limit ≤ v.depth) × (limit ≡ v.marks_limit) × (w ≡ v)
 
 -- what `release` from mark d on does: the writes stay
 pub record Releases (d : ℕ) (v w : CallerState) : Type 0 where
@@ -209,7 +210,8 @@ module _ (good : List ℕ → Type 0) (c : Config) (n : ℕ) where
   abbrev pub HasOthers : Type 0
   HasOthers = 1 < c.callers
 
-  -- it has read only the memory at its start, after what it has seen, which is a legal history; and a good memory explains what it read
+  -- it has read only the memory at its start, after what it has seen, which is a legal history;
+  -- and a good memory explains what it read
   pub record IsOpaque (w : CallerState) : Type 0 where
     pub legal : IsLegal good (zeros c.words) c.clock w.seen
     pub reach : w.start ≤ w.front
@@ -353,7 +355,8 @@ module _ (good : List ℕ → Type 0) (c : Config) (n : ℕ) where
     pub found : Found (Status k) status v w
     pub before : (j : ℕ) → j < k → j ≢ n → member w.checked j ≡ true
 
-  -- the attempt is irrevocable now: it was so before, and nothing changed; or its start is the clock, and but under Serial it has closed the gate and is alone
+  -- the attempt is irrevocable now: it was so before, and nothing changed; or its start is the clock, and but under
+  -- Serial it has closed the gate and is alone
   pub record TriesIrrevocable (v w : CallerState) : Type 0 where
     pub continues : Continues v w
     pub still : w.rises ≡ v.rises

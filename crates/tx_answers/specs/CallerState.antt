@@ -48,7 +48,8 @@ pub record CallerState : Type 0 where
   pub alg : Alg
   -- the fence of the gate that it loaded last, 0 for none
   pub fence : ℕ
-  -- the callers that it has seen idle since it closed the gate; and whether it installed since: BASE and DONE are the clock
+  -- the callers that it has seen idle since it closed the gate; and whether it installed since:
+  -- BASE and DONE are the clock
   pub checked : List ℕ
   pub settled : Bool
   -- the attempt was made irrevocable in flight
@@ -66,11 +67,13 @@ pub record CallerState : Type 0 where
   -- how many marks stand; and while the attempt can be taken back, what it had written at each, the oldest first
   pub depth : ℕ
   pub marks : List (List (ℕ × ℕ))
-  -- the addresses that have an item in its write or undo log, the oldest first: a roll back takes none out of an undo log
+  -- the addresses that have an item in its write or undo log, the oldest first:
+  -- a roll back takes none out of an undo log
   pub kept : List ℕ
-  -- how many items its read log, and its write or undo log, may have
+  -- how many items its read log, and its write or undo log, may have; and how many marks may stand
   pub reads_limit : ℕ
   pub writes_limit : ℕ
+  pub marks_limit : ℕ
   pub fenced : Fenced
   -- it holds the lock, beside which nobody else has it: the lock word, or under TML the odd clock
   pub locked : Bool
@@ -126,7 +129,8 @@ locked_under OrecEager taken writer = taken
 locked_under RingSw taken writer = taken
 locked_under Serial taken writer = taken
 
--- what an attempt wrote: it lies in the heap, under a record that it holds, or still with the descriptor; once granted in the heap
+-- what an attempt wrote: it lies in the heap, under a record that it holds, or still with the descriptor; once granted
+-- in the heap
 abbrev pub written_under : Alg → Bool → View → Own → List (ℕ × ℕ)
 written_under Cgl granted v own = items v.attempt.stores
 written_under Tml granted v own = items v.attempt.stores
@@ -138,7 +142,8 @@ written_under RingSw false v own = items own.buffered
 written_under RingSw true v own = items v.attempt.stores
 written_under Serial granted v own = items v.attempt.stores
 
--- the addresses with an item in the log that limits what the attempt may write: the write log of who buffers, the undo log of who stores in place
+-- the addresses with an item in the log that limits what the attempt may write: the write log of who buffers,
+-- the undo log of who stores in place
 abbrev pub kept_under : Alg → View → Own → List ℕ
 kept_under Cgl v own = []
 kept_under Tml v own = []
@@ -183,6 +188,7 @@ known_of v own = record {
   kept = kept_under v.gate.algorithm v own;
   reads_limit = own.reads_limit;
   writes_limit = own.writes_limit;
+  marks_limit = own.marks_limit;
   fenced = fenced_of v.fence;
   locked = locked_under v.gate.algorithm v.lock.taken v.tml.writer;
 }
@@ -234,7 +240,8 @@ is_irrevocable v = irrevocable_under v.alg v.granted (wrote v)
 abbrev pub owed : CallerState → ℕ
 owed v = if v.running then v.base + 2 else v.rises
 
--- it has seen at least as much, up to a later front: what it saw before begins what it sees now; its step trace has grown, its logs are as long as they were, and its fence is as it was
+-- it has seen at least as much, up to a later front: what it saw before begins what it sees now; its step trace has
+-- grown, its logs are as long as they were, with room for as many marks, and its fence is as it was
 pub record Grows (v w : CallerState) : Type 0 where
   pub later : List Entry
   pub is : w.seen ≡ v.seen ++ later
@@ -245,4 +252,5 @@ pub record Grows (v w : CallerState) : Type 0 where
   pub step_trace : w.step_trace ≡ more ++ v.step_trace
   pub reads_limit : w.reads_limit ≡ v.reads_limit
   pub writes_limit : w.writes_limit ≡ v.writes_limit
+  pub marks_limit : w.marks_limit ≡ v.marks_limit
   pub fenced : w.fenced ≡ v.fenced

@@ -43,8 +43,8 @@ pub record Carries (v w : CallerState) : Type 0 where
   pub irrevocable : v.running ≡ true → is_irrevocable v ≡ true → (w.running ≡ true) × (is_irrevocable w ≡ true)
 
 pub grows-same : (v w : CallerState) → w.seen ≡ v.seen → w.front ≡ v.front → (more : List TracedStep) → w.step_trace ≡ more ++ v.step_trace
-    → w.reads_limit ≡ v.reads_limit → w.writes_limit ≡ v.writes_limit → w.fenced ≡ v.fenced → Grows v w
-grows-same v w s f more t r l e = record { later = []; is = s ∙ sym (append-nil v.seen); ascending = tt; up_to = tt; front_rose = omega arith; more = more; step_trace = t; reads_limit = r; writes_limit = l; fenced = e }
+    → w.reads_limit ≡ v.reads_limit → w.writes_limit ≡ v.writes_limit → w.marks_limit ≡ v.marks_limit → w.fenced ≡ v.fenced → Grows v w
+grows-same v w s f more t r l m e = record { later = []; is = s ∙ sym (append-nil v.seen); ascending = tt; up_to = tt; front_rose = omega arith; more = more; step_trace = t; reads_limit = r; writes_limit = l; marks_limit = m; fenced = e }
 
 pub ascending-append : (a b : ℕ) (xs ys : List Entry) → Ascending a xs → Within b xs → a ≤ b → Ascending b ys → Ascending a (xs ++ ys)
 ascending-append a b [] [] h u le k = tt
@@ -68,6 +68,7 @@ grows-trans u v w a b =
       step_trace = b.step_trace ∙ (ap (λ t. b.more ++ t) a.step_trace ∙ sym (append_assoc b.more a.more u.step_trace));
       reads_limit = b.reads_limit ∙ a.reads_limit;
       writes_limit = b.writes_limit ∙ a.writes_limit;
+      marks_limit = b.marks_limit ∙ a.marks_limit;
       fenced = b.fenced ∙ a.fenced;
     }
 
@@ -75,7 +76,7 @@ pub carries-refl : (v : CallerState) → Carries v v
 carries-refl v =
     record {
       made = refl;
-      grows = grows-same v v refl refl [] refl refl refl refl;
+      grows = grows-same v v refl refl [] refl refl refl refl refl;
       closing = refl;
       alg = refl;
       installs = refl;

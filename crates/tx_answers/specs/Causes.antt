@@ -49,7 +49,8 @@ module _ (c : Config) where
   abbrev pub FindsNewer : ℕ → CallerState → CallerState → Type 0
   FindsNewer a v w = (word : ℕ) × Found (Record (a % c.records)) word v w × (is_owned word ≡ false) × (v.start < version_of word)
 
-  -- A VALIDATION IS OWED where the record of the word asked for was newer; in a commit where that of a word written was, or the call before answered Again; in each promotion
+  -- A VALIDATION IS OWED where the record of the word asked for was newer; in a commit where that of a word written
+  -- was, or the call before answered Again; in each promotion
   abbrev pub OwesValidation : Asked → CallerState → CallerState → Type 0
   OwesValidation (ForWord a) v w = FindsNewer a v w
   OwesValidation ToCommit v w = (v.committing ≡ true) ⊎ ((a : ℕ) × (has_item a v.log.writes ≡ true) × FindsNewer a v w)
@@ -80,7 +81,8 @@ module _ (c : Config) (n : ℕ) where
   IsStaleAt start word = IsAnothers word ⊎ ((is_owned word ≡ false) × (start < version_of word))
 
   module _ (asked : Asked) where
-    -- the record is in the way: the call needs it, and another caller owns it; or a validation was owed, and it vouches no more for a word that was read
+    -- the record is in the way: the call needs it, and another caller owns it; or a validation was owed, and it vouches
+    -- no more for a word that was read
     abbrev pub IsInTheWay : ℕ → ℕ → CallerState → CallerState → Type 0
     IsInTheWay index word v w = (Needs c asked index v × IsAnothers word) ⊎ (OwesValidation c asked v w × IsOfRead c index v × IsStaleAt v.start word)
 
@@ -106,7 +108,8 @@ module _ (c : Config) (n : ℕ) where
     Conflicts (causes.Filter time bits) v w = (v.alg ≡ RingSw) × FindsFirst c.ring v.start (read_filter v.log.reads) time bits v w
     Conflicts (causes.Overrun start clock) v w = (v.alg ≡ RingSw) × (start ≡ v.start) × Found Clock clock v w × (start + c.ring ≤ clock)
 
-  -- another commit was faster: the exchange of the clock from the start found another number, which after an earlier Again was loaded in this call; or the lock was another caller's
+  -- another commit was faster: the exchange of the clock from the start found another number, which after an earlier
+  -- Again was loaded in this call; or the lock was another caller's
   abbrev pub IsAgain : ℕ → ℕ → ℕ → CallerState → CallerState → Type 0
   IsAgain word had now v w =
       ((word ≡ 0) × (has_records v.alg ≡ true) × (had ≡ w.start) × Refused Clock had now v w × (v.committing ≡ true → Found Clock had v w))

@@ -52,7 +52,8 @@ pub record FoundAsWas (place : At) (n : ℕ) (v w : CallerState) : Type 0 where
   pub step_trace : w.step_trace ≡ late ++ record { place = place; act = act; found = Some n } ∷ (early ++ v.step_trace)
   pub untouched : Untouched place early
 
--- a load between the two found one number at this place, and a later load, or exchange that wanted the first one, another: no own step in between had changed it
+-- a load between the two found one number at this place, and a later load, or exchange that wanted the first one,
+-- another: no own step in between had changed it
 pub record FoundMoved (place : At) (before after : ℕ) (v w : CallerState) : Type 0 where
   pub apart : before ≢ after
   pub early : List TracedStep

@@ -66,7 +66,8 @@ module _ (good : List ℕ → Type 0) (c : Config) (n : ℕ) where
   Fences from count fences.Fenced v w = TakesRange from count v w
   Fences from count (fences.Taken gate) v w = (w ≡ v) × (v.fence ≢ 0) × (gate ≡ gate_word v.fence (1 + n) v.alg)
 
-  -- what `direct_read` of a tells: the caller's last direct write there; where there is none, the memory as it took the range, which it logs
+  -- what `direct_read` of a tells: the caller's last direct write there; where there is none,
+  -- the memory as it took the range, which it logs
   pub record ReadsDirect (a x : ℕ) (v w : CallerState) : Type 0 where
     pub stays : StaysBeside v w
     pub range : w.fenced ≡ record v.fenced { log = record v.fenced.log { reads = w.fenced.log.reads } }
@@ -79,12 +80,14 @@ module _ (good : List ℕ → Type 0) (c : Config) (n : ℕ) where
     pub stays : StaysBeside v w
     pub range : w.fenced ≡ record v.fenced { log = record v.fenced.log { writes = put a x v.fenced.log.writes } }
 
-  -- what `give_back` asks where there were direct writes: from every good memory of words with the values that stood in the range as it was taken, they lead to a good one
+  -- what `give_back` asks where there were direct writes: from every good memory of words with the values that stood in
+  -- the range as it was taken, they lead to a good one
   abbrev pub KeepsFenced : CallerState → Type 0
   KeepsFenced v = is_empty v.fenced.log.writes ≡ false → (m : List ℕ) → good m → length m ≡ c.words
       → ((a : ℕ) → fenced v.fenced.number a ≡ true → slice_index m a ≡ slice_index (memory_taken v) a) → AreWords m → good (overlay m v.fenced.log.writes)
 
-  -- the direct reads and writes are one entry of the caller, the latest of a legal history, and the range is back. What it found as it took the range begins that history, all of which it knows of its range now.
+  -- the direct reads and writes are one entry of the caller, the latest of a legal history, and the range is back. What
+  -- it found as it took the range begins that history, all of which it knows of its range now.
   pub record GivesAt (time : ℕ) (v w : CallerState) : Type 0 where
     pub closed : StaysClosed v w
     pub none : HasNone w
@@ -110,7 +113,8 @@ module _ (good : List ℕ → Type 0) (c : Config) (n : ℕ) where
     pub front : w.front ≡ v.front
     pub rises : w.rises ≡ v.rises
 
-  -- what `give_back` tells: Unchanged comes exactly where there was no direct write, and ClockFull leaves the range to the caller
+  -- what `give_back` tells: Unchanged comes exactly where there was no direct write,
+  -- and ClockFull leaves the range to the caller
   abbrev pub Gives : Give → CallerState → CallerState → Type 0
   Gives (gives.Committed time) v w = GivesAt time v w
   Gives gives.Unchanged v w = GivesNothing v w × HasNone w × (is_empty v.fenced.log.writes ≡ true) × SameTaken v w

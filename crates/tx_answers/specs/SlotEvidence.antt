@@ -22,7 +22,8 @@ module _ (ring : ℕ) (filter : ℕ → ℕ) (loads : List TracedStep) where
   abbrev pub LoadsWord : ℕ → ℕ → ℕ → Type 0
   LoadsWord time i x = InStepTrace loads (Slot (time % ring * SLOT_WORDS + i)) x
 
-  -- all words of a part of the slot were loaded, and none has a bit of the filter: whatever its other words are, it doesn't meet the filter
+  -- all words of a part of the slot were loaded, and none has a bit of the filter: whatever its other words are,
+  -- it doesn't meet the filter
   pub record Misses (time : ℕ) : Type 0 where
     pub slot : ℕ → ℕ
     pub part : ℕ
@@ -30,7 +31,8 @@ module _ (ring : ℕ) (filter : ℕ → ℕ) (loads : List TracedStep) where
     pub loaded : (i : ℕ) → 4 * part ≤ i → i < 4 * part + 4 → LoadsWord time i (slot i)
     pub none : part_meets filter slot part ≡ false
 
-  -- the slot meets the filter by words that were loaded; bits are the common ones of the lowest word that has any, and each word up to that one was loaded
+  -- the slot meets the filter by words that were loaded; bits are the common ones of the lowest word that has any, and
+  -- each word up to that one was loaded
   pub record Meets (time bits : ℕ) : Type 0 where
     pub slot : ℕ → ℕ
     pub loaded : (i : ℕ) → i < SLOT_WORDS → slot i ≢ 0 → LoadsWord time i (slot i)
@@ -49,7 +51,8 @@ pub record FirstMet (ring start clock : ℕ) (filter : ℕ → ℕ) (time bits :
   pub meets : Meets ring filter loads time bits
   pub least : (e : ℕ) → start < e → e < time → Misses ring filter loads e
 
--- the slots were loaded between two loads of the clock: none of a time past the first, none that a later entry had taken by the second
+-- the slots were loaded between two loads of the clock: none of a time past the first,
+-- none that a later entry had taken by the second
 pub record FindsFirst (ring start : ℕ) (filter : ℕ → ℕ) (time bits : ℕ) (v w : CallerState) : Type 0 where
   pub early : List TracedStep
   pub clock : ℕ

@@ -1,4 +1,5 @@
-//! The answers of the calls of an attempt and of the gate. Clocks, times, starts and words of the memory's table are `u64`.
+//! The answers of the calls of an attempt and of the gate. Clocks, times, starts and words of the memory's table are
+//! `u64`.
 use stm_model::alg::Alg;
 use stm_model::stop::Cause;
 

@@ -1,7 +1,7 @@
 //! A law of the definitions, as the contract of a function.
 ghost use Rattle.tx_answers.specs.Limits.{LimitsAre};
 
-/// An attempt may have eight marks, and a slot of the ring has sixteen words.
+/// A slot of the ring has sixteen words.
 pub fn limits_are()
     ensures { LimitsAre }
 {}

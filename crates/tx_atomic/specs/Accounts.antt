@@ -1,4 +1,5 @@
--- What a caller keeps of its attempts: what was counted of them, and what its observer was told.
+-- What a caller keeps of its attempts: what was counted of them, and what its observer was told; and how long its logs
+-- may become.
 use Rattle.std.specs.Prelude.{ℕ, zero, suc, Bool, true, false, Option, Some, None}
 use Rattle.tx_atomic.specs.declared.pace.Pacing.{Pacing}
 use Rattle.tx_atomic.specs.declared.tally.Ended.{Ended}
@@ -9,9 +10,11 @@ pub record Account (H : Type 0) : Type 0 where
   pub tally : Tally
   -- what the observer knows of what it was told
   pub heard : H
+  -- up to which length they are lengthened, 0 where they aren't
+  pub most : ℕ
 
 abbrev pub account : {O H : Type 0} → (O → H) → Pacing O → Account H
-account heard p = record { tally = p.tally; heard = heard p.observer }
+account heard p = record { tally = p.tally; heard = heard p.observer; most = p.growth.most }
 
 module _ {H : Type 0} where
   -- an attempt that committed was counted, or one that ended so

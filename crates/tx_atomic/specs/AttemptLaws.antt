@@ -21,6 +21,8 @@ use Rattle.tx_answers.specs.CallerStateLaws.{grows-trans}
 use Rattle.stm_tx.specs.declared.live.Halt.{Halt}
 use Rattle.stm_tx.specs.Descs.{Since, number, stop_of}
 use Rattle.tx_atomic.specs.Attempts.{TookEffect}
+use Rattle.tx_atomic.specs.Extends.{Extends}
+use Rattle.tx_atomic.specs.ExtendsLaws.{extends-trans, grows-extends}
 
 -- no call changes a caller's number
 pub same-number : {K : Type 0} (d e : Handle K) → IsSameCaller d e → number e ≡ number d
@@ -35,7 +37,7 @@ took-by good c n tells answer from u v w told made grows later commits (inl p) =
       before = v;
       told = told;
       made = made;
-      grows = grows;
+      grows = grows-extends u v grows;
       later = later;
       time = p.0;
       commits = inl (subst (λ r. Commits good c n r v w) p.1 commits);
@@ -45,7 +47,7 @@ took-by good c n tells answer from u v w told made grows later commits (inr p) =
       before = v;
       told = told;
       made = made;
-      grows = grows;
+      grows = grows-extends u v grows;
       later = later;
       time = p.0;
       commits = inr (subst (λ r. Commits good c n r v w) p.1 commits);
@@ -53,12 +55,12 @@ took-by good c n tells answer from u v w told made grows later commits (inr p) =
 
 -- what took effect since v did so since u, from which v came without an entry
 pub took-since : (good : List ℕ → Type 0) (c : Config) (n : ℕ) (tells : Log → Type 0) (late early : ℕ) (u v w : CallerState)
-    → v.made ≡ u.made → Grows u v → early ≤ late → TookEffect good c n tells late v w → TookEffect good c n tells early u w
+    → v.made ≡ u.made → Extends u v → early ≤ late → TookEffect good c n tells late v w → TookEffect good c n tells early u w
 took-since good c n tells late early u v w made grows le t = record {
   before = t.before;
   told = t.told;
   made = t.made ∙ made;
-  grows = grows-trans u v t.before grows t.grows;
+  grows = extends-trans u v t.before grows t.grows;
   later = (let h = t.later in omega (arith, h, le));
   time = t.time;
   commits = t.commits;

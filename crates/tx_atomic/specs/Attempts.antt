@@ -6,9 +6,10 @@ use Rattle.stm_model.specs.declared.stop.Stop.TheVariants as stops
 use Rattle.stm_model.specs.Logs.{Log, Keeps}
 use Rattle.tx_answers.specs.declared.answers.Commit.TheVariants.{Committed, ReadOnly}
 use Rattle.tx_answers.specs.Answers.{Commits}
-use Rattle.tx_answers.specs.CallerState.{CallerState, Grows, IsRunning, no_log}
+use Rattle.tx_answers.specs.CallerState.{CallerState, IsRunning, no_log}
 use Rattle.tx_atomic.specs.declared.tally.Ended.{Ended}
 use Rattle.tx_atomic.specs.declared.tally.Ended.TheVariants as ends
+use Rattle.tx_atomic.specs.Extends.{Extends}
 
 -- it has done nothing, and may read and write everywhere
 abbrev pub IsFresh : CallerState → Type 0
@@ -24,13 +25,13 @@ ended_by (stops.Conflict cause) = ends.Conflict cause
 ended_by (stops.Full limit) = ends.Full
 ended_by (stops.ClockFull clock) = ends.ClockFull
 
--- from u to w one attempt took effect, and its commit was the last call: what it had read and written is such a log, and no attempt before
--- it left an entry; it knew all that u had seen, and its start is no earlier than this
+-- from u to w one attempt took effect, and its commit was the last call: what it had read and written is such a log,
+-- and no attempt before it left an entry; it knew all that u had seen, and its start is no earlier than this
 pub record TookEffect (good : List ℕ → Type 0) (c : Config) (n : ℕ) (tells : Log → Type 0) (from : ℕ) (u w : CallerState) : Type 0 where
   pub before : CallerState
   pub told : tells before.log
   pub made : before.made ≡ u.made
-  pub grows : Grows u before
+  pub grows : Extends u before
   pub later : from ≤ before.start
   pub time : ℕ
   pub commits : Commits good c n (Committed time) before w ⊎ Commits good c n (ReadOnly time) before w

@@ -8,9 +8,10 @@ use Rattle.stm_model.specs.Histories.{made_by}
 use Rattle.stm_rule.specs.Callers.{Handle, IsOf, AllOpened, AllIdle, BeginsHistory}
 use Rattle.stm_rule.specs.Closings.{AllTold, Ended}
 use Rattle.stm_tx.specs.Descs.{known}
-use Rattle.tx_answers.specs.CallerState.{Grows, IsIdle, known_of}
-use Rattle.tx_answers.specs.CallerStateLaws.{carries-refl, grows-trans}
+use Rattle.tx_answers.specs.CallerState.{IsIdle, known_of}
 use Rattle.tx_atomic.specs.Callers.{IsReady, IsThrough, HasWorked, AllReady}
+use Rattle.tx_atomic.specs.Extends.{Extends}
+use Rattle.tx_atomic.specs.ExtendsLaws.{extends-refl, extends-trans}
 
 -- what a slice that was lent whole left
 written : {A : Type 0} (n : ℕ) (xs ys : List A) → length xs ≡ n → length ys ≡ n → take n (xs ++ drop (length xs) ys) ≡ xs
@@ -23,12 +24,12 @@ written (suc n) (x ∷ xs) (y ∷ ys) a b = ap (λ l. x ∷ l) (written n xs ys 
 
 -- a caller that did nothing, and one that did more
 pub worked-refl : {K : Type 0} (d : Handle K) → IsIdle (known d) → HasWorked d d
-worked-refl d idle = record { through = record { same = record { table = refl; who = refl }; idle = idle }; grew = (carries-refl (known d)).grows }
+worked-refl d idle = record { through = record { same = record { table = refl; who = refl }; idle = idle }; grew = extends-refl (known d) }
 
-pub worked-trans : {K : Type 0} (d e f : Handle K) → HasWorked d e → IsThrough e f → Grows (known e) (known f) → HasWorked d f
+pub worked-trans : {K : Type 0} (d e f : Handle K) → HasWorked d e → IsThrough e f → Extends (known e) (known f) → HasWorked d f
 worked-trans d e f a b g = record {
   through = record { same = record { table = b.same.table ∙ a.through.same.table; who = b.same.who ∙ a.through.same.who }; idle = b.idle };
-  grew = grows-trans (known d) (known e) (known f) a.grew g;
+  grew = extends-trans (known d) (known e) (known f) a.grew g;
 }
 
 module _ {K : Type 0} (stm : Stm K) where

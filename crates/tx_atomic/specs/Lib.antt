@@ -6,6 +6,9 @@ pub mod Courses
 pub mod CourseLaws
 pub mod CallerLaws
 pub mod Tallies
+pub mod Extends
+pub mod ExtendsLaws
+pub mod Lengths
 pub mod Tries
 pub mod TryLaws
 pub mod Waits

@@ -10,13 +10,14 @@ use Rattle.stm_model.specs.Memories.{overlay, Explains, is_empty}
 use Rattle.stm_rule.specs.Callers.{BeginsHistory}
 use Rattle.tx_answers.specs.declared.answers.Commit.TheVariants.{Committed, ReadOnly}
 use Rattle.tx_answers.specs.Answers.{Commits, CommitsAt, EndsAt, entry}
-use Rattle.tx_answers.specs.CallerState.{CallerState, Grows, wrote, zeros}
+use Rattle.tx_answers.specs.CallerState.{CallerState, wrote, zeros}
 use Rattle.tx_answers.specs.CallerStateLaws.{ascending-append}
 use Rattle.tx_atomic.specs.Attempts.{TookEffect}
+use Rattle.tx_atomic.specs.Extends.{Extends}
 use Rattle.tx_atomic.specs.Moments.{Happened}
 
 -- what was seen before begins the history too
-pub begun-before : (w k : CallerState) (history : List Entry) → Grows w k → BeginsHistory k.seen k.front history → BeginsHistory w.seen w.front history
+pub begun-before : (w k : CallerState) (history : List Entry) → Extends w k → BeginsHistory k.seen k.front history → BeginsHistory w.seen w.front history
 begun-before w k history grows begun = (
   grows.later ++ begun.0,
   begun.1 ∙ (ap (λ l. l ++ begun.0) grows.is ∙ append_assoc w.seen grows.later begun.0),
@@ -89,7 +90,7 @@ module _ (good : List ℕ → Type 0) (c : Config) (n : ℕ) (tells : Log → Ty
         made = same ∙ ap (λ b. length u.made + (if b then 0 else 1)) (sym empty);
       }
 
-  pub happened : (k : CallerState) → TookEffect good c n tells u.front u w → Grows w k → BeginsHistory k.seen k.front history → Happened good c tells u w history
+  pub happened : (k : CallerState) → TookEffect good c n tells u.front u w → Extends w k → BeginsHistory k.seen k.front history → Happened good c tells u w history
   happened k t grows begun = by t.commits where
     start : BeginsHistory w.seen w.front history
     start = begun-before w k history grows begun

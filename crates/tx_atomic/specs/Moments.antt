@@ -5,10 +5,12 @@ use Rattle.stm_model.specs.Histories.{Entry, memory_at}
 use Rattle.stm_model.specs.Logs.{Log}
 use Rattle.stm_model.specs.Memories.{overlay, Explains, is_empty}
 use Rattle.stm_rule.specs.Callers.{BeginsHistory}
-use Rattle.tx_answers.specs.CallerState.{CallerState, Grows, zeros}
+use Rattle.tx_answers.specs.CallerState.{CallerState, zeros}
 use Rattle.tx_atomic.specs.Attempts.{TookEffect}
+use Rattle.tx_atomic.specs.Extends.{Extends}
 
--- between u and w, at one moment of the history, after all that u had seen: the memory was good and explains what the transaction read;
+-- between u and w, at one moment of the history, after all that u had seen:
+-- the memory was good and explains what the transaction read;
 -- what it wrote, if anything, makes it that of the next moment, and is the caller's one entry
 pub record Happened (good : List ℕ → Type 0) (c : Config) (tells : Log → Type 0) (u w : CallerState) (history : List Entry) : Type 0 where
   pub log : Log
@@ -25,4 +27,4 @@ pub record Happened (good : List ℕ → Type 0) (c : Config) (tells : Log → T
 abbrev pub HaveMoments : {A : Type 0} (good : List ℕ → Type 0) (tells : ℕ → A → Log → Type 0) → Type 0
 HaveMoments {A = A} good tells =
     (c : Config) (n : ℕ) (came : A) (u w k : CallerState) (history : List Entry) → TookEffect good c n (tells c.words came) u.front u w
-    → Grows w k → BeginsHistory k.seen k.front history → Happened good c (tells c.words came) u w history
+    → Extends w k → BeginsHistory k.seen k.front history → Happened good c (tells c.words came) u w history

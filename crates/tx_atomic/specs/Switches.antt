@@ -27,7 +27,8 @@ module _ (good : List ℕ → Type 0) (c : Config) (n : ℕ) where
   FindsInside zero u w = w ≡ u
   FindsInside (suc k) u w = (v : CallerState) × FindsInside k u v × (caller : ℕ) × (status : ℕ) × Looks good c n (looks.Busy caller status) v w
 
-  -- so many looks, of which the last alone found nobody in an attempt; more than 64 bits hold are counted as the most that they hold
+  -- so many looks, of which the last alone found nobody in an attempt;
+  -- more than 64 bits hold are counted as the most that they hold
   pub record SeesLeave (count : ℕ) (u w : CallerState) : Type 0 where
     pub busy : ℕ
     pub counted : count ≡ min (busy + 1) (2 ^ 64 - 1)

@@ -1,5 +1,5 @@
 -- What came of a caller's attempts.
-use Rattle.std.specs.Prelude.{ℕ, ◌≡◌, ◌+◌, ◌-◌, ◌^◌, min}
+use Rattle.std.specs.Prelude.{ℕ, Bool, true, false, ◌≡◌, ◌+◌, ◌-◌, ◌^◌, min}
 use Rattle.tx_atomic.specs.declared.tally.Ended.{Ended}
 use Rattle.tx_atomic.specs.declared.tally.Ended.TheVariants as ends
 use Rattle.tx_atomic.specs.declared.tally.Tally.{Tally}
@@ -52,10 +52,16 @@ CommitsStay s t = t.commits ≡ s.commits
 abbrev pub CommitsRise : Tally → Tally → Type 0
 CommitsRise s t = t.commits ≡ total s.commits 1
 
--- the count of attempts that another was in the way of, after one more that ended so: a log that was too short will be so again; who didn't begin isn't counted
+-- the count of attempts that another was in the way of, after one more that ended so: a log that was too short will be
+-- so again; who didn't begin isn't counted
 abbrev pub failed_next : ℕ → Ended → ℕ
 failed_next failed ends.Closed = failed
 failed_next failed ends.Held = failed
 failed_next failed ends.Fenced = failed
 failed_next failed ends.Full = 16
 failed_next failed e = min (failed + 1) (2 ^ 32 - 1)
+
+-- where a log was lengthened after it, it isn't counted either
+abbrev pub failed_after : Bool → ℕ → Ended → ℕ
+failed_after true failed e = failed
+failed_after false failed e = failed_next failed e

@@ -1,5 +1,5 @@
 -- What came of attempts at a transaction, by the answers of the calls that they made.
-use Rattle.std.specs.Prelude.{ℕ, zero, suc, ◌≡◌, ◌≢◌, ◌+◌, ◌⊎◌, ◌&&◌, ◌||◌, leb, Bool, true, false, List, [], ◌∷◌, Option, Some, None}
+use Rattle.std.specs.Prelude.{ℕ, zero, suc, ◌≡◌, ◌≢◌, ◌+◌, ◌⊎◌, ◌&&◌, ◌||◌, not, leb, Bool, true, false, List, [], ◌∷◌, Option, Some, None}
 use Rattle.stm_model.specs.declared.alg.Alg.{Alg}
 use Rattle.stm_model.specs.declared.config.Config.{Config}
 use Rattle.stm_model.specs.declared.stop.Stop.TheVariants as stops
@@ -11,14 +11,22 @@ use Rattle.tx_answers.specs.CallerState.{CallerState, Grows}
 use Rattle.tx_atomic.specs.declared.tally.Ended.{Ended}
 use Rattle.tx_atomic.specs.declared.tally.Ended.TheVariants as ends
 use Rattle.tx_atomic.specs.Accounts.{Account, ended_in, met_times, promoted_in, told}
+use Rattle.tx_atomic.specs.Lengths.{Lengthens}
 
--- one attempt: whether it was to be irrevocable before it did anything, how often that found another in an attempt, how often another was faster at its commit, and how it ended, None where it committed; and the address of the read or write that was refused
+-- one attempt: whether it was to be irrevocable before it did anything, how often that found another in an attempt, how
+-- often another was faster at its commit, and how it ended, None where it committed;
+-- and the address of the read or write that was refused
 pub record Try : Type 0 where
   pub irrevocable : Bool
   pub busy : ℕ
   pub again : ℕ
   pub ended : Option Ended
   pub at : Option ℕ
+
+-- one of a run of attempts, and whether a log was lengthened after it, before the next
+pub record Round : Type 0 where
+  pub attempt : Try
+  pub lengthened : Bool
 
 abbrev pub has_committed : Option Ended → Bool
 has_committed None = true
@@ -37,19 +45,31 @@ was_crossed (Some ends.Again) = 1
 was_crossed (Some ends.ClockFull) = 1
 was_crossed e = 0
 
-abbrev pub any_full : List Try → Bool
-any_full [] = false
-any_full (x ∷ xs) = ran_full x.ended || any_full xs
+-- a log had its length, and none was lengthened after it
+abbrev pub stays_short : Round → Bool
+stays_short x = ran_full x.attempt.ended && not x.lengthened
 
-abbrev pub crossed : List Try → ℕ
+abbrev pub any_short : List Round → Bool
+any_short [] = false
+any_short (x ∷ xs) = stays_short x || any_short xs
+
+abbrev pub crossed : List Round → ℕ
 crossed [] = 0
-crossed (x ∷ xs) = was_crossed x.ended + crossed xs
+crossed (x ∷ xs) = was_crossed x.attempt.ended + crossed xs
 
--- after these the next one is to be irrevocable before it does anything: a log had its length, or sixteen that had begun were refused
-abbrev pub is_due : List Try → Bool
-is_due xs = any_full xs || leb 16 (crossed xs)
+-- after these the next one is to be irrevocable before it does anything: a log had its length and none could be
+-- lengthened, or sixteen that had begun were refused
+abbrev pub is_due : List Round → Bool
+is_due xs = any_short xs || leb 16 (crossed xs)
 
--- what is kept after its calls, of what its end is told only, and after it; who was to be irrevocable and committed was promoted
+-- after an attempt that ended so, and before the next: a log was lengthened, where one had its length; else nothing
+-- changed
+abbrev pub Prepares : ℕ → Bool → Option Ended → CallerState → CallerState → Type 0
+Prepares most true ended v w = (ran_full ended ≡ true) × Lengthens most v w
+Prepares most false ended v w = w ≡ v
+
+-- the account after an attempt, which was promoted where it was to be irrevocable and committed: `tried` has all but
+-- the count of its end, which `counted` adds
 module _ {H : Type 0} (hears : Ended → Option ℕ → H → H) where
   abbrev pub tried : Try → Account H → Account H
   tried x a = told hears x.ended x.at (met_times hears x.again ends.Again (promoted_in (x.irrevocable && has_committed x.ended) (met_times hears x.busy ends.Busy a)))
@@ -58,9 +78,9 @@ module _ {H : Type 0} (hears : Ended → Option ℕ → H → H) where
   counted x a = ended_in x.ended (tried x a)
 
   -- after attempts, of which the latest stands first
-  abbrev pub counted_all : List Try → Account H → Account H
+  abbrev pub counted_all : List Round → Account H → Account H
   counted_all [] a = a
-  counted_all (x ∷ xs) a = counted x (counted_all xs a)
+  counted_all (x ∷ xs) a = counted x.attempt (counted_all xs a)
 
 -- good is what the user keeps true of memory; c is the memory's configuration, and n the caller
 module _ (good : List ℕ → Type 0) (c : Config) (n : ℕ) where
@@ -99,7 +119,8 @@ module _ (good : List ℕ → Type 0) (c : Config) (n : ℕ) where
   EndsRun (Some a) None v w = ⊥
   EndsRun (Some a) (Some e) v w = EndsAccess a e v w
 
-  -- so many calls, one after the other: each asked to be irrevocable and found another in an attempt; each asked to commit and another was faster
+  -- so many calls, one after the other: each asked to be irrevocable and found another in an attempt;
+  -- each asked to commit and another was faster
   abbrev pub FindsBusy : ℕ → CallerState → CallerState → Type 0
   FindsBusy zero u w = w ≡ u
   FindsBusy (suc k) u w = (v : CallerState) × FindsBusy k u v × (caller : ℕ) × (status : ℕ) × Irrevs good c n (grants.Busy caller status) v w
@@ -139,7 +160,8 @@ module _ (good : List ℕ → Type 0) (c : Config) (n : ℕ) where
     pub is : x.ended ≡ Some ended
     pub last : EndsPromotion ended asked w
 
-  -- it began, was made irrevocable where it was to be, went on, asked to commit, and ended by its last call: by a commit where it was irrevocable
+  -- it began, was made irrevocable where it was to be, went on, asked to commit, and ended by its last call: by a
+  -- commit where it was irrevocable
   pub record HasRun (x : Try) (u w : CallerState) : Type 0 where
     pub begun : CallerState
     pub begins : HasBegun u begun
@@ -155,20 +177,23 @@ module _ (good : List ℕ → Type 0) (c : Config) (n : ℕ) where
   abbrev pub WasTried : Try → CallerState → CallerState → Type 0
   WasTried x u w = WasUnbegun x u w ⊎ (WasUngranted x u w ⊎ HasRun x u w)
 
-  -- attempts from u to w, one after the other, the latest first: each was to be irrevocable where those before it say so
-  abbrev pub WereTried : List Try → CallerState → CallerState → Type 0
-  WereTried [] u w = w ≡ u
-  WereTried (x ∷ xs) u w = (v : CallerState) × WereTried xs u v × WasTried x v w × (x.irrevocable ≡ is_due xs)
+  -- attempts from u to w, one after the other, the latest first:
+  -- each was to be irrevocable where those before it say so
+  abbrev pub WereTried : ℕ → List Round → CallerState → CallerState → Type 0
+  WereTried most [] u w = w ≡ u
+  WereTried most (x ∷ xs) u w =
+      (v : CallerState) × WereTried most xs u v × (over : CallerState) × WasTried x.attempt v over × (x.attempt.irrevocable ≡ is_due xs)
+      × Prepares most x.lengthened x.attempt.ended over w
 
   -- all failed, and none for the clock
-  abbrev pub AllFailed : List Try → Type 0
+  abbrev pub AllFailed : List Round → Type 0
   AllFailed [] = Unit {0}
-  AllFailed (x ∷ xs) = ((e : Ended) × (x.ended ≡ Some e) × (e ≢ ends.ClockFull)) × AllFailed xs
+  AllFailed (x ∷ xs) = ((e : Ended) × (x.attempt.ended ≡ Some e) × (e ≢ ends.ClockFull)) × AllFailed xs
 
   -- the last one ended so, and all before it failed, none for the clock
-  abbrev pub LastEnded : Option Ended → List Try → Type 0
+  abbrev pub LastEnded : Option Ended → List Round → Type 0
   LastEnded last [] = ⊥
-  LastEnded last (x ∷ xs) = (x.ended ≡ last) × AllFailed xs
+  LastEnded last (x ∷ xs) = (x.attempt.ended ≡ last) × AllFailed xs
 
   module _ {H : Type 0} (hears : Ended → Option ℕ → H → H) where
     -- one attempt, and what is kept after its calls
@@ -179,17 +204,18 @@ module _ (good : List ℕ → Type 0) (c : Config) (n : ℕ) where
       pub was : WasTried (record { irrevocable = irrevocable; busy = busy; again = again; ended = ended; at = at }) u w
       pub counted : t ≡ tried hears (record { irrevocable = irrevocable; busy = busy; again = again; ended = ended; at = at }) s
 
-    -- a run of attempts from u to w of which the last ended so, and what is kept after it: each call that was refused is told and counted once
+    -- a run of attempts from u to w of which the last ended so, and what is kept after it:
+    -- each call that was refused is told and counted once
     pub record Ran (last : Option Ended) (u w : CallerState) (s t : Account H) : Type 0 where
-      pub tries : List Try
-      pub were : WereTried tries u w
+      pub tries : List Round
+      pub were : WereTried s.most tries u w
       pub ended : LastEnded last tries
       pub counted : t ≡ counted_all hears tries s
 
     -- attempts that failed, with the count of those that another was in the way of
     pub record Failing (failed : ℕ) (u w : CallerState) (s t : Account H) : Type 0 where
-      pub tries : List Try
-      pub were : WereTried tries u w
+      pub tries : List Round
+      pub were : WereTried s.most tries u w
       pub all : AllFailed tries
       pub counted : t ≡ counted_all hears tries s
       pub due : leb 16 failed ≡ is_due tries

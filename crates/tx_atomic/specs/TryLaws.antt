@@ -1,6 +1,6 @@
 -- Laws of what came of attempts.
 use Rattle.std.proofs.Common.{ℕ, zero, suc, ◌≡◌, ◌≢◌, ◌<◌, ◌+◌, ◌∙◌, List, [], ◌∷◌, ◌++◌, Bool, true, false, refl, sym, ap, subst, arith, inl, inr, append_assoc}
-use Rattle.std.specs.Prelude.{◌⊎◌, ◌&&◌, ◌||◌, leb, min, Option, Some, None, Ok, Err, OnErr, MatchResult}
+use Rattle.std.specs.Prelude.{◌⊎◌, ◌&&◌, ◌||◌, not, leb, min, Option, Some, None, Ok, Err, OnErr, MatchResult}
 use Rattle.std.specs.declared.result.Result.{Result}
 use Rattle.std.proofs.lemmas.Bool.Decides.{nat_tests}
 use Rattle.std.proofs.lemmas.List.Elements.{Contains-append_left}
@@ -28,16 +28,18 @@ use Rattle.tx_atomic.specs.declared.tally.Ended.TheVariants as ends
 use Rattle.tx_atomic.specs.Accounts.{Account, ended_in, met_times, promoted_in, told}
 use Rattle.tx_atomic.specs.Attempts.{ended_by}
 use Rattle.tx_atomic.specs.AttemptLaws.{irrevs-grow, commits-grow}
-use Rattle.tx_atomic.specs.Tallies.{failed_next}
-use Rattle.tx_atomic.specs.Tries.{Try, EndsBegin, EndsPromotion, EndsAccess, EndsCommit, EndsRun, IsGranted, FindsBusy, FindsAgain, HasBegun, WasTried, Tried, Ran, RanAgain, HaveRun, Failing, Opens, Asks, IsStopped, IsTurnedBack, Finishes, Runs, has_committed, tried, ran_full, was_crossed, any_full, crossed}
+use Rattle.tx_atomic.specs.Extends.{Extends}
+use Rattle.tx_atomic.specs.ExtendsLaws.{grows-extends}
+use Rattle.tx_atomic.specs.Tallies.{failed_after}
+use Rattle.tx_atomic.specs.Tries.{Try, Round, EndsBegin, EndsPromotion, EndsAccess, EndsCommit, EndsRun, IsGranted, FindsBusy, FindsAgain, HasBegun, WasTried, Tried, Ran, RanAgain, HaveRun, Failing, Opens, Asks, IsStopped, IsTurnedBack, Finishes, Runs, has_committed, tried, counted_all, ran_full, was_crossed, any_short, crossed, Prepares}
 
 pub grows-refl : (v : CallerState) → Grows v v
 grows-refl v = (carries-refl v).grows
 
-pub found-earlier : (p : At) (x : ℕ) (u v w : CallerState) → Grows u v → Found p x v w → Found p x u w
+pub found-earlier : (p : At) (x : ℕ) (u v w : CallerState) → Extends u v → Found p x v w → Found p x u w
 found-earlier p x u v w g f = (f.0 ++ g.more, f.1 ∙ (ap (λ t. f.0 ++ t) g.step_trace ∙ sym (append_assoc f.0 g.more u.step_trace)), f.2, Contains-append_left f.0 g.more _ f.3)
 
-pub full-earlier : (clock : ℕ) (u v w : CallerState) → Grows u v → FindsFull clock v w → FindsFull clock u w
+pub full-earlier : (clock : ℕ) (u v w : CallerState) → Extends u v → FindsFull clock v w → FindsFull clock u w
 full-earlier clock u v w g f = record { limit = f.limit; found = found-earlier Clock clock u v w g f.found; top = f.top }
 
 some-same : {A : Type 0} {d e : A} → Some d ≡ Some e → d ≡ e
@@ -79,14 +81,14 @@ module _ (good : List ℕ → Type 0) (c : Config) (n : ℕ) where
   clock-found x u w full (inl t) = (h.0, h.1.3) where
     h : EndsBegin good c n ends.ClockFull u w
     h = let same : t.ended ≡ ends.ClockFull = some-same (sym t.is ∙ full) in subst (λ (e : Ended). EndsBegin good c n e u w) same t.last
-  clock-found x u w full (inr (inl t)) = (h.0, full-earlier h.0 u t.asked w (grows-trans u t.begun t.asked t.begins.1.grows (busy-grows x.busy t.begun t.asked t.busy)) h.1.2) where
+  clock-found x u w full (inr (inl t)) = (h.0, full-earlier h.0 u t.asked w (grows-extends u t.asked (grows-trans u t.begun t.asked t.begins.1.grows (busy-grows x.busy t.begun t.asked t.busy))) h.1.2) where
     h : EndsPromotion good c n ends.ClockFull t.asked w
     h = let same : t.ended ≡ ends.ClockFull = some-same (sym t.is ∙ full) in subst (λ (e : Ended). EndsPromotion good c n e t.asked w) same t.last
   clock-found x u w full (inr (inr t)) = by x.at (subst (λ (o : Option Ended). EndsRun good c n x.at o t.before w) full t.last) where
-    grew : Grows u t.before
+    grew : Extends u t.before
     grew =
         let opened = grows-trans u t.begun t.opened t.begins.1.grows (granted-grows x.irrevocable x.busy t.begun t.opened t.granted) in
-        grows-trans u t.acted t.before (grows-trans u t.opened t.acted opened t.acts) (again-grows x.again t.acted t.before t.again)
+        grows-extends u t.before (grows-trans u t.acted t.before (grows-trans u t.opened t.acted opened t.acts) (again-grows x.again t.acted t.before t.again))
 
     by : (at : Option ℕ) → EndsRun good c n at (Some ends.ClockFull) t.before w → (clock : ℕ) × FindsFull clock u w
     by (Some a) h = (h.0, full-earlier h.0 u t.before w grew h.1.2)
@@ -100,45 +102,96 @@ module _ (good : List ℕ → Type 0) (c : Config) (n : ℕ) where
     pub failing-none : (v : CallerState) (s : Account H) → Failing good c n hears 0 v v s s
     failing-none v s = record { tries = []; were = refl; all = tt; counted = refl; due = refl; low = λ less. refl }
 
-    -- one more, which failed
-    pub failing-more : (failed : ℕ) (irrevocable : Bool) (e : Ended) (u v w : CallerState) (r s t : Account H) → e ≢ ends.ClockFull
-        → irrevocable ≡ leb 16 failed → Failing good c n hears failed u v r s → Tried good c n hears irrevocable (Some e) v w s t
-        → Failing good c n hears (failed_next failed e) u w r (ended_in (Some e) t)
-    failing-more failed irrevocable e u v w r s t apart is h x = record {
-      tries = this ∷ h.tries;
-      were = (v, h.were, x.was, is ∙ h.due);
+    -- how long logs may become stays
+    met-most : (k : ℕ) (e : Ended) (a : Account H) → (met_times hears k e a).most ≡ a.most
+    met-most zero e a = refl
+    met-most (suc k) e a = met-most k e a
+
+    promoted-most : (b : Bool) (a : Account H) → (promoted_in b a).most ≡ a.most
+    promoted-most true a = refl
+    promoted-most false a = refl
+
+    told-most : (o : Option Ended) (at : Option ℕ) (a : Account H) → (told hears o at a).most ≡ a.most
+    told-most None at a = refl
+    told-most (Some e) at a = refl
+
+    ended-most : (o : Option Ended) (a : Account H) → (ended_in o a).most ≡ a.most
+    ended-most None a = refl
+    ended-most (Some e) a = refl
+
+    tried-most : (x : Try) (a : Account H) → (tried hears x a).most ≡ a.most
+    tried-most x a =
+        let begun = met_times hears x.busy ends.Busy a in
+        let promoted = promoted_in (x.irrevocable && has_committed x.ended) begun in
+        told-most x.ended x.at (met_times hears x.again ends.Again promoted)
+        ∙ (met-most x.again ends.Again promoted ∙ (promoted-most (x.irrevocable && has_committed x.ended) begun ∙ met-most x.busy ends.Busy a))
+
+    counted-most : (xs : List Round) (a : Account H) → (counted_all hears xs a).most ≡ a.most
+    counted-most [] a = refl
+    counted-most (x ∷ xs) a =
+        let before = counted_all hears xs a in ended-most x.attempt.ended (tried hears x.attempt before) ∙ (tried-most x.attempt before ∙ counted-most xs a)
+
+    pub ran-most : (last : Option Ended) (u w : CallerState) (s t : Account H) → Ran good c n hears last u w s t → t.most ≡ s.most
+    ran-most last u w s t ran = ap (λ (a : Account H). a.most) ran.counted ∙ counted-most ran.tries s
+
+    -- one more, which failed, and what was done after it
+    pub failing-more : (failed failed' : ℕ) (irrevocable lengthened : Bool) (e : Ended) (u v over w : CallerState) (r s t : Account H) → e ≢ ends.ClockFull
+        → irrevocable ≡ leb 16 failed → failed' ≡ failed_after lengthened failed e → Failing good c n hears failed u v r s
+        → Tried good c n hears irrevocable (Some e) v over s t → Prepares t.most lengthened (Some e) over w
+        → Failing good c n hears failed' u w r (ended_in (Some e) t)
+    failing-more failed failed' irrevocable lengthened e u v over w r s t apart is after h x prepares = record {
+      tries = record { attempt = this; lengthened = lengthened } ∷ h.tries;
+      were = (v, h.were, over, x.was, is ∙ h.due, subst (λ m. Prepares m lengthened (Some e) over w) most prepares);
       all = ((e, refl, apart), h.all);
-      counted = ap (ended_in (Some e)) (x.counted ∙ ap (λ (q : Account H). tried hears this q) h.counted);
-      due = (next e).0;
-      low = (next e).1;
+      counted = ap (ended_in (Some e)) counts;
+      due = ap (λ f. leb 16 f) after ∙ (next lengthened e prepares).0;
+      low = λ less. after ∙ (next lengthened e prepares).1 less;
     }
       where
         this : Try
         this = record { irrevocable = irrevocable; busy = x.busy; again = x.again; ended = Some e; at = x.at }
 
-        same : (leb 16 failed ≡ (any_full h.tries || leb 16 (0 + crossed h.tries))) × ((any_full h.tries || leb 16 (0 + crossed h.tries)) ≡ false → failed ≡ 0 + crossed h.tries)
+        counts : t ≡ tried hears this (counted_all hears h.tries r)
+        counts = x.counted ∙ ap (λ (q : Account H). tried hears this q) h.counted
+
+        most : t.most ≡ r.most
+        most = ap (λ (a : Account H). a.most) counts ∙ (tried-most this (counted_all hears h.tries r) ∙ counted-most h.tries r)
+
+        Counts : ℕ → ℕ → Type 0
+        Counts f k = (leb 16 f ≡ (any_short h.tries || leb 16 (k + crossed h.tries))) × ((any_short h.tries || leb 16 (k + crossed h.tries)) ≡ false → f ≡ k + crossed h.tries)
+
+        same : Counts failed 0
         same = let z : 0 + crossed h.tries ≡ crossed h.tries = omega arith in rw z (h.due, h.low)
 
-        next : (d : Ended)
-            → (leb 16 (failed_next failed d) ≡ ((ran_full (Some d) || any_full h.tries) || leb 16 (was_crossed (Some d) + crossed h.tries)))
-            × (((ran_full (Some d) || any_full h.tries) || leb 16 (was_crossed (Some d) + crossed h.tries)) ≡ false
-            → failed_next failed d ≡ was_crossed (Some d) + crossed h.tries)
-        next ends.Closed = same
-        next ends.Held = same
-        next ends.Fenced = same
-        next (ends.Conflict cause) = due-full failed (any_full h.tries) (crossed h.tries) h.due h.low
-        next ends.Full = (refl, λ less. absurd cc)
-        next ends.Busy = due-full failed (any_full h.tries) (crossed h.tries) h.due h.low
-        next ends.Taken = due-full failed (any_full h.tries) (crossed h.tries) h.due h.low
-        next ends.Again = due-full failed (any_full h.tries) (crossed h.tries) h.due h.low
-        next ends.ClockFull = due-full failed (any_full h.tries) (crossed h.tries) h.due h.low
+        next : (b : Bool) (d : Ended) → Prepares t.most b (Some d) over w
+            → (leb 16 (failed_after b failed d) ≡ (((ran_full (Some d) && not b) || any_short h.tries) || leb 16 (was_crossed (Some d) + crossed h.tries)))
+            × ((((ran_full (Some d) && not b) || any_short h.tries) || leb 16 (was_crossed (Some d) + crossed h.tries)) ≡ false
+            → failed_after b failed d ≡ was_crossed (Some d) + crossed h.tries)
+        next true ends.Full p = same
+        next true ends.Closed p = absurd (let no = p.0 in cc)
+        next true ends.Held p = absurd (let no = p.0 in cc)
+        next true ends.Fenced p = absurd (let no = p.0 in cc)
+        next true (ends.Conflict cause) p = absurd (let no = p.0 in cc)
+        next true ends.Busy p = absurd (let no = p.0 in cc)
+        next true ends.Taken p = absurd (let no = p.0 in cc)
+        next true ends.Again p = absurd (let no = p.0 in cc)
+        next true ends.ClockFull p = absurd (let no = p.0 in cc)
+        next false ends.Closed p = same
+        next false ends.Held p = same
+        next false ends.Fenced p = same
+        next false (ends.Conflict cause) p = due-full failed (any_short h.tries) (crossed h.tries) h.due h.low
+        next false ends.Full p = (refl, λ less. absurd cc)
+        next false ends.Busy p = due-full failed (any_short h.tries) (crossed h.tries) h.due h.low
+        next false ends.Taken p = due-full failed (any_short h.tries) (crossed h.tries) h.due h.low
+        next false ends.Again p = due-full failed (any_short h.tries) (crossed h.tries) h.due h.low
+        next false ends.ClockFull p = due-full failed (any_short h.tries) (crossed h.tries) h.due h.low
 
     -- the last one
     pub ran : (failed : ℕ) (irrevocable : Bool) (o : Option Ended) (u v w : CallerState) (r s t : Account H) → irrevocable ≡ leb 16 failed
         → Failing good c n hears failed u v r s → Tried good c n hears irrevocable o v w s t → Ran good c n hears o u w r (ended_in o t)
     ran failed irrevocable o u v w r s t is h x = record {
-      tries = this ∷ h.tries;
-      were = (v, h.were, x.was, is ∙ h.due);
+      tries = record { attempt = this; lengthened = false } ∷ h.tries;
+      were = (v, h.were, w, x.was, is ∙ h.due, refl);
       ended = (refl, h.all);
       counted = ap (ended_in o) (x.counted ∙ ap (λ (q : Account H). tried hears this q) h.counted);
     }
@@ -152,6 +205,13 @@ module _ (good : List ℕ → Type 0) (c : Config) (n : ℕ) where
 
     pub ran-again : (last : Option Ended) (u v w : CallerState) (r s t : Account H) → (k : ℕ) × HaveRun good c n hears k u v r s → Ran good c n hears last v w s t → RanAgain good c n hears last u w r t
     ran-again last u v w r s t h ran = record { before = h.0; since = v; account = s; runs = h.1; ran = ran }
+
+    have-run-most : (k : ℕ) (u w : CallerState) (s t : Account H) → HaveRun good c n hears k u w s t → t.most ≡ s.most
+    have-run-most zero u w s t h = ap (λ (a : Account H). a.most) h.1
+    have-run-most (suc k) u w s t h = ran-most None h.0 w h.1 t h.3 ∙ have-run-most k u h.0 s h.1 h.2
+
+    pub again-most : (last : Option Ended) (u w : CallerState) (s t : Account H) → RanAgain good c n hears last u w s t → t.most ≡ s.most
+    again-most last u w s t h = ran-most last h.since w h.account t h.ran ∙ have-run-most h.before u h.since s h.account h.runs
 
     -- an attempt from its parts: it didn't begin
     pub tried-unbegun : (irrevocable : Bool) (e : Ended) (u w : CallerState) (s t : Account H) → IsTurnedBack good c n hears e u w s t → Tried good c n hears irrevocable (Some e) u w s t

@@ -16,7 +16,7 @@ stripes_of w = waits_for w.announced
 abbrev pub since_of : {K : Type 0} → Waiting K → Handle K
 since_of w = w.since.value
 
--- WHO SLEEPS has read a memory, and has announced each word that it read: as the last thing that it did since d, where it announced the
--- stripes, a transaction of which this is so answered None
+-- WHO SLEEPS has read a memory, and has announced each word that it read: as the last thing that it did since d, where
+-- it announced the stripes, a transaction of which this is so answered None
 abbrev pub HasLooked : {K A : Type 0} → (K → List ℕ → Type 0) → (K → ℕ → Option A → Log → Type 0) → Stm K → Stripes → Handle K → Handle K → Type 0
 HasLooked good tells stm stripes d e = Took good (λ rule words answer log. tells rule words answer log × CoverReads stripes log) stm d None e

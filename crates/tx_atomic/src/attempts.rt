@@ -73,8 +73,8 @@ pub fn attempt<R: Wait, K: MemRule, T: Transaction<K>, O: Observer>(
     )
 }
 
-/// The same of an attempt that isn't asked to be irrevocable, by a function of its own for each algorithm: where the attempt runs
-/// under it, its calls stand in line.
+/// The same of an attempt that isn't asked to be irrevocable, by a function of its own for each algorithm: where the
+/// attempt runs under it, its calls stand in line.
 #[inline(never)]
 fn attempt_by<R: Wait, K: MemRule, T: Transaction<K>, A: Algorithm, O: Observer>(
     calls: Only<A>,
@@ -169,7 +169,8 @@ fn open<R: Wait, K: MemRule, O: Observer>(
     Ok(())
 }
 
-/// Begins, soonest where the gate names this algorithm. While a range of words is out of the transactions no attempt goes on.
+/// Begins, soonest where the gate names this algorithm. While a range of words is out of the transactions no attempt
+/// goes on.
 #[inline(always)]
 fn begin<A: Algorithm, K: MemRule, O: Observer>(
     desc: &mut Desc<K>,
@@ -208,8 +209,8 @@ fn begin<A: Algorithm, K: MemRule, O: Observer>(
     }
 }
 
-/// Ends an attempt that has done nothing, whatever its algorithm: a range is out of the transactions. Kept out of line so the
-/// hot commit can be inlined, and without that one's answer so that no attempt makes room for it.
+/// Ends an attempt that has done nothing, whatever its algorithm: a range is out of the transactions. Kept out of line
+/// so the hot commit can be inlined, and without that one's answer so that no attempt makes room for it.
 #[cold]
 fn turn_back<K: MemRule, O: Observer>(
     desc: &mut Desc<K>,
@@ -322,8 +323,8 @@ fn run<R: Wait, K: MemRule, T: Transaction<K>, A: Algorithm, O: Observer>(
     run_looking_up(rt, desc, stm, pace, transaction)
 }
 
-/// The same by calls that look the algorithm up each time: for an attempt that was made irrevocable, or runs under another
-/// algorithm than the caller's last.
+/// The same by calls that look the algorithm up each time: for an attempt that was made irrevocable, or runs under
+/// another algorithm than the caller's last.
 #[cold]
 #[inline(never)]
 fn run_looking_up<R: Wait, K: MemRule, T: Transaction<K>, O: Observer>(

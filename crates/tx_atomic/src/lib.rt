@@ -5,6 +5,7 @@ pub use tx_transaction::transaction;
 
 pub mod atomically;
 pub mod attempts;
+pub mod growth;
 pub mod laws;
 mod napping;
 pub mod observer;

@@ -3,8 +3,8 @@ ghost use Rattle.std.specs.Prelude.{◌≡◌};
 
 use crate::tally::Ended;
 
-/// Is told each refusal of a caller's attempts. What it does with it has no effect on what a transaction promises. Contracts
-/// see what it knows of what it was told: where that is of no interest it is `Unit`, as for `()`.
+/// Is told each refusal of a caller's attempts. What it does with it has no effect on what a transaction promises.
+/// Contracts see what it knows of what it was told: where that is of no interest it is `Unit`, as for `()`.
 pub trait Observer {
     ghost use Rattle.std.specs.Prelude.{ℕ, Option};
     ghost use Rattle.tx_atomic.specs.declared.tally.Ended.{Ended};
@@ -17,8 +17,8 @@ pub trait Observer {
     ghost hears: { Ended → Option ℕ → Heard → Heard };
 
     /// Is told, on the caller's own thread, why an attempt ended without a commit, or what a call was refused by after
-    /// which the attempt goes on (`Busy`, `Again`): once each, before the caller pauses. An attempt that ended is over, and
-    /// has left no trace.
+    /// which the attempt goes on (`Busy`, `Again`): once each, before the caller pauses. An attempt that ended is over,
+    /// and has left no trace.
     ///
     /// `at` is the address of the word whose read or write was refused. None where there is none: the attempt didn't
     /// begin, wasn't made irrevocable, or was refused at its commit.

@@ -1,6 +1,7 @@
 //! What a caller waits by, what it counts, and who is told.
 ghost use Rattle.std.specs.Prelude.{◌≡◌};
 
+use crate::growth::Growth;
 use crate::napping::nap;
 use crate::observer::Observer;
 use crate::tally::{Ended, Tally};
@@ -10,7 +11,7 @@ use stm_rule::stm::Stm;
 use tx_backoff::{Backoff, Patience};
 
 /// The next pause of a caller, what came of its attempts, and who is told of each that was refused.
-#[derive(Clone, Copy, Drop, Debug, PartialEq, Eq)]
+#[derive(Clone, Copy, Drop)]
 pub struct Pacing<O> {
     pub backoff: Backoff,
     pub tally: Tally,
@@ -19,10 +20,12 @@ pub struct Pacing<O> {
     pub last: Ended,
     /// How long it spins before it sleeps, where it waits for what it needs.
     pub patience: Patience,
+    /// How its logs are lengthened.
+    pub growth: Growth,
 }
 
-/// An attempt was refused: `last` of its pacing says what by. It stands there and not here, so that an attempt that commits
-/// makes no room for it.
+/// An attempt was refused: `last` of its pacing says what by. It stands there and not here, so that an attempt that
+/// commits makes no room for it.
 #[derive(Clone, Copy, Drop, Debug, PartialEq, Eq)]
 pub struct Refused;
 
@@ -36,6 +39,7 @@ impl Pacing<()> {
     pub fn new() -> Pace
         ensures tally { result.tally ≡ none }
         ensures rested { IsRested result.backoff }
+        ensures growth { result.growth.most ≡ 0 }
     {
         Pacing::observed(())
     }
@@ -45,11 +49,12 @@ impl<O> Pacing<O> {
     ghost use Rattle.tx_atomic.specs.Tallies.{none};
     ghost use Rattle.tx_backoff.specs.Pauses.{IsRested};
 
-    /// The pace of a caller whose observer this is.
+    /// The pace of a caller whose observer this is. No log of its is lengthened.
     pub fn observed(observer: O) -> Pacing<O>
         ensures tally { result.tally ≡ none }
         ensures observer { result.observer ≡ observer }
         ensures rested { IsRested result.backoff }
+        ensures growth { result.growth.most ≡ 0 }
     {
         Pacing {
             backoff: Backoff::new(),
@@ -57,6 +62,7 @@ impl<O> Pacing<O> {
             observer,
             last: Ended::Closed,
             patience: Patience::new(),
+            growth: Growth::none(),
         }
     }
 }
@@ -88,8 +94,8 @@ impl<O: Observer> Pacing<O> {
         Refused
     }
 
-    /// Counts what an attempt or a call of it came to, and pauses: longer where a lock was held. Where another has closed the
-    /// gate, or a range is out, that may last: the caller sleeps after a while, until the gate is reopened.
+    /// Counts what an attempt or a call of it came to, and pauses: longer where a lock was held. Where another has
+    /// closed the gate, or a range is out, that may last: the caller sleeps after a while, until the gate is reopened.
     pub fn wait<R: Wait, K: MemRule>(&mut self, rt: &R, stm: &Stm<K>, caller: usize, ended: Ended)
         ensures noted { account O.heard self.new
             ≡ ended_in (Some ended) (account O.heard self.old) }
@@ -103,8 +109,8 @@ impl<O: Observer> Pacing<O> {
         }
     }
 
-    /// Tells the observer that another was faster at the commit, counts it, and pauses: shortly, unless that one holds the
-    /// lock yet.
+    /// Tells the observer that another was faster at the commit, counts it, and pauses: shortly, unless that one holds
+    /// the lock yet.
     #[cold]
     pub fn wait_at_commit(&mut self, locked: bool)
         ensures noted { account O.heard self.new ≡ met O.hears Again (account O.heard self.old) }

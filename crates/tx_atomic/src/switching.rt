@@ -28,9 +28,9 @@ pub enum Hindrance {
     Busy { caller: usize, status: u64 },
 }
 
-/// Closes the gate, and waits until all others are out of their attempts: none begins from the closing on. The caller is
-/// alone then, and holds the gate: it may install an algorithm, take a range out of the transactions or give it back, and
-/// is to reopen the gate. Answers how many looks at the others it took, one where none was in an attempt.
+/// Closes the gate, and waits until all others are out of their attempts: none begins from the closing on. The caller
+/// is alone then, and holds the gate: it may install an algorithm, take a range out of the transactions or give it
+/// back, and is to reopen the gate. Answers how many looks at the others it took, one where none was in an attempt.
 pub fn close_alone<R: Wait, K: MemRule>(rt: &R, desc: &mut Desc<K>, stm: &Stm<K>) -> u64
     requires ready { IsReady stm.now desc.old }
     ensures same { IsSameCaller desc.old desc.new }
@@ -54,7 +54,8 @@ pub fn close_alone<R: Wait, K: MemRule>(rt: &R, desc: &mut Desc<K>, stm: &Stm<K>
     unreachable!()
 }
 
-/// Waits, with the gate closed, until all others were seen out of their attempts, each once. Answers how many looks it took.
+/// Waits, with the gate closed, until all others were seen out of their attempts, each once.
+/// Answers how many looks it took.
 fn see_others_leave<R: Wait, K: MemRule>(rt: &R, desc: &mut Desc<K>, stm: &Stm<K>) -> u64
     requires stm { IsOf desc.old stm.now }
     requires closing { HoldsClosed (known desc.old) }

@@ -1,21 +1,21 @@
 //! A transaction that waits for what it needs: `retry` of composable memory transactions (Harris, Marlow, Peyton Jones,
 //! Herlihy).
 //!
-//! Where what it read tells it that it can't go on, it answers None, having written nothing. That attempt commits as one
-//! that only read, and after a pause the next one begins. So it is the same under every algorithm, and for an
+//! Where what it read tells it that it can't go on, it answers None, having written nothing. That attempt commits as
+//! one that only read, and after a pause the next one begins. So it is the same under every algorithm, and for an
 //! irrevocable attempt too, which couldn't be taken back.
 //!
 //! Who has paused for a while sleeps, until another caller has committed a write. No wake-up is lost, since the wait is
 //! announced before the attempt on whose answer the caller sleeps, and rung for after the commit: a commit whose ring
-//! finds no announcement stands before that attempt reads. Each half is a clause: who sleeps has announced each word that
-//! it read since (`sleep`), and who has written rings (`commit` of stm_tx).
+//! finds no announcement stands before that attempt reads. Each half is a clause: who sleeps has announced each word
+//! that it read since (`sleep`), and who has written rings (`commit` of stm_tx).
 ghost use Rattle.std.specs.Prelude.{◌≡◌, ℕ, [], IfSome, IfNone, Some, None};
 ghost use Rattle.stm_model.specs.Logs.{Log};
 ghost use Rattle.tx_answers.specs.Causes.{FindsFull};
-ghost use Rattle.tx_answers.specs.CallerState.{Grows};
 ghost use Rattle.stm_tx.specs.Descs.{known, number};
 ghost use Rattle.tx_atomic.specs.Accounts.{account};
 ghost use Rattle.tx_atomic.specs.Callers.{IsReady, IsThrough, Took};
+ghost use Rattle.tx_atomic.specs.Extends.{Extends};
 ghost use Rattle.tx_atomic.specs.declared.tally.Ended.TheVariants.{ClockFull};
 ghost use Rattle.tx_atomic.specs.Tries.{RanAgain};
 ghost use Rattle.tx_atomic.specs.Waits.{HasLooked, since_of, stripes_of};
@@ -52,7 +52,7 @@ pub fn until_some<R: Wait, K: MemRule, V: Drop, T: Transaction<K, Output = Optio
         → T.postcondition transaction.now stm.now.rule stm.now.config.words None log
         → log.writes ≡ [] }
     ensures through { IsThrough desc.old desc.new }
-    ensures grew { Grows (known desc.old) (known desc.new) }
+    ensures grew { Extends (known desc.old) (known desc.new) }
     ensures took { IfSome result (λ v.
         Took K.good (T.postcondition transaction.now) stm.now desc.old (Some v) desc.new) }
     ensures none { IfNone result ((known desc.new).made ≡ (known desc.old).made) }
@@ -119,9 +119,9 @@ pub fn announce<K: MemRule>(desc: &Desc<K>, stm: &Stm<K>, stripes: Stripes) -> W
 }
 
 /// Sleeps until another caller has committed a write to a word of the stripes, or reopened the gate, since the wait was
-/// announced; it may also end for no reason, and ends after some milliseconds, for commits of who can't wake. Only who has
-/// looked since then may sleep: by a transaction that began after the announcement, read words of the stripes alone, and
-/// answered None as the last thing that the caller did.
+/// announced; it may also end for no reason, and ends after some milliseconds, for commits of who can't wake. Only who
+/// has looked since then may sleep: by a transaction that began after the announcement, read words of the stripes
+/// alone, and answered None as the last thing that the caller did.
 pub fn sleep<R: Wait, K: MemRule, V: Drop, T: Transaction<K, Output = Option<V>>>(
     rt: &R,
     desc: &Desc<K>,

@@ -21,11 +21,12 @@ const SHORTEST_AT_LOCK: u16 = 10;
 
 const LONGEST_AT_LOCK: u16 = 14;
 
-/// The shortest pause of a caller that another was faster than at a commit. That one is done, and the caller holds what it
-/// has taken while it waits.
+/// The shortest pause of a caller that another was faster than at a commit. That one is done, and the caller holds what
+/// it has taken while it waits.
 const SHORTEST_AT_COMMIT: u16 = 0;
 
-/// After so many of the longest pauses, about a millisecond, who waits for what nobody tells it sleeps between its looks.
+/// After so many of the longest pauses, about a millisecond,
+/// who waits for what nobody tells it sleeps between its looks.
 const PAUSES_BEFORE_NAPS: u32 = 32;
 
 /// After the shorter pauses and so many yields who will be woken sleeps.
@@ -36,8 +37,8 @@ const SHORTEST_NAP: u32 = 6;
 
 const LONGEST_NAP: u32 = 10;
 
-/// How long a caller that will be woken spins before it sleeps: a sleep and a wake cost some 20 microseconds, so spinning serves
-/// where what is waited for comes sooner as a rule. It is learned from the waits before.
+/// How long a caller that will be woken spins before it sleeps: a sleep and a wake cost some 20 microseconds, so
+/// spinning serves where what is waited for comes sooner as a rule. It is learned from the waits before.
 #[derive(Clone, Copy, Drop, Debug, PartialEq, Eq)]
 pub struct Patience {
     /// The longest pause before the sleep, as a power of two.
@@ -65,8 +66,8 @@ impl Patience {
     }
 }
 
-/// Pauses, each twice as long as the one before up to the longest. A wait takes no step on the memory. All fields together
-/// are one word, since each commit stores them anew.
+/// Pauses, each twice as long as the one before up to the longest. A wait takes no step on the memory. All fields
+/// together are one word, since each commit stores them anew.
 #[derive(Clone, Copy, Drop, Debug, PartialEq, Eq)]
 pub struct Backoff {
     /// The next pause, as a power of two.
@@ -94,8 +95,8 @@ impl Backoff {
         self.next = pause(self.next, LONGEST);
     }
 
-    /// Another caller may be long in the way: pauses as [`Backoff::wait`] does, and after about a millisecond answers how long
-    /// the caller may sleep before it looks again, 64 microseconds at first and at last 1,024.
+    /// Another caller may be long in the way: pauses as [`Backoff::wait`] does, and after about a millisecond answers
+    /// how long the caller may sleep before it looks again, 64 microseconds at first and at last 1,024.
     pub fn wait_or_nap(&mut self) -> Option<Duration> {
         if self.next < LONGEST {
             self.wait();
@@ -116,14 +117,14 @@ impl Backoff {
         self.next = pause(self.next.max(SHORTEST_AT_LOCK), LONGEST_AT_LOCK);
     }
 
-    /// Another caller was faster at the commit, which may be tried again: pauses once, 2 times and at last 1,024 times, and
-    /// from then on lets another thread run after each pause.
+    /// Another caller was faster at the commit, which may be tried again: pauses once, 2 times and at last 1,024 times,
+    /// and from then on lets another thread run after each pause.
     pub fn wait_at_commit(&mut self) {
         self.at_commit = pause(self.at_commit, LONGEST);
     }
 
-    /// Somebody will wake the caller, who may sleep: pauses as [`Backoff::wait`] does as long as its patience lasts, and then
-    /// lets other threads run, which get on where there are more of them than processors.
+    /// Somebody will wake the caller, who may sleep: pauses as [`Backoff::wait`] does as long as its patience lasts,
+    /// and then lets other threads run, which get on where there are more of them than processors.
     pub fn wait_to_sleep(&mut self, patience: &Patience) {
         if self.next < patience.longest {
             self.wait();

@@ -1,10 +1,12 @@
 //! An event count with a bed for each caller. While nobody waits a ring is one load.
 //!
-//! Who waits announces that, then looks once more whether it has to wait, then sleeps, and withdraws. Who changes words does that
-//! before it rings. So where a ring finds nobody who waits for them, each who announces later looks later, and sees the change.
+//! Who waits announces that, then looks once more whether it has to wait, then sleeps, and withdraws. Who changes words
+//! does that before it rings. So where a ring finds nobody who waits for them, each who announces later looks later,
+//! and sees the change.
 //!
-//! A ring ends the waits that don't sleep yet. Who sleeps is woken by a call of the system, which a library without handles,
-//! as the one for C, may not reach: so to wake is a call of its own, and no sleep is longer than [`LONGEST_SLEEP`].
+//! A ring ends the waits that don't sleep yet. Who sleeps is woken by a call of the system, which a library without
+//! handles, as the one for C, may not reach: so to wake is a call of its own, and no sleep is longer than
+//! [`LONGEST_SLEEP`].
 ghost use Rattle.std.specs.Prelude.{◌≡◌, ℕ, IfSome};
 ghost use Rattle.tx_bell.specs.Bells.{rung_for, waits_for};
 ghost use Rattle.tx_bell.specs.Stripes.{Has};
@@ -26,15 +28,16 @@ const LONGEST_SLEEP: u64 = 10;
 /// On cache lines of its own, as is each bed, so that a ring takes no line from another.
 #[derive(Drop)]
 pub struct Bell {
-    /// How many wait, in the low 32 bits, and above them the stripes that they wait for; some may be of waits that are over.
+    /// How many wait, in the low 32 bits, and above them the stripes that they wait for;
+    /// some may be of waits that are over.
     waiting: CachePadded<AtomicU64>,
     /// The beds that were rung for, a bit each, of which nobody has been woken yet.
     rung: CachePadded<AtomicU64>,
     beds: [Bed; BEDS],
 }
 
-/// Where a caller sleeps. The low 32 bits are odd from an announcement on until the next ring for it, and both add 1. While they
-/// are odd the high ones are the stripes that are waited for.
+/// Where a caller sleeps. The low 32 bits are odd from an announcement on until the next ring for it, and both add 1.
+/// While they are odd the high ones are the stripes that are waited for.
 #[derive(Drop)]
 struct Bed {
     word: CachePadded<AtomicU64>,
@@ -99,8 +102,8 @@ impl Bell {
         None
     }
 
-    /// Words of these stripes may have changed: ends each wait for one of them that was announced. Who sleeps in such a wait is
-    /// to be woken ([`Bell::wake`]). To be called after the change.
+    /// Words of these stripes may have changed: ends each wait for one of them that was announced. Who sleeps in such a
+    /// wait is to be woken ([`Bell::wake`]). To be called after the change.
     pub fn ring(&self, stripes: Stripes) -> Ring
         ensures { rung_for result ≡ stripes }
     {
@@ -133,8 +136,8 @@ impl Bell {
         }
     }
 
-    /// Where the bits of the beds that were rung for lie: who has no handle, as C, wakes by the system's own call, and takes
-    /// the bits away.
+    /// Where the bits of the beds that were rung for lie: who has no handle, as C, wakes by the system's own call, and
+    /// takes the bits away.
     pub fn rung_ptr(&self) -> *mut u64 {
         self.rung.as_ptr()
     }
@@ -144,8 +147,8 @@ impl Bell {
         self.beds[bed % BEDS].word.as_ptr()
     }
 
-    /// Announces that the caller of this number waits for words of these stripes. It looks afterwards whether it has to wait,
-    /// sleeps only then, and withdraws at last.
+    /// Announces that the caller of this number waits for words of these stripes. It looks afterwards whether it has to
+    /// wait, sleeps only then, and withdraws at last.
     pub fn announce(&self, caller: usize, stripes: Stripes) -> Announced
         ensures { waits_for result ≡ stripes }
     {
@@ -170,14 +173,14 @@ impl Bell {
         }
     }
 
-    /// The word by which the announced wait sleeps. Who has no handle, as C, sleeps there by the system's own call, while its low
-    /// 32 bits are those that were announced.
+    /// The word by which the announced wait sleeps. Who has no handle, as C, sleeps there by the system's own call,
+    /// while its low 32 bits are those that were announced.
     pub fn as_ptr(&self, announced: &Announced) -> *mut u64 {
         self.beds[announced.bed % BEDS].word.as_ptr()
     }
 
-    /// Sleeps until it is woken after a ring since the announcement, or for `LONGEST_SLEEP` milliseconds. It may also end for no
-    /// reason.
+    /// Sleeps until it is woken after a ring since the announcement, or for `LONGEST_SLEEP` milliseconds. It may also
+    /// end for no reason.
     pub fn sleep<R: Wait>(&self, rt: &R, announced: &Announced) {
         self.nap(rt, announced, Duration::from_millis(LONGEST_SLEEP));
     }

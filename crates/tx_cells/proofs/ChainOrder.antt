@@ -58,7 +58,8 @@ module _ (m : List ℕ) (a u b v c w : ℕ) where
 pub weaker : (r : Chains) (m : List ℕ) (b low high k : ℕ) → low ≤ high → Above r m b high k → Above r m b low k
 weaker r m b low high k le h = record { inside = h.inside; above = (let a = h.above in omega arith); chain = h.chain }
 
--- how two links of one chain stand: where the tag of d is not more than the next tag t after a, d is a, or it is before a's cell
+-- how two links of one chain stand: where the tag of d is not more than the next tag t after a, d is a, or it is before
+-- a's cell
 pub before-or : (r : Chains) (m : List ℕ) (b low high a d t : ℕ) → IsChains r m → LinkOf r m b low a → LinkOf r m b high d → a ≢ d → high < t → ((k : ℕ) → Above r m b low k → t ≤ tag r m k)
     → (i : ℕ) × (tag r m i ≡ low) × Above r m b high i
 before-or r m b low high a d t w la ld n lt far = by (ltb high low) refl (ltb low high) refl

@@ -1,4 +1,5 @@
--- Chains of cells in a memory. A cell is named by its place j in the pool, from 0; a link to it is j + 1, and 0 is a link to none.
+-- Chains of cells in a memory. A cell is named by its place j in the pool, from 0; a link to it is j + 1, and 0 is a
+-- link to none.
 use Rattle.std.specs.Prelude.{ℕ, zero, suc, ◌≡◌, ◌+◌, ◌*◌, ◌%◌, ◌^◌, ◌<◌, ◌≤◌, ◌⊎◌, ltb, if◌then◌else◌, Bool, true, false, List, length, slice_index, slice_set, Option, Some, None}
 use Rattle.tx_cells.specs.declared.chains.Chains.{Chains}
 use Rattle.tx_effects.specs.declared.position.Position.{Position}
@@ -36,7 +37,8 @@ pub record Above (r : Chains) (m : List ℕ) (b low k : ℕ) : Type 0 where
   pub above : low < tag r m k
   pub chain : bucket r (less_one (tag r m k)) ≡ b
 
--- a is the address of a link of chain b, and low the tag of the cell that it is in: a head, with low 0, or the link of a used cell
+-- a is the address of a link of chain b, and low the tag of the cell that it is in: a head, with low 0,
+-- or the link of a used cell
 abbrev pub LinkOf : Chains → List ℕ → ℕ → ℕ → ℕ → Type 0
 LinkOf r m b low a = ((a ≡ r.at + b) × (b < r.heads) × (low ≡ 0)) ⊎ ((i : ℕ) × (a ≡ next_at r i) × (low ≡ tag r m i) × Above r m b 0 i)
 

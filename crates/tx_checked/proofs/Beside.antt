@@ -17,6 +17,7 @@ beside-of v w g =
       step_trace = g.step_trace;
       reads_limit = g.reads_limit;
       writes_limit = g.writes_limit;
+      marks_limit = g.marks_limit;
       fenced = refl;
     }
 
@@ -32,6 +33,7 @@ beside-trans u v w a b =
       step_trace = b.step_trace;
       reads_limit = b.reads_limit;
       writes_limit = b.writes_limit;
+      marks_limit = b.marks_limit;
       fenced = refl;
     } in
     grows-trans u (record v { fenced = u.fenced }) (record w { fenced = u.fenced }) a rest
@@ -39,12 +41,12 @@ beside-trans u v w a b =
 pub beside-same : (v w : CallerState) → w ≡ v → GrowsBeside v w
 beside-same v w e =
     grows-same v (record w { fenced = v.fenced }) (ap (λ (k : CallerState). k.seen) e) (ap (λ (k : CallerState). k.front) e) []
-    (ap (λ (k : CallerState). k.step_trace) e) (ap (λ (k : CallerState). k.reads_limit) e) (ap (λ (k : CallerState). k.writes_limit) e) refl
+    (ap (λ (k : CallerState). k.step_trace) e) (ap (λ (k : CallerState). k.reads_limit) e) (ap (λ (k : CallerState). k.writes_limit) e) (ap (λ (k : CallerState). k.marks_limit) e) refl
 
 pub beside-stays : (v w : CallerState) → StaysBeside v w → GrowsBeside v w
 beside-stays v w s =
     grows-same v (record w { fenced = v.fenced }) (ap (λ (k : CallerState). k.seen) s.is) (ap (λ (k : CallerState). k.front) s.is)
-    (s.item ∷ []) s.step_trace (ap (λ (k : CallerState). k.reads_limit) s.is) (ap (λ (k : CallerState). k.writes_limit) s.is) refl
+    (s.item ∷ []) s.step_trace (ap (λ (k : CallerState). k.reads_limit) s.is) (ap (λ (k : CallerState). k.writes_limit) s.is) (ap (λ (k : CallerState). k.marks_limit) s.is) refl
 
 -- between the closing of the gate and its reopening
 pub beside-between : (u v w x : CallerState) → Grows u v → GrowsBeside v w → Grows w x → GrowsBeside u x

@@ -73,7 +73,7 @@ module _ (c : Config) (n : ℕ) where
             unlocked-of last.gate.algorithm v.lock.taken v.tml.writer out.clear.unlocked out.clear.unwritten,
           );
           made = refl;
-          grows = grows-same (known_of v o) (known_of last o) refl refl steps refl refl refl refl;
+          grows = grows-same (known_of v o) (known_of last o) refl refl steps refl refl refl refl refl;
           rises = refl;
           installs = refl;
           sole = λ one. l.1.sole one ∙ ap (λ (y : View). y.gate.algorithm) a.2;

@@ -19,6 +19,7 @@ use Rattle.stm_rule.specs.Kinds.Lifted.{hears}
 use Rattle.stm_rule.specs.NoteSteps.{hear}
 use Rattle.stm_rule.specs.Product.{Invariant}
 use Rattle.tx_answers.specs.CallerState.{zeros}
+use Rattle.tx_atomic.specs.ExtendsLaws.{grows-extends}
 use Rattle.tx_atomic.specs.MomentLaws.{happened}
 use Rattle.tx_checked.specs.declared.checked_caller.CheckedCaller.{CheckedCaller}
 use Rattle.tx_checked.specs.CheckedCallers.{config_of, known_to, memory_of, number_of}
@@ -126,7 +127,9 @@ module _ (w : World) (m : CheckedCaller) (at : IsMomentOf w m) where
   }
 
   pub has-moments : HasMomentsIn (history_of w) m
-  has-moments log u x took grew = happened Any c (number_of m) (λ l. l ≡ log) u x (history_of w) (record (known_to m) { fenced = x.fenced }) took grew is-part.seen
+  has-moments log u x took grew =
+      let now = record (known_to m) { fenced = x.fenced } in
+      happened Any c (number_of m) (λ l. l ≡ log) u x (history_of w) now took (grows-extends x now grew) is-part.seen
 
   pub takes-all : TakesAllOf w m
   takes-all n from count word alg = (is-part.made, is-part.seen)

@@ -10,6 +10,7 @@ use Rattle.tx_answers.specs.declared.answers.Begin.{Begin}
 use Rattle.tx_answers.specs.declared.answers.Begin.TheVariants as begins
 use Rattle.tx_answers.specs.declared.answers.Commit.TheVariants as commits
 use Rattle.tx_atomic.specs.AttemptLaws.{same-number}
+use Rattle.tx_atomic.specs.ExtendsLaws.{grows-extends}
 use Rattle.tx_checked.specs.declared.calls.Opened.TheVariants as opens
 use Rattle.tx_checked.specs.declared.checked_caller.CheckedCaller.{CheckedCaller}
 use Rattle.tx_checked.specs.declared.peeking.Peek.{Peek}
@@ -66,7 +67,7 @@ looked_once a m k n alg r fits opened same once = (fits, same-trans m k n opened
           before = known_to l;
           told = read-one (known_to k).log (known_to l).log a x told.0.log read.2;
           made = read.0.continues.made ∙ told.0.made;
-          grows = grows-trans (known_to m) (known_to k) (known_to l) told.0.grows read.0.continues.grows;
+          grows = grows-extends (known_to m) (known_to l) (grows-trans (known_to m) (known_to k) (known_to l) told.0.grows read.0.continues.grows);
           later = (let p = told.0.fresh in let q = read.0.continues.later in omega (arith, p, q));
           time = once.3.0;
           commits = inr here;

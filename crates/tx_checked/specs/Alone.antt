@@ -21,7 +21,8 @@ use Rattle.tx_checked.specs.Phases.{Any}
 
 -- c is the memory's configuration, and n the caller
 module _ (c : Config) (n : ℕ) where
-  -- the gate was looked at, and not closed: no step of the call changed its word, which names another caller where it isn't open
+  -- the gate was looked at, and not closed: no step of the call changed its word,
+  -- which names another caller where it isn't open
   pub record LooksAtGate (gate : ℕ) (v w : CallerState) : Type 0 where
     pub stays : Stays c v w
     pub steps : List TracedStep
@@ -46,7 +47,8 @@ module _ (c : Config) (n : ℕ) (closing : Bool) where
   abbrev pub IsAlone : CallerState → CallerState → Type 0
   IsAlone v w = (closed : CallerState) × HasClosedBy c n closing v closed × Looks Any c n looks.Quiet closed w
 
-  -- another caller had the gate; or it was closed, and a look, which went on where the last one stopped, found another caller in an attempt
+  -- another caller had the gate; or it was closed, and a look, which went on where the last one stopped,
+  -- found another caller in an attempt
   abbrev pub IsHeldUp : Refusal → CallerState → CallerState → Type 0
   IsHeldUp (refusals.GateClosed gate) v w = (closing ≡ false) × Closes Any c n (gates.Taken gate) v w
   IsHeldUp (refusals.Busy caller status) v w = (closed : CallerState) × HasClosedBy c n closing v closed × Looks Any c n (looks.Busy caller status) closed w

@@ -14,7 +14,8 @@ use Rattle.tx_checked.specs.OneHistory.{IsOfCallers, found_by, found_until}
 use Rattle.tx_checked.specs.Ranges.{GrowsBeside, IsLeft}
 use Rattle.tx_checked.specs.Phases.{Any}
 
--- The first words are the memory after what the caller found as it took all of them out: a legal history of the memory's callers, which begins with what the caller had seen. Nobody has the words to give back.
+-- The first words are the memory after what the caller found as it took all of them out: a legal history of the
+-- memory's callers, which begins with what the caller had seen. Nobody has the words to give back.
 pub record EndsAs (m n : CheckedCaller) (old ws : List ℕ) : Type 0 where
   pub legal : IsLegal Any (zeros (config_of m).words) (config_of m).clock (found_by n)
   pub callers : IsOfCallers (config_of m) (number_of m) (known_to n).made (found_by n) (found_until n)

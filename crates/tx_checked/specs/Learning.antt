@@ -16,7 +16,8 @@ use Rattle.tx_checked.specs.Misuses.{or_else, outside}
 abbrev pub meeting : CheckedCaller → CheckedCaller → Option Misuse
 meeting to from = or_else (outside to) (outside from)
 
--- it knows what a note of its memory tells, which has seen as far as all that f has made, and nothing else has changed, but that the two steps of learning are in its step trace
+-- it knows what a note of its memory tells, which has seen as far as all that f has made, and nothing else has changed,
+-- but that the two steps of learning are in its step trace
 abbrev pub HasLearned : CheckedCaller → CheckedCaller → CheckedCaller → Unit {0} → Type 0
 HasLearned m f n r =
     AllBy (known_to n).front (known_to f).made × (note : Handle AnyMem) × AllBy (front_of note.view) (known_to f).made × IsOf note (arc_value m.stm) × (note.who.role ≡ Note) × Learns m.desc.view note.view n.desc.view × (n.desc.own ≡ m.desc.own) × TakesAtMost 2 m.desc.view n.desc.view
@@ -39,7 +40,8 @@ pub record HasTold (m n : CheckedCaller) : Type 0 where
   pub counts : n.counts ≡ m.counts
   pub latest : n.latest ≡ m.latest
 
--- what becomes of the one that tells: where the call doesn't fit it isn't asked, and a stranger is told too, but doesn't learn
+-- what becomes of the one that tells: where the call doesn't fit it isn't asked, and a stranger is told too, but
+-- doesn't learn
 abbrev pub IsAsked : Option Misuse → CheckedCaller → CheckedCaller → Type 0
 IsAsked None m n = HasTold m n
 IsAsked (Some e) m n = IsUntouched m n

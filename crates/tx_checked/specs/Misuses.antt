@@ -64,7 +64,8 @@ access_at a words fence Beside = if ltb a words then (if fenced fence a then Som
 access_at a words fence Committing = Some wrong.Committing
 access_at a words fence Closing = Some wrong.Closing
 
--- of a call for a caller in no attempt that hasn't closed the gate; for one in an attempt; for one in an attempt that isn't in the middle of its commit; and of a read or a write of a
+-- of a call for a caller in no attempt that hasn't closed the gate; for one in an attempt; for one in an attempt that
+-- isn't in the middle of its commit; and of a read or a write of a
 abbrev pub outside : CheckedCaller → Option Misuse
 outside m = outside_at m.phase
 

@@ -25,7 +25,8 @@ abbrev pub IsOurs : Handle AnyMem → Option Letter → Type 0
 IsOurs key None = Unit {0}
 IsOurs key (Some letter) = IsLetter key letter
 
--- the word of a place is 1 while it is open; else it is at home, and a letter that lies there is of the memory of which the key is a caller. Each view is the key
+-- the word of a place is 1 while it is open; else it is at home, and a letter that lies there is of the memory of which
+-- the key is a caller. Each view is the key
 pub record Kept (key : Handle AnyMem) (s : State (Option Letter) (Handle AnyMem)) : Type 0 where
   pub even : length s.words ≡ length s.homes
   pub views : (i : ℕ) (v : Handle AnyMem) → get_elem? s.views i ≡ some v → v ≡ key

@@ -1,4 +1,5 @@
--- ONE HISTORY BEHIND EVERY HANDLE: at each moment of a memory all that its callers know is of one history, and so is what a caller finds as it takes words out, of which an end hands out the memory.
+-- ONE HISTORY BEHIND EVERY HANDLE: at each moment of a memory all that its callers know is of one history, and so is
+-- what a caller finds as it takes words out, of which an end hands out the memory.
 use Rattle.std.specs.Prelude.{ℕ, ◌≡◌, ◌≤◌, List, []}
 use Rattle.stm_model.specs.declared.alg.Alg.{Alg}
 use Rattle.stm_model.specs.declared.config.Config.{Config}
@@ -27,7 +28,8 @@ found_by m = (known_to m).fenced.seen
 abbrev pub found_until : CheckedCaller → ℕ
 found_until m = (known_to m).fenced.front
 
--- caller n made this, and found that: it has entries of the memory's callers alone, of caller n all up to then, in order and each once
+-- caller n made this, and found that: it has entries of the memory's callers alone, of caller n all up to then, in
+-- order and each once
 pub record IsOfCallers (c : Config) (n : ℕ) (made found : List Entry) (until : ℕ) : Type 0 where
   pub nobody_else : (k : ℕ) → c.callers ≤ k → made_by k found ≡ []
   pub own : BeginsHistory (made_by n found) until made
@@ -40,12 +42,14 @@ FindsCallers c n w v clock = IsOfCallers c n (made_of v) (taken_of v) (taken_fro
 abbrev pub history_of : World → List Entry
 history_of w = public_history w.history
 
--- a moment of the caller's memory, as each step leaves one: its rule stands, and what the caller knows is its view there
+-- a moment of the caller's memory, as each step leaves one: its rule stands,
+-- and what the caller knows is its view there
 pub record IsMomentOf (w : World) (m : CheckedCaller) : Type 0 where
   pub rule : Invariant (of_words Any (config_of m).words) (config_of m) w
   pub view : w.views (number_of m) ≡ m.desc.view
 
--- the history is legal and of the memory's callers alone; the caller's entries are its part of it; and what the caller has seen begins it, as does what it found
+-- the history is legal and of the memory's callers alone; the caller's entries are its part of it; and what the caller
+-- has seen begins it, as does what it found
 pub record IsPartOf (history : List Entry) (m : CheckedCaller) : Type 0 where
   pub legal : IsLegal Any (zeros (config_of m).words) (config_of m).clock history
   pub nobody_else : (k : ℕ) → (config_of m).callers ≤ k → made_by k history ≡ []

@@ -37,7 +37,8 @@ HasReadOnce a k n peeks.ClockFull = ⊥
 abbrev pub HasLookedOnce : ℕ → CheckedCaller → CheckedCaller → Peek → Type 0
 HasLookedOnce a m n r = (k : CheckedCaller) × (alg : Alg) × IsSameCheckedCaller m k × HasBegun m k (begins.Begun alg) × HasReadOnce a k n r
 
--- A WORD AT ONE MOMENT: an attempt took effect which read that and wrote nothing, at a moment not before anything that the caller had seen
+-- A WORD AT ONE MOMENT: an attempt took effect which read that and wrote nothing,
+-- at a moment not before anything that the caller had seen
 abbrev pub TookALook : ℕ → ℕ → CheckedCaller → CheckedCaller → Type 0
 TookALook a x m n = TookEffect Any (config_of m) (number_of m) (λ l. l ≡ one_read a x) (known_to m).front (known_to m) (known_to n)
 

@@ -37,7 +37,8 @@ pub record TakesOut (c : Config) (from count : ℕ) (v w : CallerState) : Type 0
   pub seen : w.fenced.seen ≡ v.seen ++ later
   pub front : v.front ≤ w.fenced.front
 
--- the direct reads and writes are one entry of a legal history, which begins with what was found as the range was taken, later than all that the caller had seen; and the range is back
+-- the direct reads and writes are one entry of a legal history, which begins with what was found as the range was
+-- taken, later than all that the caller had seen; and the range is back
 pub record GivesAt (c : Config) (n time : ℕ) (v w : CallerState) : Type 0 where
   pub made : w.made ≡ v.made ++ entry time n (length v.made) v.fenced.log ∷ []
   pub back : w.fenced.held ≡ false

@@ -83,7 +83,8 @@ pub record AreHindered (c : Config) (e : Hindrance) (ms : List CheckedCaller) : 
   pub new : AreNewWith c [] ms
   pub first : IsHinderedFirst c e (descs_in ms)
 
--- a number is at fault; or none is, and memory was refused, or another was in the way of the install: then the callers are handed out
+-- a number is at fault; or none is, and memory was refused, or another was in the way of the install:
+-- then the callers are handed out
 abbrev pub IsOpenError : Config → OpenError → List CheckedCaller → Type 0
 IsOpenError c (opens.Refused e) ms = IsRefusal c e × (ms ≡ [])
 IsOpenError c opens.Memory ms = (first_fault c ≡ None) × (ms ≡ [])

@@ -35,7 +35,8 @@ use Rattle.tx_checked.specs.CheckedCallers.{IsSameCheckedCaller, config_of, know
 use Rattle.tx_checked.specs.Ranges.{IsLeft}
 use Rattle.tx_checked.specs.Phases.{Any}
 
--- a call that fits is made, of the same caller; one that doesn't is answered by what is wrong with it, and changes nothing
+-- a call that fits is made, of the same caller; one that doesn't is answered by what is wrong with it, and changes
+-- nothing
 abbrev pub Tells : {A : Type 0} → Option Misuse → (A → Type 0) → CheckedCaller → CheckedCaller → Result A Misuse → Type 0
 Tells wrong Told m n (Ok answer) = (wrong ≡ None) × IsSameCheckedCaller m n × Told answer
 Tells wrong Told m n (Err e) = (wrong ≡ Some e) × (n ≡ m)

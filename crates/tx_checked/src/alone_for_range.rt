@@ -112,8 +112,8 @@ fn close_without_range(
     }
 }
 
-/// Closes the gate, where this caller isn't `closing` already and no range is out, and looks once at those that it hasn't
-/// seen idle since.
+/// Closes the gate, where this caller isn't `closing` already and no range is out, and looks once at those that it
+/// hasn't seen idle since.
 ///
 /// # Errors
 /// `GateClosed` or `RangeTaken`, and the caller is idle; or `Busy`, and it goes on holding the gate.

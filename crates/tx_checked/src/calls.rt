@@ -253,8 +253,8 @@ impl CheckedCaller {
         }
     }
 
-    /// Installs an algorithm, once no other caller is in an attempt. `Busy` leaves the gate closed: the same call goes on
-    /// from there, and `reopen` gives it up.
+    /// Installs an algorithm, once no other caller is in an attempt. `Busy` leaves the gate closed: the same call goes
+    /// on from there, and `reopen` gives it up.
     pub fn switch(&mut self, alg: Alg) -> Result<Result<(), Refusal>, Misuse>
         ensures { Tells (doing (Switch alg) self.old) (HasSwitched alg self.old self.new) self.old
             self.new result }

@@ -70,10 +70,10 @@ fn see_callers(desc: &mut Desc<AnyMem>, stm: &Stm<AnyMem>)
 }
 
 impl CheckedCaller {
-    /// Takes all words out of the transactions for good, once no other caller is in an attempt and where no range is out,
-    /// and hands them out: they are the memory after all that was committed. No attempt reads or writes a word from then
-    /// on. `Busy` leaves the gate closed: the call goes on from there, and `reopen` gives it up. Where a range is out nobody is
-    /// waited for.
+    /// Takes all words out of the transactions for good, once no other caller is in an attempt and where no range is
+    /// out, and hands them out: they are the memory after all that was committed. No attempt reads or writes a word
+    /// from then on. `Busy` leaves the gate closed: the call goes on from there, and `reopen` gives it up. Where a
+    /// range is out nobody is waited for.
     pub fn end(&mut self, words: &mut [u64]) -> Result<Result<(), Refusal>, Misuse>
         ensures tells { Tells (ending (length words.old) self.old)
             (HasEnded self.old self.new words.old words.new) self.old self.new result }
@@ -100,7 +100,8 @@ impl CheckedCaller {
         }
     }
 
-    /// Whether it may take all words, and there is room for them: the answer is whether the gate was closed for it before.
+    /// Whether it may take all words, and there is room for them:
+    /// the answer is whether the gate was closed for it before.
     fn may_end(&self, room: usize) -> Result<bool, Misuse>
         ensures idle { IfOk result (λ closing. closing ≡ false → IsIdle (known_to self.now)) }
         ensures closed { IfOk result (λ closing. closing ≡ true → HoldsClosed (known_to self.now)) }

@@ -9,8 +9,8 @@ pub enum Misuse {
     InAttempt,
     /// The attempt is in the middle of its commit: it can only be committed or cancelled.
     Committing,
-    /// The address is not below the number of words; or the range is empty, reaches beyond them, or isn't of whole blocks
-    /// where the memory isn't small.
+    /// The address is not below the number of words; or the range is empty, reaches beyond them, or isn't of whole
+    /// blocks where the memory isn't small.
     Address,
     /// The word is out of the transactions: it was so as the attempt began.
     Fenced,

@@ -109,8 +109,8 @@ impl NoteExchange {
         if found == wanted { Some(seat) } else { None }
     }
 
-    /// Lays a letter into the place, for a caller, over one that nobody has fetched: the place is its teller's. It is lost
-    /// where there is no such place, or another has it open.
+    /// Lays a letter into the place, for a caller, over one that nobody has fetched: the place is its teller's. It is
+    /// lost where there is no such place, or another has it open.
     pub(crate) fn lay(&self, place: usize, caller: usize, letter: Letter)
         requires { IsLetter self.now.table.shared.key letter }
     {
@@ -128,8 +128,8 @@ impl NoteExchange {
         }
     }
 
-    /// Takes the letter out of the place that lies there for a caller, and answers its note, where its teller's latest entry
-    /// was then.
+    /// Takes the letter out of the place that lies there for a caller, and answers its note, where its teller's latest
+    /// entry was then.
     pub(crate) fn take(&self, place: usize, caller: usize, latest: u64) -> Option<Note<AnyMem>>
         ensures memory { IfSome result (IsOfSameMemory self.now.table.shared.key) }
         ensures dated { IfSome result (λ note. latest ≤ front_of note.view) }

@@ -34,7 +34,8 @@ pub enum OpenError {
     Busy(Hindrance),
 }
 
-/// A memory that wasn't opened as asked. At `Busy` it is open, under CGL, and these are its callers; else there are none.
+/// A memory that wasn't opened as asked. At `Busy` it is open, under CGL, and these are its callers; else there are
+/// none.
 #[derive(Drop)]
 pub struct NotOpened {
     pub error: OpenError,
@@ -44,8 +45,8 @@ pub struct NotOpened {
 /// Opens a memory of zeros, under the algorithm, and answers its callers, in order.
 ///
 /// # Errors
-/// Those of `Stm::new`. `Busy` where another caller was in the way of the install: nobody else has the memory yet, but the
-/// proof of one caller's calls doesn't see that, so the callers are handed out with what the first of them met.
+/// Those of `Stm::new`. `Busy` where another caller was in the way of the install: nobody else has the memory yet, but
+/// the proof of one caller's calls doesn't see that, so the callers are handed out with what the first of them met.
 pub fn open(alloc: Global, config: Config, alg: Alg) -> Result<Vec<CheckedCaller>, NotOpened>
     ensures count { IfOk result (λ checked_callers. length checked_callers.items ≡ config.callers) }
     ensures new { IfOk result (λ checked_callers. AreNew config alg checked_callers.items) }

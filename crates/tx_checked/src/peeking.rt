@@ -34,8 +34,8 @@ pub enum Peek {
 }
 
 impl CheckedCaller {
-    /// Looks at the word at `a` outside an attempt, by one that reads this alone. It is fast where the gate names the algorithm that
-    /// is expected.
+    /// Looks at the word at `a` outside an attempt, by one that reads this alone. It is fast where the gate names the
+    /// algorithm that is expected.
     #[inline(always)]
     #[tactic(auto, using(crate::proofs::PeekLaws::found_closed, crate::proofs::PeekLaws::found_held, crate::proofs::PeekLaws::found_full))]
     pub fn peek_as<A: Algorithm>(&mut self, a: usize) -> Result<Peek, Misuse>
@@ -119,7 +119,8 @@ fn read_once<C: Calls + Drop>(calls: C, caller: &mut CheckedCaller, a: usize) ->
     }
 }
 
-/// Ends an attempt that wrote nothing and was not made irrevocable. That is tested, so that no other commit is compiled into it.
+/// Ends an attempt that wrote nothing and was not made irrevocable. That is tested,
+/// so that no other commit is compiled into it.
 #[inline(always)]
 fn end_unread<C: Calls + Drop>(calls: C, caller: &mut CheckedCaller)
     requires served { IsServed C.acts_as (known_to caller.old) }

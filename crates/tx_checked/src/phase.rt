@@ -9,7 +9,8 @@ use crate::refusal::Refusal;
 pub enum CallerPhase {
     /// In an attempt that may read and write everywhere.
     Running,
-    /// In an attempt that began while a range was out of the transactions: each access looks whether its word is spared.
+    /// In an attempt that began while a range was out of the transactions:
+    /// each access looks whether its word is spared.
     Beside,
     /// In an attempt, whose commit answered `Again`.
     Committing,

@@ -83,8 +83,8 @@ fn are_blocks(from: usize, count: usize) -> bool
 
 impl CheckedCaller {
     /// Takes `count` words from `from` on out of the transactions, for this caller alone, once no other caller is in an
-    /// attempt and where no range is out: of one that is, the gate's word tells before anyone is waited for. `Busy` leaves
-    /// the gate closed: the same call goes on from there, and `reopen` gives it up.
+    /// attempt and where no range is out: of one that is, the gate's word tells before anyone is waited for. `Busy`
+    /// leaves the gate closed: the same call goes on from there, and `reopen` gives it up.
     pub fn fence(&mut self, from: usize, count: usize) -> Result<Result<(), Refusal>, Misuse>
         ensures { Tells (taking from count self.old) (HasTaken from count self.old self.new)
             self.old self.new result }
@@ -205,10 +205,10 @@ impl CheckedCaller {
         Ok(())
     }
 
-    /// Gives its range back, once no other caller is in an attempt, with what it wrote there as one entry of the history.
-    /// `Busy` leaves the gate closed: the same call goes on from there, and `reopen` gives it up. A clock at its limit
-    /// leaves the range to the caller: nothing more is committed to this memory, so what it and the others read from then
-    /// on is the memory's last.
+    /// Gives its range back, once no other caller is in an attempt, with what it wrote there as one entry of the
+    /// history. `Busy` leaves the gate closed: the same call goes on from there, and `reopen` gives it up. A clock at
+    /// its limit leaves the range to the caller: nothing more is committed to this memory, so what it and the others
+    /// read from then on is the memory's last.
     pub fn give_back(&mut self) -> Result<Result<Give, Refusal>, Misuse>
         ensures { Tells (giving self.old) (HasGiven self.old self.new) self.old self.new result }
     {

@@ -33,7 +33,8 @@ impl CheckedCaller {
         }
     }
 
-    /// What is wrong where it isn't idle. Apart, and by its state, so that of a call that fits the phase is only compared.
+    /// What is wrong where it isn't idle. Apart, and by its state,
+    /// so that of a call that fits the phase is only compared.
     #[cold]
     #[inline(never)]
     fn not_outside(&self) -> Misuse

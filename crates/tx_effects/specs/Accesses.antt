@@ -21,8 +21,9 @@ DoesFor access s t effect reply = DoesOver (access.good s) (access.words s) effe
 abbrev pub ShowsFor : {S A : Type 0} → Ghosts S → S → S → (List ℕ → A) → A → Type 0
 ShowsFor access s t value v = Shows (access.good s) (access.words s) (access.log s) (access.log t) (λ m. v ≡ value m)
 
--- THE FRAME of a call over an access, from s to t with this result: an Ok leaves an attempt that goes on and that a good
--- memory explains, an Err is what stopped it; which memories are good, their length, and what the access keeps stay
+-- THE FRAME of a call over an access, from s to t with this result: an Ok leaves an attempt that goes on and that a
+-- good memory explains, an Err is what stopped it; which memories are good, their length,
+-- and what the access keeps stay
 pub record LeadsOn {S R : Type 0} (access : Ghosts S) (s t : S) (result : Result R Stop) : Type 0 where
   pub explained : OnOk result (ExplainedFor access t)
   pub goes : OnOk result (access.stopped t ≡ None)

@@ -1,11 +1,13 @@
--- What callers do, as deeds: a type of one's own, whose values stand for what one transaction did to what is seen in a memory.
+-- What callers do, as deeds: a type of one's own, whose values stand for what one transaction did to what is seen in a
+-- memory.
 use Rattle.std.specs.Prelude.{ℕ, zero, suc, ◌≡◌, ◌<◌, ◌+◌, ◌==◌, if◌then◌else◌, List, [], ◌∷◌, ◌++◌, length, sum_by, slice_index_or}
 use Rattle.stm_model.specs.Histories.{Entry}
 use Rattle.stm_model.specs.Logs.{Log}
 use Rattle.stm_model.specs.Memories.{overlay, Explains}
 use Rattle.tx_jobs.specs.Repeats.{log_of}
 
--- a transaction with this log was this deed: whatever good memory of so many words has what it read, what is seen there moves so
+-- a transaction with this log was this deed: whatever good memory of so many words has what it read,
+-- what is seen there moves so
 abbrev pub IsDeed : {D S : Type 0} → (List ℕ → Type 0) → ℕ → (List ℕ → S) → (D → S → S → Type 0) → D → Log → Type 0
 IsDeed good words view moves d log = (m : List ℕ) → good m → length m ≡ words → Explains m log.reads → moves d (view m) (view (overlay m log.writes))
 
@@ -38,16 +40,17 @@ abbrev pub over : ℕ → (ℕ → ℕ) → ℕ
 over zero f = 0
 over (suc n) f = over n f + f n
 
--- THE LAW of deeds, in any history. Those of all callers stand in one order, a deed for each entry and an entry for each deed; those of each
--- caller are its own, in its order; and from what is seen at first they lead to what is seen at the end.
+-- THE LAW of deeds, in any history. Those of all callers stand in one order, a deed for each entry and an entry for
+-- each deed; those of each caller are its own, in its order;
+-- and from what is seen at first they lead to what is seen at the end.
 pub record InOrder {D S : Type 0} (does : D → Log → Type 0) (moves : D → S → S → Type 0) (own : ℕ → List D) (history : List Entry) (from to : S) : Type 0 where
   pub deeds : List D
   pub are : AreDeeds does history deeds
   pub each : (n : ℕ) → deeds_by n history deeds ≡ own n
   pub leads : Leads moves deeds from to
 
--- In a closed memory of so many callers: those of each caller are what it answers; and whatever is counted of all is what the callers' own
--- come to together.
+-- In a closed memory of so many callers: those of each caller are what it answers; and whatever is counted of all is
+-- what the callers' own come to together.
 pub record InOneOrder {D S V : Type 0} (does : D → Log → Type 0) (moves : D → S → S → Type 0) (own : ℕ → V → List D) (callers : ℕ) (answers : List V) (history : List Entry) (from to : S) : Type 0 where
   pub deeds : List D
   pub are : AreDeeds does history deeds

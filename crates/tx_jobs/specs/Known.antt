@@ -12,8 +12,8 @@ pub record Seat (K : Type 0) : Type 0 where
   pub callers : ℕ
   pub number : ℕ
 
--- its own entries, and all that it has seen, which are those up to its front, the oldest first; what it installed; its count of commits; and
--- the greatest clock that it found
+-- its own entries, and all that it has seen, which are those up to its front, the oldest first; what it installed; its
+-- count of commits; and the greatest clock that it found
 pub record Known : Type 0 where
   pub made : List Entry
   pub seen : List Entry

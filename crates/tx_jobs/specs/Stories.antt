@@ -19,9 +19,9 @@ abbrev pub first_installs : Alg → ℕ → List Alg
 first_installs alg zero = alg ∷ []
 first_installs alg (suc n) = []
 
--- caller n answered this, and so it is told; it had made nothing before, and installed nothing but the memory's first algorithm; after it,
--- what it made is what the history has of it, what it had seen begins the history, and what it installed and counted is what is told of it, and it found
--- no clock beyond the last
+-- caller n answered this, and so it is told; it had made nothing before, and installed nothing but the memory's first
+-- algorithm; after it, what it made is what the history has of it, what it had seen begins the history, and what it
+-- installed and counted is what is told of it, and it found no clock beyond the last
 pub record IsStory {V : Type 0} (alg : Alg) (tells : V → Known → Known → Type 0) (past : Past) (n : ℕ) (value : V) : Type 0 where
   pub before : Known
   pub after : Known
@@ -34,7 +34,8 @@ pub record IsStory {V : Type 0} (alg : Alg) (tells : V → Known → Known → T
   pub counted : get_or past.commits n 0 ≡ after.commits
   pub found : after.top ≤ past.clock
 
--- the words are good, and those at the end of a legal history, in which each caller has its story, and nobody else has made anything
+-- the words are good, and those at the end of a legal history, in which each caller has its story,
+-- and nobody else has made anything
 pub record Came {V : Type 0} (good : List ℕ → Type 0) (c : Config) (alg : Alg) (tells : ℕ → V → Known → Known → Type 0) (words : List ℕ) (answers : List V) (past : Past) : Type 0 where
   pub kept : good words
   pub count : length words ≡ c.words

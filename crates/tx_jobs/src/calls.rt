@@ -8,8 +8,8 @@ use tx_transaction::transaction::Transaction;
 
 /// A caller between its transactions, on its thread.
 ///
-/// Contracts see its seat, which is the memory's rule and sizes and the caller's number; what is known of it; and `keeps`,
-/// the frame of its calls.
+/// Contracts see its seat, which is the memory's rule and sizes and the caller's number; what is known of it; and
+/// `keeps`, the frame of its calls.
 pub trait Calls<R: Wait, K: MemRule> {
     ghost use Rattle.std.specs.Prelude.{ℕ};
     ghost use Rattle.stm_model.specs.Logs.{Log};

@@ -14,8 +14,8 @@ pub trait Errand<R: Wait, K: MemRule> {
 
     type Item: Drop;
 
-    // what it needs of the rule, of the number of words, and of the round, the first of which is 0. Where nothing is said:
-    // one word, which each memory has
+    // what it needs of the rule, of the number of words, and of the round, the first of which is 0. Where nothing is
+    // said: one word, which each memory has
     ghost precondition: { Self → K → ℕ → ℕ → Type 0 } = { λ it rule words round. 0 < words };
 
     // what is so of a round, by the caller's number, what was answered, and what the caller knew before and after it.

@@ -14,8 +14,8 @@ pub trait Job<R: Wait, K: MemRule> {
     // what it needs of the rule and of the number of words. Where nothing is said: one word, which each memory has
     ghost precondition: { Self → K → ℕ → Type 0 } = { λ job rule words. 0 < words };
 
-    // what is so of a caller's answer: by the rule, the number of words, the caller's number, and what it knew before and
-    // after its work. Where nothing is said: nothing
+    // what is so of a caller's answer: by the rule, the number of words, the caller's number, and what it knew before
+    // and after its work. Where nothing is said: nothing
     ghost postcondition: { Self → K → ℕ → ℕ → Self.Output → Known → Known → Type 0 } = { λ job rule words caller answer before after. Unit {0} };
 
     fn work<C: Calls<R, K>>(&self, caller: &mut C) -> Self::Output

@@ -19,8 +19,9 @@ pub trait Deed<K: MemRule> {
 }
 
 /// In any legal history, where each caller's entries are deeds of its own, the deeds of all stand in one order, each
-/// caller's in its own, and lead from the memory at first to that at the end; so it is in a closed memory where what each
-/// caller answered tells its deeds (`own`). Whatever each deed moves from what it brings to what it takes is nowhere lost.
+/// caller's in its own, and lead from the memory at first to that at the end; so it is in a closed memory where what
+/// each caller answered tells its deeds (`own`). Whatever each deed moves from what it brings to what it takes is
+/// nowhere lost.
 pub fn deeds_stand_in_one_order<K: MemRule, D: Deed<K>, V>()
     ensures order { (rule : K) (opening : List ℕ) (floor : ℕ) (history : List Entry)
         (own : ℕ → List D) → IsLegal (K.good rule) opening floor history

@@ -7,8 +7,8 @@ use std::sync::Wait;
 use stm_model::rule::MemRule;
 use tx_transaction::transaction::Transaction;
 
-/// Runs so many transactions, one after another, and answers how many took effect: fewer only where the clock was found at
-/// its limit. `f` makes that of a round, the first of which is 0.
+/// Runs so many transactions, one after another, and answers how many took effect: fewer only where the clock was found
+/// at its limit. `f` makes that of a round, the first of which is 0.
 pub fn repeat<R: Wait, K: MemRule, C: Calls<R, K>, T: Transaction<K> + Drop, F: Fn(usize) -> T>(
     caller: &mut C,
     rounds: usize,

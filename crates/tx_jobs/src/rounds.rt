@@ -18,8 +18,8 @@ pub trait Round<R: Wait, K: MemRule> {
     // after it. Where nothing is said: nothing
     ghost postcondition: { Self → K → ℕ → ℕ → ℕ → Known → Known → Type 0 } = { λ it rule words caller round before after. Unit {0} };
 
-    /// Does this round: `caller.run(&first)?; caller.run(&second)?; Some(())`. None, which is the last: one of its calls
-    /// found the clock at its limit.
+    /// Does this round: `caller.run(&first)?; caller.run(&second)?; Some(())`. None, which is the last: one of its
+    /// calls found the clock at its limit.
     fn round<C: Calls<R, K>>(&self, caller: &mut C, round: usize) -> Option<()>
         requires precondition { precondition self.now (C.seat caller.old).rule
             (C.seat caller.old).words }

@@ -1,7 +1,8 @@
 -- Words of a memory, handed out one after another.
 use Rattle.std.specs.Prelude.{ℕ, ◌≡◌, ◌<◌, ◌≤◌, ◌+◌, List, [], ◌∷◌, length, slice_index_or}
 
--- a layout that had handed out `before` words gave so many from `at` on: all of them are new, and all that it gives later come after them
+-- a layout that had handed out `before` words gave so many from `at` on: all of them are new,
+-- and all that it gives later come after them
 abbrev pub Gives : ℕ → ℕ → ℕ → ℕ → Type 0
 Gives before at size after = (at ≡ before) × (after ≡ at + size)
 

@@ -82,37 +82,37 @@ new-tied ms (suc d) a x ws l f o t =
 
 -- what stands of a log with marks
 abbrev pub Whole : List Mark → ℕ → LogState → Type 0
-Whole ms d g = (length ms ≡ 8) × (d ≤ 8) × Rooms g.len ms × Tied (take d ms) g.items
+Whole ms d g = (d ≤ length ms) × Rooms g.len ms × Tied (take d ms) g.items
 
 abbrev with_marks : List Mark → ℕ → LogState → LogState
-with_marks ms d g = record g { marks = marked (take d ms) g.items }
+with_marks ms d g = record g { marks = marked (take d ms) g.items; marks_limit = length ms }
 
 pub pushed-stands : (ms : List Mark) (d a x : ℕ) (n : Mark) (g h : LogState) (r : Push) → 0 < d → d ≤ length ms
-    → n ≡ saved a g.items (get_or ms (d - 1) blank_mark) → Once g.items → length ms ≡ 8 → d ≤ 8 → Rooms g.len (set ms (d - 1) n)
+    → n ≡ saved a g.items (get_or ms (d - 1) blank_mark) → Once g.items → Rooms g.len (set ms (d - 1) n)
     → Tied (take d ms) g.items → Pushes g a (put a x g.items) r h → Whole (set ms (d - 1) n) d h
-pushed-stands ms d a x n g h Done some l e o size most rooms t p =
-    let whole : Whole (set ms (d - 1) n) d (record g { items = put a x g.items }) = (length-set ms (d - 1) n ∙ size, most, rooms, (push-tied ms d a x n g.items some l e o t).0) in
+pushed-stands ms d a x n g h Done some l e o rooms t p =
+    let whole : Whole (set ms (d - 1) n) d (record g { items = put a x g.items }) = ((let s = length-set ms (d - 1) n in omega arith), rooms, (push-tied ms d a x n g.items some l e o t).0) in
     subst (Whole (set ms (d - 1) n) d) (sym p.1) whole
-pushed-stands ms d a x n g h (Full limit) some l e o size most rooms t p =
-    let whole : Whole (set ms (d - 1) n) d g = (length-set ms (d - 1) n ∙ size, most, rooms, subst (λ (ns : List Mark). Tied (take d ns) g.items) (sym (push-refused ms d a n g.items e p.0)) t) in
+pushed-stands ms d a x n g h (Full limit) some l e o rooms t p =
+    let whole : Whole (set ms (d - 1) n) d g = ((let s = length-set ms (d - 1) n in omega arith), rooms, subst (λ (ns : List Mark). Tied (take d ns) g.items) (sym (push-refused ms d a n g.items e p.0)) t) in
     subst (Whole (set ms (d - 1) n) d) (sym p.3) whole
 
 pub pushed-view : (ms : List Mark) (d a x : ℕ) (n : Mark) (g h : LogState) (r : Push) → 0 < d → d ≤ length ms → n ≡ saved a g.items (get_or ms (d - 1) blank_mark) → Once g.items
     → Tied (take d ms) g.items → Pushes g a (put a x g.items) r h → Pushes (with_marks ms d g) a (put a x g.items) r (with_marks (set ms (d - 1) n) d h)
 pushed-view ms d a x n g h Done some l e o t p =
-    (p.0, ap (with_marks (set ms (d - 1) n) d) p.1 ∙ ap (λ (ks : List (List (ℕ × ℕ))). let k : LogState = record g { items = put a x g.items; marks = ks } in k) (push-tied ms d a x n g.items some l e o t).1)
+    (p.0, ap (with_marks (set ms (d - 1) n) d) p.1 ∙ λ j. let k : LogState = record g { items = put a x g.items; marks = (push-tied ms d a x n g.items some l e o t).1 j; marks_limit = length-set ms (d - 1) n j } in k)
 pushed-view ms d a x n g h (Full limit) some l e o t p =
     (p.0, p.1, p.2, ap (with_marks (set ms (d - 1) n) d) p.3 ∙ ap (λ (ns : List Mark). with_marks ns d g) (push-refused ms d a n g.items e p.0))
 
 pub new-stands : (ms : List Mark) (d a x : ℕ) (g h : LogState) (r : Push) → d ≤ length ms → item_at a g.items ≡ None → Once g.items → Whole ms d g
     → Pushes g a (put a x g.items) r h → Whole ms d h
-new-stands ms d a x g h Done l f o w p = subst (Whole ms d) (sym p.1) (w.0, w.1, w.2, (new-tied ms d a x g.items l f o w.3).0)
+new-stands ms d a x g h Done l f o w p = subst (Whole ms d) (sym p.1) (w.0, w.1, (new-tied ms d a x g.items l f o w.2).0)
 new-stands ms d a x g h (Full limit) l f o w p = subst (Whole ms d) (sym p.3) w
 
 pub new-view : (ms : List Mark) (d a x : ℕ) (g h : LogState) (r : Push) → d ≤ length ms → item_at a g.items ≡ None → Once g.items → Tied (take d ms) g.items
     → Pushes g a (put a x g.items) r h → Pushes (with_marks ms d g) a (put a x g.items) r (with_marks ms d h)
 new-view ms d a x g h Done l f o t p =
-    (p.0, ap (with_marks ms d) p.1 ∙ ap (λ (ks : List (List (ℕ × ℕ))). let k : LogState = record g { items = put a x g.items; marks = ks } in k) (new-tied ms d a x g.items l f o t).1)
+    (p.0, ap (with_marks ms d) p.1 ∙ ap (λ (ks : List (List (ℕ × ℕ))). let k : LogState = record g { items = put a x g.items; marks = ks; marks_limit = length ms } in k) (new-tied ms d a x g.items l f o t).1)
 new-view ms d a x g h (Full limit) l f o t p = (p.0, p.1, p.2, ap (with_marks ms d) p.3)
 
 -- A ROLL BACK to the last mark

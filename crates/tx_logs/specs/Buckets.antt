@@ -41,7 +41,8 @@ pub record Reaches (g : ℕ) (bs : List Bucket) (x i : ℕ) : Type 0 where
   pub mark : (bucket_at bs (x + distance)).mark ≡ g
   pub item : (bucket_at bs (x + distance)).item ≡ i
 
--- The buckets are an index of the items: one item an address; each is reached from its home, past earlier items alone; a taken bucket names an item, and no other names the same;
+-- The buckets are an index of the items: one item an address; each is reached from its home, past earlier items alone;
+-- a taken bucket names an item, and no other names the same;
 -- no mark is later than the generation; no more buckets are taken than there are items.
 pub record IsIndex (homes : Homes) (g : ℕ) (items : List (ℕ × ℕ)) (bs : List Bucket) : Type 0 where
   pub once : Once items
@@ -51,7 +52,8 @@ pub record IsIndex (homes : Homes) (g : ℕ) (items : List (ℕ × ℕ)) (bs : L
   pub latest : (x : ℕ) → x < length bs → (bucket_at bs x).mark ≤ g
   pub few : sum_by (taken g) bs ≤ length items
 
--- Looking up a goes from its home over taken buckets of other addresses, no more than there are items, to the bucket that names the item of a, or to an open one, and then no item has a.
+-- Looking up a goes from its home over taken buckets of other addresses, no more than there are items, to the bucket
+-- that names the item of a, or to an open one, and then no item has a.
 pub record IsLookup (homes : Homes) (g : ℕ) (items : List (ℕ × ℕ)) (bs : List Bucket) (a : ℕ) (found : Lookup) : Type 0 where
   pub within : found.at < length bs
   pub distance : found.distance ≤ length items

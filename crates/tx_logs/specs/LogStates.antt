@@ -6,16 +6,19 @@ use Rattle.tx_logs.specs.declared.push.Repeat.TheVariants.{Keep, Replace}
 use Rattle.tx_logs.specs.declared.push.Push.{Push}
 use Rattle.tx_logs.specs.declared.push.Push.TheVariants.{Done, Full}
 
--- the items, address and value, in the order in which their addresses came, at most len of them; of a write log, what they were at each mark, the oldest first
+-- the items, address and value, in the order in which their addresses came, at most len of them; of a write log, what
+-- they were at each mark, the oldest first
 pub record LogState : Type 0 where
   pub items : List (ℕ × ℕ)
   pub len : ℕ
   pub generation : ℕ
   pub marks : List (List (ℕ × ℕ))
+  -- how many marks it has room for
+  pub marks_limit : ℕ
 
--- a log of this length in this generation, with no items and no marks
-abbrev pub empty_at : ℕ → ℕ → LogState
-empty_at len generation = record { items = []; len = len; generation = generation; marks = [] }
+-- a log of this length in this generation, with no items and no marks, and room for so many
+abbrev pub empty_at : ℕ → ℕ → ℕ → LogState
+empty_at len generation limit = record { items = []; len = len; generation = generation; marks = []; marks_limit = limit }
 
 -- the list with the address's item as it is, or with a new one at the end
 abbrev pub keep : ℕ → ℕ → List (ℕ × ℕ) → List (ℕ × ℕ)
@@ -26,7 +29,8 @@ abbrev pub pushed : Repeat → ℕ → ℕ → List (ℕ × ℕ) → List (ℕ �
 pushed Keep a v ws = keep a v ws
 pushed Replace a v ws = put a v ws
 
--- A push at a is done where a is in the log or there is room for it, and then the items are those given; it is refused exactly else, and then the log is as it was.
+-- A push at a is done where a is in the log or there is room for it, and then the items are those given; it is refused
+-- exactly else, and then the log is as it was.
 abbrev pub Pushes : LogState → ℕ → List (ℕ × ℕ) → Push → LogState → Type 0
 Pushes old a items Done new = (IsSome (item_at a old.items) ⊎ (length old.items < old.len)) × (new ≡ record old { items = items })
 Pushes old a items (Full limit) new = (item_at a old.items ≡ None) × (length old.items ≡ old.len) × (limit ≡ old.len) × (new ≡ old)

@@ -5,7 +5,7 @@ use Rattle.tx_logs.specs.declared.marks.Mark.{Mark}
 use Rattle.tx_logs.specs.LogStates.{empty_at, keep, next_generation}
 
 abbrev pub blank_mark : Mark
-blank_mark = record { count = 0; olds = empty_at 0 0 }
+blank_mark = record { count = 0; olds = empty_at 0 0 0 }
 
 abbrev pub value_or : Option ℕ → ℕ → ℕ
 value_or None v = v
@@ -46,8 +46,8 @@ Tied (m ∷ ms) ws = Saves m (at_first ms ws) × Tied ms ws
 abbrev pub Rooms : ℕ → List Mark → Type 0
 Rooms len ms = (k : ℕ) → k < length ms → len ≤ (get_or ms k blank_mark).olds.len
 
-pub record AreBlank (len : ℕ) (ms : List Mark) : Type 0 where
-  pub size : length ms ≡ 8
+pub record AreBlank (len limit : ℕ) (ms : List Mark) : Type 0 where
+  pub size : length ms ≡ limit
   pub rooms : Rooms len ms
 
 -- the old value of the address is kept, if it has one and it isn't kept yet

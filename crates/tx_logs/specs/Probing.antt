@@ -16,7 +16,8 @@ pub record HasBuckets (homes : Homes) (buckets : ℕ) (items : List (ℕ × ℕ)
   pub named : (x i : ℕ) → x < buckets → owner x ≡ Some i → i < length items
   pub single : (x y i : ℕ) → x < buckets → y < buckets → owner x ≡ Some i → owner y ≡ Some i → x ≡ y
 
--- a lookup of a passes so many buckets: from its home on those of other addresses, and ends at that of its item, or at one that no item has
+-- a lookup of a passes so many buckets: from its home on those of other addresses, and ends at that of its item,
+-- or at one that no item has
 pub record Passes (homes : Homes) (buckets : ℕ) (items : List (ℕ × ℕ)) (a passed : ℕ) : Type 0 where
   pub owner : ℕ → Option ℕ
   pub has : HasBuckets homes buckets items owner

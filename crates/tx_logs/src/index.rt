@@ -1,12 +1,12 @@
-//! The index of a log: an open-addressing hash table of buckets, with linear probing. A lookup goes on from the address's
-//! home, from the last bucket to the first, up to the address or an open bucket. A bucket is taken where its mark is the
-//! log's generation, so a log becomes empty by raising its generation.
+//! The index of a log: an open-addressing hash table of buckets, with linear probing. A lookup goes on from the
+//! address's home, from the last bucket to the first, up to the address or an open bucket. A bucket is taken where its
+//! mark is the log's generation, so a log becomes empty by raising its generation.
 ghost use Rattle.std.specs.Prelude.{◌≡◌, ◌<◌, ◌≤◌, ◌++◌, ◌∷◌, [], ℕ, None, length, slice_index_or};
 ghost use Rattle.stm_model.specs.Memories.{item_at, Once};
 ghost use Rattle.tx_logs.specs.Buckets.{IsIndex, IsLookup, blank, home_of};
 
-/// An odd number, found by search: modulo 2^32 its multiples lie far apart, and so do those of its products with powers of
-/// two. So few of the addresses of a row meet, or of rows a power of two apart.
+/// An odd number, found by search: modulo 2^32 its multiples lie far apart, and so do those of its products with powers
+/// of two. So few of the addresses of a row meet, or of rows a power of two apart.
 const SPREAD: u32 = 1339872799;
 
 /// A bucket, and the item that it names while it is taken.
@@ -94,8 +94,8 @@ pub fn look_up(
     }
 }
 
-/// Takes a bucket for a new item after these, of an address that none of them has: the one at which its lookup ends. Where
-/// the first is open, no address is compared.
+/// Takes a bucket for a new item after these, of an address that none of them has: the one at which its lookup ends.
+/// Where the first is open, no address is compared.
 #[inline(always)]
 pub fn take(homes: Homes, index: &mut [Bucket], items: &[(usize, u64)], generation: u32, a: usize)
     requires few { length index.old ≤ 2097152 }
@@ -128,8 +128,8 @@ pub fn take_all(homes: Homes, index: &mut [Bucket], items: &[(usize, u64)], gene
     }
 }
 
-/// Sets every mark to 0, which is no generation. The items stay: a fill of whole buckets would be compiled to a call, and
-/// each begin would save registers for it.
+/// Sets every mark to 0, which is no generation. The items stay: a fill of whole buckets would be compiled to a call,
+/// and each begin would save registers for it.
 pub fn clear_marks(index: &mut [Bucket])
     ensures size { length index.new ≡ length index.old }
     ensures marks { (k : ℕ) → k < length index.new → (slice_index_or index.new k blank).mark ≡ 0 }

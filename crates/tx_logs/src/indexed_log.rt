@@ -30,7 +30,7 @@ impl Model for IndexedLog {
     ghost use Rattle.tx_logs.specs.Buckets.{IsIndex};
     ghost use Rattle.tx_logs.specs.declared.index.Homes.TheVariants.{Mixed};
 
-    ghost view = { λ l. record { items = l.items.items; len = l.len; generation = l.generation; marks = [] } };
+    ghost view = { λ l. record { items = l.items.items; len = l.len; generation = l.generation; marks = []; marks_limit = 0 } };
 
     ghost invariant = { λ l. IsIndex Mixed l.generation l.items.items l.index.items × (length l.index.items ≡ 2 * l.len) × (length l.items.items ≤ l.len) × (1 ≤ l.len) × (l.len ≤ 1048576) × (1 ≤ l.generation) × (l.len ≤ vec_capacity l.items) };
 }
@@ -42,7 +42,7 @@ impl IndexedLog {
         requires low { 1 ≤ len }
         requires high { len ≤ 1048576 }
         requires counted { 1 ≤ generation }
-        ensures { IfOk result (λ l. l ≡ empty_at len generation) }
+        ensures { IfOk result (λ l. l ≡ empty_at len generation 0) }
     {
         let mut items = Vec::new(alloc);
         items.reserve(len)?;
@@ -65,8 +65,8 @@ impl IndexedLog {
         self.at(place, a)
     }
 
-    /// The number of the bucket at which the lookup of the address ends: that of its item, else an open one. It depends on
-    /// the items alone, so it stays while they stay. It ends here where the first bucket is open.
+    /// The number of the bucket at which the lookup of the address ends: that of its item, else an open one. It depends
+    /// on the items alone, so it stays while they stay. It ends here where the first bucket is open.
     #[inline(always)]
     pub fn place(&self, a: usize) -> usize
         ensures { IsPlace (2 * self.now.len) self.now.items a result }
@@ -78,8 +78,8 @@ impl IndexedLog {
         self.place_from_home(a)
     }
 
-    /// The same where the first bucket is taken. It answers a number, since a struct would have its room set to 0 in each
-    /// caller.
+    /// The same where the first bucket is taken. It answers a number, since a struct would have its room set to 0 in
+    /// each caller.
     #[inline(never)]
     fn place_from_home(&self, a: usize) -> usize
         ensures { IsPlace (2 * self.now.len) self.now.items a result }
@@ -100,8 +100,9 @@ impl IndexedLog {
         Some(self.items[self.index[place].item as usize].1)
     }
 
-    /// How many buckets a lookup of the address would look at in an index by the address modulo the number of buckets: those
-    /// from its home on that other addresses have, and one more. At most the number of items plus 1. It makes that index.
+    /// How many buckets a lookup of the address would look at in an index by the address modulo the number of buckets:
+    /// those from its home on that other addresses have, and one more. At most the number of items plus 1. It makes
+    /// that index.
     pub fn probes(&self, a: usize) -> usize
         requires short { self.now.len ≤ 4096 }
         ensures probed { IsProbed (2 * self.now.len) self.now.items a result }
@@ -172,8 +173,8 @@ impl IndexedLog {
         Push::Done
     }
 
-    /// Adds the value at an address that no item has, and whose place this is, where there is room for it. No lookup; it
-    /// takes no memory.
+    /// Adds the value at an address that no item has, and whose place this is, where there is room for it. No lookup;
+    /// it takes no memory.
     #[inline(always)]
     pub fn push_at(&mut self, place: usize, a: usize, v: u64)
         requires place { IsPlace (2 * self.old.len) self.old.items a place }
@@ -188,8 +189,8 @@ impl IndexedLog {
         bucket.item = count as u32;
     }
 
-    /// Makes the length the greater of its old one and `len`, 1 to 1,048,576. Where memory is refused the log is as before.
-    /// A greater length costs a push an item into a new log, whose room is taken beside the old one's.
+    /// Makes the length the greater of its old one and `len`, 1 to 1,048,576. Where memory is refused the log is as
+    /// before. A greater length costs a push an item into a new log, whose room is taken beside the old one's.
     pub fn reserve(&mut self, alloc: Global, len: usize) -> Result<(), Memory>
         requires low { 1 ≤ len }
         requires high { len ≤ 1048576 }
@@ -223,8 +224,8 @@ impl IndexedLog {
         }
     }
 
-    /// Empties the log as `clear` does, but for its generation, which stays where the log is empty. So a log that an attempt
-    /// doesn't use costs a test.
+    /// Empties the log as `clear` does, but for its generation, which stays where the log is empty. So a log that an
+    /// attempt doesn't use costs a test.
     #[inline]
     pub fn renew(&mut self)
         ensures { self.new ≡ renewed self.old }

@@ -1,5 +1,5 @@
-//! What a mark of a write log keeps: how many items there were, and what each of these was that was written since. Rolled
-//! back, the log has its first items with these values; what came after them is gone.
+//! What a mark of a write log keeps: how many items there were, and what each of these was that was written since.
+//! Rolled back, the log has its first items with these values; what came after them is gone.
 ghost use Rattle.std.specs.Prelude.{◌≡◌, ◌≤◌, ◌<◌, ◌-◌, [], IfOk, length, get_or, set};
 ghost use Rattle.tx_logs.specs.LogStates.{LogState, next_generation};
 ghost use Rattle.tx_logs.specs.Marks.{AreBlank, CanMerge, Saves, at_mark, emptied_mark, merged, saved, blank_mark};
@@ -10,9 +10,6 @@ use crate::undo_log::UndoLog;
 use std::alloc::Global;
 use stm_model::memory::Memory;
 
-/// The greatest number of marks.
-pub const MAX_MARKS: usize = 8;
-
 /// One mark.
 #[derive(Drop, Debug)]
 pub struct Mark {
@@ -22,15 +19,15 @@ pub struct Mark {
     pub olds: UndoLog,
 }
 
-/// Room for `MAX_MARKS` marks of a log of length `len`, 1 to 1,048,576: 32 bytes an item each.
-pub(crate) fn blank_marks(alloc: Global, len: usize) -> Result<Vec<Mark>, Memory>
+/// Room for `limit` marks of a log of length `len`, 1 to 1,048,576: 32 bytes an item each.
+pub(crate) fn blank_marks(alloc: Global, len: usize, limit: usize) -> Result<Vec<Mark>, Memory>
     requires low { 1 ≤ len }
     requires high { len ≤ 1048576 }
-    ensures { IfOk result (λ ms. AreBlank len ms.items) }
+    ensures { IfOk result (λ ms. AreBlank len limit ms.items) }
 {
     let mut marks = Vec::new(alloc);
-    marks.reserve(MAX_MARKS)?;
-    for _ in 0..MAX_MARKS {
+    marks.reserve(limit)?;
+    for _ in 0..limit {
         marks.push_reserved(Mark {
             count: 0,
             olds: UndoLog::new(alloc, len)?,

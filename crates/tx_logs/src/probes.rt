@@ -5,8 +5,8 @@ ghost use Rattle.tx_logs.specs.Probing.{IsProbed};
 
 use crate::index::{Bucket, Homes, clear_marks, look_up, take_all};
 
-/// How many buckets a lookup of the address looks at in an index of the items, which is made to be asked: that of a log has
-/// other homes.
+/// How many buckets a lookup of the address looks at in an index of the items, which is made to be asked: that of a log
+/// has other homes.
 pub fn probes_among(buckets: usize, items: &[(usize, u64)], a: usize) -> usize
     requires few { buckets ≤ 8192 }
     requires room { length items.now < buckets }

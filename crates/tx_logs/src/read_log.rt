@@ -29,15 +29,15 @@ impl ReadLog {
     pub fn new(alloc: Global, len: usize) -> Result<ReadLog, Memory>
         requires low { 1 ≤ len }
         requires high { len ≤ 1048576 }
-        ensures { IfOk result (λ l. l ≡ empty_at len 1) }
+        ensures { IfOk result (λ l. l ≡ empty_at len 1 0) }
     {
         Ok(ReadLog {
             log: IndexedLog::with_generation(alloc, len, 1)?,
         })
     }
 
-    /// Makes the length the greater of its old one and `len`, 1 to 1,048,576, at the cost of a push an item. Where memory
-    /// is refused the log is as before.
+    /// Makes the length the greater of its old one and `len`, 1 to 1,048,576, at the cost of a push an item. Where
+    /// memory is refused the log is as before.
     pub fn reserve(&mut self, alloc: Global, len: usize) -> Result<(), Memory>
         requires low { 1 ≤ len }
         requires high { len ≤ 1048576 }
@@ -48,8 +48,8 @@ impl ReadLog {
         self.log.reserve(alloc, len)
     }
 
-    /// Adds the value where the address is new; else the item stays as it is. `Full` comes exactly where the log has its
-    /// length and the address isn't in it, and leaves the log as it was. One lookup.
+    /// Adds the value where the address is new; else the item stays as it is. `Full` comes exactly where the log has
+    /// its length and the address isn't in it, and leaves the log as it was. One lookup.
     #[inline]
     pub fn push(&mut self, a: usize, v: u64) -> Push
         ensures { Pushes self.old a (keep a v self.old.items) result self.new }
@@ -65,9 +65,9 @@ impl ReadLog {
         self.log.find(a)
     }
 
-    /// The place in the index that the address has, or that a push would give it: it stays while the items stay, so a read
-    /// that finds nothing is logged with no second lookup. One lookup, which compares no address where the first bucket is
-    /// open.
+    /// The place in the index that the address has, or that a push would give it: it stays while the items stay, so a
+    /// read that finds nothing is logged with no second lookup. One lookup, which compares no address where the first
+    /// bucket is open.
     #[inline(always)]
     pub fn place(&self, a: usize) -> usize
         ensures { IsPlace (2 * self.now.len) self.now.items a result }
@@ -84,7 +84,8 @@ impl ReadLog {
         self.log.at(place, a)
     }
 
-    /// Adds the value at an address that isn't in the log, and whose place this is, where there is room for it. No lookup.
+    /// Adds the value at an address that isn't in the log, and whose place this is, where there is room for it. No
+    /// lookup.
     #[inline(always)]
     pub fn push_at(&mut self, place: usize, a: usize, v: u64)
         requires place { IsPlace (2 * self.old.len) self.old.items a place }
@@ -95,8 +96,8 @@ impl ReadLog {
         self.log.push_at(place, a, v);
     }
 
-    /// How many buckets a lookup of the address would look at in an index by the address modulo the number of buckets: those
-    /// from its home on that other addresses have, and one more. At most the number of items plus 1.
+    /// How many buckets a lookup of the address would look at in an index by the address modulo the number of buckets:
+    /// those from its home on that other addresses have, and one more. At most the number of items plus 1.
     pub fn probes(&self, a: usize) -> usize
         requires short { self.now.len ≤ 4096 }
         ensures probed { IsProbed (2 * self.now.len) self.now.items a result }
@@ -149,8 +150,8 @@ impl ReadLog {
         self.log.clear();
     }
 
-    /// Empties the log as `clear` does, but for its generation, which stays where the log is empty. So a log that an attempt
-    /// doesn't use costs a test.
+    /// Empties the log as `clear` does, but for its generation, which stays where the log is empty. So a log that an
+    /// attempt doesn't use costs a test.
     #[inline]
     pub fn renew(&mut self)
         ensures { self.new ≡ renewed self.old }

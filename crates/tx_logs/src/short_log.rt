@@ -38,7 +38,7 @@ impl Model for ShortLog {
 
     ghost use Rattle.tx_logs.specs.ShortLogs.{IsKept};
 
-    ghost view = { λ l. record { items = l.items.items; len = l.len; generation = l.generation; marks = [] } };
+    ghost view = { λ l. record { items = l.items.items; len = l.len; generation = l.generation; marks = []; marks_limit = 0 } };
 
     ghost invariant = { λ l. IsKept l.short l.seen l.generation l.items.items l.index.items × (l.short ≤ l.len) × (length l.index.items ≡ 2 * l.len) × (length l.items.items ≤ l.len) × (1 ≤ l.len) × (l.len ≤ 1048576) × (1 ≤ l.generation) × (l.len ≤ vec_capacity l.items) };
 }
@@ -50,7 +50,7 @@ impl ShortLog {
         requires low { 1 ≤ len }
         requires high { len ≤ 1048576 }
         requires counted { 1 ≤ generation }
-        ensures { IfOk result (λ l. l ≡ empty_at len generation) }
+        ensures { IfOk result (λ l. l ≡ empty_at len generation 0) }
     {
         let mut items = Vec::new(alloc);
         items.reserve(len)?;
@@ -86,8 +86,8 @@ impl ShortLog {
         Some(self.items[i].1)
     }
 
-    /// The number of the address's item, or that of the items where none has it. It answers a number, since a struct would
-    /// have its room set to 0 in each caller.
+    /// The number of the address's item, or that of the items where none has it. It answers a number, since a struct
+    /// would have its room set to 0 in each caller.
     #[inline(never)]
     fn position(&self, a: usize) -> usize
         ensures { IsPosition a self.now.items result }
@@ -101,8 +101,9 @@ impl ShortLog {
         }
     }
 
-    /// How many buckets a lookup of the address would look at in an index by the address modulo the number of buckets: those
-    /// from its home on that other addresses have, and one more. At most the number of items plus 1. It makes that index.
+    /// How many buckets a lookup of the address would look at in an index by the address modulo the number of buckets:
+    /// those from its home on that other addresses have, and one more. At most the number of items plus 1. It makes
+    /// that index.
     pub fn probes(&self, a: usize) -> usize
         requires short { self.now.len ≤ 4096 }
         ensures probed { IsProbed (2 * self.now.len) self.now.items a result }
@@ -177,7 +178,8 @@ impl ShortLog {
         }
     }
 
-    /// The same where no item has the address, so that `repeat` tells nothing. No lookup while the log is short, one else.
+    /// The same where no item has the address, so that `repeat` tells nothing. No lookup while the log is short, one
+    /// else.
     #[inline(always)]
     pub fn push_new(&mut self, a: usize, v: u64, repeat: Repeat) -> Push
         requires { item_at a self.old.items ≡ None }
@@ -257,8 +259,8 @@ impl ShortLog {
         }
     }
 
-    /// Makes the length the greater of its old one and `len`, 1 to 1,048,576. Where memory is refused the log is as before.
-    /// A greater length costs a push an item into a new log, whose room is taken beside the old one's.
+    /// Makes the length the greater of its old one and `len`, 1 to 1,048,576. Where memory is refused the log is as
+    /// before. A greater length costs a push an item into a new log, whose room is taken beside the old one's.
     pub fn reserve(&mut self, alloc: Global, len: usize) -> Result<(), Memory>
         requires low { 1 ≤ len }
         requires high { len ≤ 1048576 }
@@ -294,8 +296,8 @@ impl ShortLog {
         }
     }
 
-    /// Empties the log as `clear` does, but for its generation, which stays where the log is empty. So a log that an attempt
-    /// doesn't use costs a test.
+    /// Empties the log as `clear` does, but for its generation, which stays where the log is empty. So a log that an
+    /// attempt doesn't use costs a test.
     #[inline]
     pub fn renew(&mut self)
         ensures { self.new ≡ renewed self.old }
@@ -307,8 +309,8 @@ impl ShortLog {
     }
 }
 
-/// Makes an emptied log of this length short again, where it was no longer. It tests first: a begin empties logs that were
-/// short, and then loads no length.
+/// Makes an emptied log of this length short again, where it was no longer. It tests first: a begin empties logs that
+/// were short, and then loads no length.
 #[inline(always)]
 fn begin_short(short: &mut usize, len: usize)
     requires { (short.old ≤ 8) × (short.old ≤ len) }

@@ -4,7 +4,6 @@ ghost use Rattle.stm_model.specs.Memories.{item_at, Once, put};
 ghost use Rattle.tx_logs.specs.Probing.{IsProbed};
 ghost use Rattle.tx_logs.specs.LogStates.{LogState, Pushes, empty_at, next_generation, renewed, rolled, firsts};
 
-pub use crate::marks::MAX_MARKS;
 use crate::marks::{Mark, begin, blank_marks, merge, restore, save};
 use crate::push::{Push, Repeat};
 use crate::short_log::ShortLog;
@@ -12,8 +11,8 @@ use std::alloc::Global;
 use std::marker::Model;
 use stm_model::memory::Memory;
 
-/// The value last written at each address, in the order of the first writes; and up to `MAX_MARKS` marks, to each of
-/// which it can be rolled back. Marks are numbered from 1, the oldest.
+/// The value last written at each address, in the order of the first writes; and marks, to each of which it can be
+/// rolled back, as many at once as it was made with. Marks are numbered from 1, the oldest.
 #[derive(Drop, Debug)]
 pub struct WriteLog {
     log: ShortLog,
@@ -29,37 +28,43 @@ impl Model for WriteLog {
 
     ghost Value = { LogState };
 
-    ghost view = { λ l. record l.log { marks = marked (take l.depth l.marks.items) l.log.items } };
+    ghost view = { λ l. record l.log { marks = marked (take l.depth l.marks.items) l.log.items; marks_limit = length l.marks.items } };
 
-    ghost invariant = { λ l. (length l.marks.items ≡ 8) × (l.depth ≤ 8) × Rooms l.log.len l.marks.items × Tied (take l.depth l.marks.items) l.log.items };
+    ghost invariant = { λ l. (l.depth ≤ length l.marks.items) × Rooms l.log.len l.marks.items × Tied (take l.depth l.marks.items) l.log.items };
 }
 
 impl WriteLog {
-    /// An empty log of length `len`, 1 to 1,048,576, in generation 1. It takes all its room at once, 32 bytes an item.
-    pub fn new(alloc: Global, len: usize) -> Result<WriteLog, Memory>
+    /// An empty log of length `len`, 1 to 1,048,576, in generation 1, with room for `marks` marks. It takes all its
+    /// room at once, 32 bytes an item, and as much for each mark.
+    pub fn new(alloc: Global, len: usize, marks: usize) -> Result<WriteLog, Memory>
         requires low { 1 ≤ len }
         requires high { len ≤ 1048576 }
-        ensures { IfOk result (λ l. l ≡ empty_at len 1) }
+        ensures { IfOk result (λ l. l ≡ empty_at len 1 marks) }
     {
-        WriteLog::with_generation(alloc, len, 1)
+        WriteLog::with_generation(alloc, len, marks, 1)
     }
 
     /// The same in a generation of 1 to 4,294,967,295.
-    pub fn with_generation(alloc: Global, len: usize, generation: u32) -> Result<WriteLog, Memory>
+    pub fn with_generation(
+        alloc: Global,
+        len: usize,
+        marks: usize,
+        generation: u32,
+    ) -> Result<WriteLog, Memory>
         requires low { 1 ≤ len }
         requires high { len ≤ 1048576 }
         requires counted { 1 ≤ generation }
-        ensures { IfOk result (λ l. l ≡ empty_at len generation) }
+        ensures { IfOk result (λ l. l ≡ empty_at len generation marks) }
     {
         Ok(WriteLog {
             log: ShortLog::with_generation(alloc, len, generation)?,
-            marks: blank_marks(alloc, len)?,
+            marks: blank_marks(alloc, len, marks)?,
             depth: 0,
         })
     }
 
-    /// Makes the length the greater of its old one and `len`, 1 to 1,048,576, at the cost of a push an item, and ends the
-    /// marks. Where memory is refused the log is as before.
+    /// Makes the length the greater of its old one and `len`, 1 to 1,048,576, at the cost of a push an item, and ends
+    /// the marks. Where memory is refused the log is as before.
     pub fn reserve(&mut self, alloc: Global, len: usize) -> Result<(), Memory>
         requires low { 1 ≤ len }
         requires high { len ≤ 1048576 }
@@ -68,7 +73,7 @@ impl WriteLog {
             self.new ≡ self.old) }
     {
         if self.log.len() < len {
-            let marks = blank_marks(alloc, len)?;
+            let marks = blank_marks(alloc, len, self.marks.len())?;
             self.log.reserve(alloc, len)?;
             self.marks = marks;
         }
@@ -88,8 +93,8 @@ impl WriteLog {
         self.log.push(a, v, Repeat::Replace)
     }
 
-    /// The same where a mark stands, which keeps what the item was. Three lookups. It stands apart, so that a push without
-    /// marks is as short as that of any log.
+    /// The same where a mark stands, which keeps what the item was. Three lookups. It stands apart, so that a push
+    /// without marks is as short as that of any log.
     #[inline(never)]
     fn push_marked(&mut self, a: usize, v: u64) -> Push
         requires { 0 < length self.old.marks }
@@ -100,7 +105,8 @@ impl WriteLog {
         self.log.push(a, v, Repeat::Replace)
     }
 
-    /// The same where no item has the address, so that no mark has anything to keep. No lookup while the log is short, one else.
+    /// The same where no item has the address, so that no mark has anything to keep. No lookup while the log is short,
+    /// one else.
     #[inline(always)]
     pub fn push_new(&mut self, a: usize, v: u64) -> Push
         requires new { item_at a self.old.items ≡ None }
@@ -110,18 +116,26 @@ impl WriteLog {
         self.log.push_new(a, v, Repeat::Replace)
     }
 
-    /// How many marks stand, `MAX_MARKS` at most.
+    /// How many marks stand.
     #[inline]
     pub fn depth(&self) -> usize
         ensures count { result ≡ length self.now.marks }
-        ensures most { result ≤ MAX_MARKS }
+        ensures most { result ≤ self.now.marks_limit }
     {
         self.depth
     }
 
+    /// How many marks may stand at once.
+    #[inline]
+    pub fn marks_limit(&self) -> usize
+        ensures { result ≡ self.now.marks_limit }
+    {
+        self.marks.len()
+    }
+
     /// Makes a mark above those that stand. It takes no memory.
     pub fn mark(&mut self)
-        requires { length self.old.marks < MAX_MARKS }
+        requires { length self.old.marks < self.old.marks_limit }
         ensures { self.new ≡ record self.old { marks = self.old.marks ++ self.old.items ∷ [] } }
     {
         let count = self.log.count();
@@ -199,8 +213,8 @@ impl WriteLog {
         self.log.find(a)
     }
 
-    /// How many buckets a lookup of the address would look at in an index by the address modulo the number of buckets: those
-    /// from its home on that other addresses have, and one more. At most the number of items plus 1.
+    /// How many buckets a lookup of the address would look at in an index by the address modulo the number of buckets:
+    /// those from its home on that other addresses have, and one more. At most the number of items plus 1.
     pub fn probes(&self, a: usize) -> usize
         requires short { self.now.len ≤ 4096 }
         ensures probed { IsProbed (2 * self.now.len) self.now.items a result }
@@ -243,8 +257,8 @@ impl WriteLog {
         self.log.generation()
     }
 
-    /// Empties the log, with its marks, and keeps its room. It raises the generation and leaves the index alone, but for the last
-    /// generation, at which it writes each bucket.
+    /// Empties the log, with its marks, and keeps its room. It raises the generation and leaves the index alone, but
+    /// for the last generation, at which it writes each bucket.
     pub fn clear(&mut self)
         ensures { self.new
             ≡ record self.old
@@ -254,8 +268,8 @@ impl WriteLog {
         self.log.clear();
     }
 
-    /// Empties the log as `clear` does, but for its generation, which stays where the log is empty. So a log that an attempt
-    /// doesn't use costs a test.
+    /// Empties the log as `clear` does, but for its generation, which stays where the log is empty. So a log that an
+    /// attempt doesn't use costs a test.
     #[inline]
     pub fn renew(&mut self)
         ensures { self.new ≡ renewed self.old }

@@ -1,34 +1,24 @@
 -- Laws of a body's attempt.
-use Rattle.std.proofs.Common.{ℕ, ◌≡◌, ◌∙◌, ◌<◌, List, [], ◌∷◌, length, get_or, take, true, false, refl, sym, ap, subst, arith}
+use Rattle.std.proofs.Common.{ℕ, ◌≡◌, ◌∙◌, ◌<◌, List, [], ◌∷◌, length, get_or, true, false, refl, sym, ap, subst, arith}
 use Rattle.std.proofs.lemmas.List.{get_or-map, length-map}
-use Rattle.std.proofs.lemmas.List.Elements.{All-cons, All-get_or, All-head, All-nil, All-same, All-tail, All-take}
+use Rattle.std.proofs.lemmas.List.Elements.{All-cons, All-get_or, All-head, All-nil, All-tail}
 use Rattle.std.specs.Prelude.{Bool, Option, None, not, if◌then◌else◌, ◌==◌}
 use Rattle.tx_logs.specs.LogStates.{firsts}
-use Rattle.stm_model.specs.Algorithms.{irrevocable_under}
-use Rattle.stm_model.specs.declared.alg.Alg.{Alg}
-use Rattle.stm_model.specs.declared.alg.Alg.TheVariants.{Cgl, Tml, OrecLazy, OrecEager, RingSw, Serial}
 use Rattle.stm_model.specs.declared.config.Config.{Config}
 use Rattle.stm_model.specs.Memories.{is_empty, put}
 use Rattle.tx_answers.specs.declared.answers.Commit.{Commit}
 use Rattle.tx_answers.specs.declared.answers.Commit.TheVariants as commits
 use Rattle.tx_answers.specs.Answers.{Commits}
-use Rattle.tx_answers.specs.CallerState.{CallerState, Grows, IsIdle, IsRunning, is_irrevocable, wrote}
+use Rattle.tx_answers.specs.CallerState.{CallerState, Grows, IsIdle, IsRunning, wrote}
 use Rattle.tx_checked.specs.declared.phase.CallerPhase.{CallerPhase}
 use Rattle.tx_checked.specs.declared.phase.CallerPhase.TheVariants as phases
-use Rattle.tx_checked.specs.Misuses.{access_at, inside_at, running_at}
+use Rattle.tx_checked.specs.Misuses.{access_at, inside_at}
 use Rattle.tx_checked.specs.declared.refusal.Refusal.{Refusal}
 use Rattle.tx_checked.specs.Phases.{IsInPhase}
 use Rattle.tx_checked.specs.Tells.{commit_refusal}
-use Rattle.tx_loops.specs.Stages.{EachSpared, IsDirect, IsSpared, takes_back}
+use Rattle.tx_loops.specs.Stages.{EachSpared, IsSpared}
 
 -- a caller that runs stands so
-pub running-in : (p : CallerPhase) (v : CallerState) → IsInPhase p v → IsRunning v → running_at p ≡ None
-running-in phases.Idle v h r = absurd (let no : true ≡ false = sym r.0 ∙ (h.0 refl).1 in cc)
-running-in phases.Running v h r = refl
-running-in phases.Beside v h r = refl
-running-in phases.Committing v h r = absurd (let no : true ≡ false = sym (h.3 refl).1 ∙ r.1 in cc)
-running-in phases.Closing v h r = absurd (let no : true ≡ false = sym r.0 ∙ (h.4 refl).running in cc)
-
 pub inside-in : (p : CallerPhase) (v : CallerState) → IsInPhase p v → v.running ≡ true → inside_at p ≡ None
 inside-in phases.Idle v h r = absurd (let no : true ≡ false = sym r ∙ (h.0 refl).1 in cc)
 inside-in phases.Running v h r = refl
@@ -42,18 +32,6 @@ access-in a words phases.Running v h r s = rw s.0 refl
 access-in a words phases.Beside v h r s = rw s.0 (rw s.1 refl)
 access-in a words phases.Committing v h r s = absurd (let no : true ≡ false = sym (h.3 refl).1 ∙ r.1 in cc)
 access-in a words phases.Closing v h r s = absurd (let no : true ≡ false = sym r.0 ∙ (h.4 refl).running in cc)
-
--- what can be taken back is not irrevocable
-revocable-under : (a : Alg) (granted written : Bool) → takes_back a ≡ true → granted ≡ false → irrevocable_under a granted written ≡ false
-revocable-under Cgl granted written t g = absurd (let no : false ≡ true = t in cc)
-revocable-under Tml granted written t g = absurd (let no : false ≡ true = t in cc)
-revocable-under OrecLazy granted written t g = g
-revocable-under OrecEager granted written t g = g
-revocable-under RingSw granted written t g = g
-revocable-under Serial granted written t g = g
-
-pub direct-revocable : (v : CallerState) → IsDirect v → is_irrevocable v ≡ false
-direct-revocable v h = revocable-under v.alg v.granted (wrote v) h.1 h.2
 
 -- who has written nothing wrote nothing
 pub blank-wrote : (v : CallerState) → v.log.writes ≡ [] → wrote v ≡ false
@@ -82,12 +60,6 @@ spared-put words fence a x (w ∷ ws) here h = by (w.0 == a) (spared-put words f
     by : (t : Bool) → EachSpared words fence (put a x ws) → EachSpared words fence (if t then (a, x) ∷ ws else w ∷ put a x ws)
     by true k = All-cons P a (firsts ws) here (All-tail P w.0 (firsts ws) h)
     by false k = All-cons P w.0 (firsts (put a x ws)) (All-head P w.0 (firsts ws) h) k
-
-pub spared-none : (words fence : ℕ) (ws : List (ℕ × ℕ)) → ws ≡ [] → EachSpared words fence ws
-spared-none words fence ws none = subst (λ (l : List (ℕ × ℕ)). EachSpared words fence l) (sym none) (All-nil (IsSpared words fence))
-
-pub spared-rolled : (words fence n : ℕ) (ws vs : List (ℕ × ℕ)) → firsts vs ≡ take n (firsts ws) → EachSpared words fence ws → EachSpared words fence vs
-spared-rolled words fence n ws vs is h = All-same (IsSpared words fence) (firsts vs) (take n (firsts ws)) is (All-take (IsSpared words fence) n (firsts ws) h)
 
 pub spared-at : (words fence i : ℕ) (ws : List (ℕ × ℕ)) → i < length ws → EachSpared words fence ws → IsSpared words fence (get_or ws i (0, 0)).0
 spared-at words fence i ws low h =

@@ -12,6 +12,7 @@ use Rattle.tx_answers.specs.declared.answers.Commit.TheVariants as commits
 use Rattle.tx_answers.specs.CallerState.{CallerState, IsIdle, is_irrevocable}
 use Rattle.tx_answers.specs.CallerStateLaws.{grows-trans}
 use Rattle.tx_atomic.specs.AttemptLaws.{same-number, still-revocable, took-since}
+use Rattle.tx_atomic.specs.ExtendsLaws.{extends-refl, grows-extends}
 use Rattle.tx_atomic.specs.TryLaws.{grows-refl}
 use Rattle.tx_atomic.specs.Attempts.{TookEffect}
 use Rattle.tx_checked.specs.declared.checked_caller.CheckedCaller.{CheckedCaller}
@@ -60,7 +61,7 @@ pub took-after : (tells tells' : Log → Type 0) (m k n : CheckedCaller) → Mad
 took-after tells tells' m k n nothing later like t =
     let here = subst (λ i. TookEffect Any (config_of k) i tells (known_to k).start (known_to k) (known_to n)) (same-number m.desc k.desc nothing.same.caller) t in
     let there = subst (λ c. TookEffect Any c (number_of m) tells (known_to k).start (known_to k) (known_to n)) (same-config m k nothing.same) here in
-    took-since Any (config_of m) (number_of m) tells' (known_to k).start (known_to m).start (known_to m) (known_to k) (known_to n) nothing.made nothing.grows later
+    took-since Any (config_of m) (number_of m) tells' (known_to k).start (known_to m).start (known_to m) (known_to k) (known_to n) nothing.made (grows-extends (known_to m) (known_to k) nothing.grows) later
     (took-with Any (config_of m) (number_of m) tells tells' (known_to k).start (known_to k) (known_to n) like there)
 
 -- what lay in the buffer is what is written
@@ -94,12 +95,12 @@ end-back m n (Err e) run revocable h = absurd (let no : None ≡ Some e = sym (i
 commit-committed : (m n : CheckedCaller) (time : ℕ) → Tells (inside m) (HasCommitted m n) m n (Ok (commits.Committed time)) → IsThrough m n
 commit-committed m n time h =
     let told : HasCommitted m n (commits.Committed time) = h.2 in
-    (told.0.ends.idle, record { before = known_to m; told = refl; made = refl; grows = grows-refl (known_to m); later = omega arith; time = time; commits = inl told.0 }, (told.1, told.0.ends.installs))
+    (told.0.ends.idle, record { before = known_to m; told = refl; made = refl; grows = extends-refl (known_to m); later = omega arith; time = time; commits = inl told.0 }, (told.1, told.0.ends.installs))
 
 commit-read : (m n : CheckedCaller) (time : ℕ) → Tells (inside m) (HasCommitted m n) m n (Ok (commits.ReadOnly time)) → IsThrough m n
 commit-read m n time h =
     let told : HasCommitted m n (commits.ReadOnly time) = h.2 in
-    (told.0.0.ends.idle, record { before = known_to m; told = refl; made = refl; grows = grows-refl (known_to m); later = omega arith; time = time; commits = inr told.0 }, (told.1, told.0.0.ends.installs))
+    (told.0.0.ends.idle, record { before = known_to m; told = refl; made = refl; grows = extends-refl (known_to m); later = omega arith; time = time; commits = inr told.0 }, (told.1, told.0.0.ends.installs))
 
 commit-again : (m n : CheckedCaller) (word had now : ℕ) → Tells (inside m) (HasCommitted m n) m n (Ok (commits.Again word had now)) → AsksAgain m n
 commit-again m n word had now h =

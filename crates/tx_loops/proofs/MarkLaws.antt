@@ -43,6 +43,7 @@ stays-marked (checks.Marked depth) v w h =
         step_trace = g.step_trace;
         reads_limit = refl;
         writes_limit = refl;
+        marks_limit = refl;
         fenced = refl;
       };
       log = refl;

@@ -20,7 +20,7 @@ use Rattle.tx_checked.specs.declared.misuse.Misuse.{Misuse}
 use Rattle.tx_checked.specs.declared.misuse.Misuse.TheVariants as wrong
 use Rattle.tx_checked.specs.declared.phase.CallerPhase.{CallerPhase}
 use Rattle.tx_checked.specs.declared.phase.CallerPhase.TheVariants as phases
-use Rattle.tx_checked.specs.Misuses.{closing_at, errand_at, or_else, outside_at}
+use Rattle.tx_checked.specs.Misuses.{errand_at, or_else, outside_at}
 use Rattle.tx_checked.specs.Phases.{IsInPhase}
 use Rattle.tx_checked.specs.Tells.{Tells}
 use Rattle.tx_loops.specs.declared.stage.Stage.{Stage}
@@ -41,13 +41,6 @@ in-errand asked errand phases.Running v h r = refl
 in-errand asked errand phases.Beside v h r = refl
 in-errand asked errand phases.Committing v h r = refl
 in-errand asked errand phases.Closing v h r = absurd (let no : true ≡ false = sym r ∙ (h.4 refl).running in cc)
-
-pub in-closing : (p : CallerPhase) (v : CallerState) → IsInPhase p v → v.running ≡ true → closing_at p ≡ Some wrong.InAttempt
-in-closing phases.Idle v h r = absurd (let no : true ≡ false = sym r ∙ (h.0 refl).1 in cc)
-in-closing phases.Running v h r = refl
-in-closing phases.Beside v h r = refl
-in-closing phases.Committing v h r = refl
-in-closing phases.Closing v h r = absurd (let no : true ≡ false = sym r ∙ (h.4 refl).running in cc)
 
 pub first-wrong : (e : Misuse) (o p : Option Misuse) → o ≡ Some e → or_else o p ≡ Some e
 first-wrong e None p is = absurd (let no : None ≡ Some e = is in cc)

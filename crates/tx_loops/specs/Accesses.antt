@@ -1,4 +1,5 @@
--- What the reads, the writes and the marks of a caller tell that may be in a loop, and the calls that a loop's attempts don't take.
+-- What the reads, the writes and the marks of a caller tell that may be in a loop,
+-- and the calls that a loop's attempts don't take.
 use Rattle.std.specs.Prelude.{ℕ, ◌≡◌, ◌≤◌, ◌+◌, ◌-◌, ◌++◌, ◌∷◌, [], take, length, if◌then◌else◌, nat_le, MatchOption, Bool, false, ◌&&◌, Option, Some, None, Result, Ok, Err}
 use Rattle.stm_model.specs.Memories.{item_at, put}
 use Rattle.stm_tx.specs.Nesting.{live_marks}
@@ -123,7 +124,7 @@ WriteSays a x m n r = WritesAt m.stage a x m n r
 -- MARKS, of the buffer where a body has one
 abbrev pub MarksInto : LoopingCaller → LoopingCaller → Result Check Misuse → Type 0
 MarksInto m n (Ok (checks.Marked depth)) = (n.caller ≡ m.caller) × (n.buffer ≡ record m.buffer { marks = m.buffer.marks ++ m.buffer.items ∷ [] }) × (depth ≡ length m.buffer.marks + 1) × (n.plan ≡ m.plan) × (n.stage ≡ Buffered)
-MarksInto m n (Ok (checks.Deep limit)) = (8 ≤ length m.buffer.marks) × (limit ≡ 8) × (n.caller.desc ≡ m.caller.desc) × (n.caller.refusal ≡ Some (refusals.Deep limit)) × (n.buffer ≡ m.buffer) × (n.stage ≡ Buffered)
+MarksInto m n (Ok (checks.Deep limit)) = (m.buffer.marks_limit ≤ length m.buffer.marks) × (limit ≡ m.buffer.marks_limit) × (n.caller.desc ≡ m.caller.desc) × (n.caller.refusal ≡ Some (refusals.Deep limit)) × (n.buffer ≡ m.buffer) × (n.stage ≡ Buffered)
 MarksInto m n (Err e) = ⊥
 
 abbrev pub MarksAt : Stage → LoopingCaller → LoopingCaller → Result Check Misuse → Type 0

@@ -43,7 +43,8 @@ HasOpened m n = (alg : Alg) × Tells (outside m) (HasBegun m n) m n (Ok (begins.
 abbrev pub HindersOpening : CheckedCaller → CheckedCaller → Refusal → Type 0
 HindersOpening m n e = HindersBegin m n e ⊎ ((k : CheckedCaller) × HasOpened m k × HindersAsking k n e)
 
--- where the loop stands then: the same is asked again where another was in an attempt, or faster; else the attempt has ended
+-- where the loop stands then: the same is asked again where another was in an attempt, or faster;
+-- else the attempt has ended
 abbrev pub stage_after : Refusal → Stage
 stage_after (refusals.Busy caller status) = Asking
 stage_after (refusals.Again word had now) = Committing

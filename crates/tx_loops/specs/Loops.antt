@@ -109,7 +109,8 @@ LengthenSays m n (Err e) = (outside m.caller ≡ Some e) × (n ≡ m)
 abbrev pub IsPending : CheckedCaller → LoopingCaller → Type 0
 IsPending m n = MadeNothing m n.caller × ((n.stage ≡ Asking) ⊎ ((n.stage ≡ Free) × IsIdle (known_to n.caller)))
 
--- what a caller that asks to be irrevocable comes to: its body may run, and its commit can't be refused; or it was hindered
+-- what a caller that asks to be irrevocable comes to: its body may run, and its commit can't be refused; or it was
+-- hindered
 abbrev pub AskSays : CheckedCaller → LoopingCaller → Turn → Type 0
 AskSays m n turn =
     ((turn ≡ turns.Run) × MadeNothing m n.caller × MayRun n × ((known_to m).start ≤ (known_to n.caller).start) × (is_irrevocable (known_to n.caller) ≡ true))
@@ -155,7 +156,8 @@ pub record HasStood (m n : LoopingCaller) : Type 0 where
   pub idle : IsIdle (known_to n.caller)
   pub holds : KeepsHold m.caller n.caller
 
--- what is out of the transactions doesn't come back while this body waits for it: the caller has a range itself, or all words are out
+-- what is out of the transactions doesn't come back while this body waits for it: the caller has a range itself, or all
+-- words are out
 abbrev pub stays_out : CheckedCaller → Bool
 stays_out m = is_some m.range || is_all_out (config_of m).words (fence_seen (known_to m))
 
@@ -188,7 +190,8 @@ pub record HadLapsed (m n : LoopingCaller) (turn : Turn) : Type 0 where
   pub caller : n.caller ≡ m.caller
   pub after : IsAfterRefusal m.caller.refusal turn
 
--- WHAT `leave` TELLS of a body that was done: it took effect with what it read and wrote; or its commit was put off, or nothing of it stands, for what hindered it
+-- WHAT `leave` TELLS of a body that was done: it took effect with what it read and wrote; or its commit was put off, or
+-- nothing of it stands, for what hindered it
 abbrev pub DoneSays : LoopingCaller → LoopingCaller → Result Turn Misuse → Type 0
 DoneSays m n (Ok turn) =
     ((turn ≡ turns.Done) × (n.stage ≡ Free) × IsIdle (known_to n.caller) × TookEffectWith (SameLog (log_of m)) m.caller n.caller × KeepsHold m.caller n.caller)

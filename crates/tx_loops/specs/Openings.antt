@@ -17,11 +17,11 @@ caller_in m = m.caller
 abbrev pub callers_in : List LoopingCaller → List CheckedCaller
 callers_in ms = map caller_in ms
 
--- in no loop, with an empty buffer as long as its logs of writes
+-- in no loop, with an empty buffer as long as its logs of writes, and with room for as many marks
 pub record IsFree (m : LoopingCaller) : Type 0 where
   pub stage : m.stage ≡ Free
   pub wanted : m.plan.wanted ≡ 0
-  pub buffer : m.buffer ≡ empty_at (config_of m.caller).writes 1
+  pub buffer : m.buffer ≡ empty_at (config_of m.caller).writes 1 (config_of m.caller).marks
 
 -- callers of one memory, numbered in order, of which the first has installed the algorithm
 pub record AreNewLooping (c : Config) (alg : Alg) (ms : List LoopingCaller) : Type 0 where

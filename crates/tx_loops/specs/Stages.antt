@@ -70,7 +70,8 @@ abbrev pub is_all_out : ℕ → Option (ℕ × ℕ) → Bool
 is_all_out words None = false
 is_all_out words (Some range) = (range.0 == 0) && (range.1 == words)
 
--- the attempt of a body that writes into it; of one with a buffer; of one that can't stop; one that asks to be irrevocable; and one whose commit is to be asked again
+-- the attempt of a body that writes into it; of one with a buffer; of one that can't stop; one that asks to be
+-- irrevocable; and one whose commit is to be asked again
 abbrev pub IsDirect : CallerState → Type 0
 IsDirect v = IsRunning v × (takes_back v.alg ≡ true) × (v.granted ≡ false)
 

@@ -29,7 +29,8 @@ abbrev pub IsAfterRefusal : Option Refusal → Turn → Type 0
 IsAfterRefusal None turn = IsPause turn
 IsAfterRefusal (Some e) turn = IsAfter e turn
 
--- after a body that came to this: over where it stopped, or met a word that is out of the transactions while that `stays` out
+-- after a body that came to this: over where it stopped, or met a word that is out of the transactions while that
+-- `stays` out
 abbrev pub GoesOnAfter : How → Option Refusal → Bool → Turn → Type 0
 GoesOnAfter hows.Done refusal stays turn = IsAfterRefusal refusal turn
 GoesOnAfter hows.Full refusal stays turn = IsAfterRefusal refusal turn

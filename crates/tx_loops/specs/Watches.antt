@@ -21,7 +21,8 @@ EndsWatch (turns.Pause times) old new = new ≡ old
 EndsWatch turns.Sleep old new = new ≡ old
 EndsWatch turn old new = new ≡ None
 
--- a sleep is by the wait that stood as the attempt of the body ended, and by none where no attempt of it `ran` to the end
+-- a sleep is by the wait that stood as the attempt of the body ended,
+-- and by none where no attempt of it `ran` to the end
 abbrev pub SleepsBy : Bool → Option Watch → Option Watch → Turn → Type 0
 SleepsBy ran old new turns.Sleep = (ran ≡ true) × (w : Watch) × (old ≡ Some w) × (new ≡ Some w)
 SleepsBy ran old new turn = Unit {0}

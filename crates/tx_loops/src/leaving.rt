@@ -23,8 +23,8 @@ use tx_checked::checked_caller::CheckedCaller;
 use tx_checked::misuse::Misuse;
 
 impl LoopingCaller {
-    /// Ends the attempt of a body that came to this: where it was done it commits, else nothing stands that it wrote, unless it
-    /// had said that it can't stop. Of a loop that was put off it gives up what is open.
+    /// Ends the attempt of a body that came to this: where it was done it commits, else nothing stands that it wrote,
+    /// unless it had said that it can't stop. Of a loop that was put off it gives up what is open.
     pub fn leave(&mut self, how: How) -> Result<Turn, Misuse>
         ensures says { LeaveSays how self.old self.new result }
         ensures looked { IfOk result (HasLooked self.old self.new) }

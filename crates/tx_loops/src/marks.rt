@@ -7,7 +7,6 @@ use crate::stage::Stage;
 use tx_answers::answers::{Check, Roll};
 use tx_checked::misuse::Misuse;
 use tx_checked::refusal::Refusal;
-use tx_logs::marks::MAX_MARKS;
 
 impl LoopingCaller {
     /// Makes a mark at what has been written: of a body with a buffer, in that.
@@ -16,9 +15,10 @@ impl LoopingCaller {
     {
         match self.stage {
             Stage::Buffered => {
-                if self.buffer.depth() >= MAX_MARKS {
-                    self.caller.refusal = Some(Refusal::Deep { limit: MAX_MARKS });
-                    return Ok(Check::Deep { limit: MAX_MARKS });
+                let limit = self.buffer.marks_limit();
+                if self.buffer.depth() >= limit {
+                    self.caller.refusal = Some(Refusal::Deep { limit });
+                    return Ok(Check::Deep { limit });
                 }
                 self.buffer.mark();
                 Ok(Check::Marked {

@@ -75,7 +75,8 @@ fn with_buffers(
 {
     let mut looping_callers = Vec::new(alloc);
     for caller in checked_callers {
-        let buffer = WriteLog::new(alloc, caller.stm.config.writes)?;
+        let config = caller.stm.config;
+        let buffer = WriteLog::new(alloc, config.writes, config.marks)?;
         let Ok(()) = looping_callers.push(LoopingCaller {
             caller,
             buffer,

@@ -151,8 +151,8 @@ impl Plan {
         }
     }
 
-    /// The same after a body that is to run again. Its user sleeps where an attempt of it `ran` to the end, before which that
-    /// was announced for all words that it `read`.
+    /// The same after a body that is to run again. Its user sleeps where an attempt of it `ran` to the end, before
+    /// which that was announced for all words that it `read`.
     pub(crate) fn retry(&mut self, ran: bool, read: Stripes) -> Turn
         ensures turn { GoesOnAfter hows.Retry None false result }
         ensures sleeps { SleepsBy ran self.old.watch self.new.watch result }
@@ -192,8 +192,8 @@ impl Plan {
         }
     }
 
-    /// After a full log of this length: the next attempt has one twice as long or, where it is as long as it may be, asks to
-    /// be irrevocable, which needs none. Where that was so, there was no room for what the body wrote.
+    /// After a full log of this length: the next attempt has one twice as long or, where it is as long as it may be,
+    /// asks to be irrevocable, which needs none. Where that was so, there was no room for what the body wrote.
     fn lengthen(&mut self, kind: LogKind, limit: usize) -> Turn
         ensures turn { IsAfterFull limit result }
         ensures awake { result ≢ Turn.Sleep }

@@ -24,8 +24,8 @@ pub enum Turn {
     Run,
     /// Pause so often, and enter.
     Pause { times: u32 },
-    /// Sleep while the low 32 bits of the memory's bell are the plan's `seen`, and enter: the body is to run again, and its wait
-    /// was announced before it ran.
+    /// Sleep while the low 32 bits of the memory's bell are the plan's `seen`, and enter: the body is to run again, and
+    /// its wait was announced before it ran.
     Sleep,
     /// The body took effect, and the loop is over.
     Done,

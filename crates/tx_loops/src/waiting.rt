@@ -75,8 +75,9 @@ impl LoopingCaller {
         }
     }
 
-    /// After an attempt that wrote nothing, and found that its user has to wait: true where that was announced before that attempt,
-    /// so that the user may sleep by it. False where it is announced now, and the next attempt is to look.
+    /// After an attempt that wrote nothing, and found that its user has to wait: true where that was announced before
+    /// that attempt, so that the user may sleep by it. False where it is announced now,
+    /// and the next attempt is to look.
     pub fn wait(&mut self) -> Result<bool, Misuse>
         ensures { WaitSays self.old self.new result }
     {

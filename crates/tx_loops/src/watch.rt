@@ -6,8 +6,8 @@ use tx_bell::bell::Announced;
 use tx_bell::stripes::Stripes;
 use tx_checked::checked_caller::CheckedCaller;
 
-/// A wait for words of some stripes, announced before the attempt that finds out whether its user has to wait: a commit that
-/// wrote one of them, and that the attempt didn't see, rings after the announcement.
+/// A wait for words of some stripes, announced before the attempt that finds out whether its user has to wait: a commit
+/// that wrote one of them, and that the attempt didn't see, rings after the announcement.
 #[derive(Drop)]
 pub struct Watch {
     pub announced: Announced,

@@ -1,6 +1,7 @@
 -- What parts of a transaction leave of its log.
-use Rattle.std.specs.Prelude.{ℕ, ◌≡◌, ◌<◌, ◌++◌, ◌⊎◌, Bool, true, false, List, [], ◌∷◌, Option, Some, None, IsSome, Result, Ok, Err, length}
+use Rattle.std.specs.Prelude.{ℕ, ◌≡◌, ◌<◌, ◌≤◌, ◌++◌, ◌⊎◌, Bool, true, false, List, [], ◌∷◌, Option, Some, None, IsSome, Result, Ok, Err, length}
 use Rattle.std.specs.Borrow.{GName}
+use Rattle.stm_model.specs.declared.config.TheConstants.{MOST_MARKS}
 use Rattle.stm_model.specs.declared.stop.Stop.{Stop}
 use Rattle.stm_model.specs.declared.stop.Stop.TheVariants.{Full}
 use Rattle.stm_model.specs.Memories.{item_at, put, Once}
@@ -50,11 +51,13 @@ OnlyReads l k = ReadsMore l k × (k.writes ≡ l.writes)
 abbrev pub back_to : Log → Log → Log
 back_to l gave = record { reads = gave.reads; writes = l.writes }
 
--- the first part was done, or gave way there; and then the second came from where what the first wrote was taken back, whether it was done or gave way too, and what the first read is read there too
+-- the first part was done, or gave way there; and then the second came from where what the first wrote was taken back,
+-- whether it was done or gave way too, and what the first read is read there too
 abbrev pub EitherTells : {T : Type 0} → (Option T → Log → Log → Type 0) → (Option T → Log → Log → Type 0) → Option T → Log → Log → Type 0
 EitherTells first second o l k = (IsSome o × first o l k) ⊎ ((gave : Log) × first None l gave × ReadsMore l gave × ReadsMore gave k × second o (back_to l gave) k)
 
--- the first part was done, and then the second from there; it gave way where the first did, or the second after the first
+-- the first part was done, and then the second from there; it gave way where the first did,
+-- or the second after the first
 abbrev pub BothTell : {S T : Type 0} → (Option S → Log → Log → Type 0) → (Option T → Log → Log → Type 0) → Option (S × T) → Log → Log → Type 0
 BothTell {S} {T} first second None l k = first None l k ⊎ ((x : S) × (between : Log) × first (Some x) l between × ReadsMore l between × ReadsMore between k × second None between k)
 BothTell {S} {T} first second (Some r) l k = (between : Log) × first (Some r.0) l between × ReadsMore l between × ReadsMore between k × second (Some r.1) between k
@@ -65,9 +68,9 @@ IsFull len None = ⊥
 IsFull len (Some (Full limit)) = limit ≡ len
 IsFull len (Some stop) = ⊥
 
--- What came of a part that had room for so many words, from the log before to the log after. Where it was done, this is told of a log with
--- the same writes, and it keeps the rule where what was done before does; else it only read; where it gave way that is told; and it lacks
--- room only where the memory has more words than that.
+-- What came of a part that had room for so many words, from the log before to the log after. Where it was done, this is
+-- told of a log with the same writes, and it keeps the rule where what was done before does; else it only read; where
+-- it gave way that is told; and it lacks room only where the memory has more words than that.
 abbrev pub Comes : {T : Type 0} → (List ℕ → Type 0) → ℕ → ℕ → (Option T → Log → Log → Type 0) → PartOutcome T → Log → Log → Type 0
 Comes good words len tells (Done r) l k = ((j : Log) × tells (Some r) l j × SameLog j k) × ReadsMore l k × (Under good words l good → Under good words k good)
 Comes good words len tells GaveWay l k = ((gave : Log) × tells None l gave × (k ≡ back_to l gave)) × OnlyReads l k
@@ -78,7 +81,8 @@ Comes good words len tells NoMemory l k = ⊥
 abbrev pub one_read : ℕ → ℕ → Log
 one_read a v = record { reads = (a, v) ∷ []; writes = [] }
 
--- what came of a part that is a whole transaction, with room for so many words, after the read of this word; where memory was refused for its log, nothing else was done
+-- what came of a part that is a whole transaction, with room for so many words, after the read of this word; where
+-- memory was refused for its log, nothing else was done
 abbrev pub ComesFirst : {T : Type 0} → (List ℕ → Type 0) → ℕ → ℕ → ℕ → (Option T → Log → Log → Type 0) → PartOutcome T → Log → Type 0
 ComesFirst good words first room tells NoMemory k = (v : ℕ) × (k ≡ one_read first v)
 ComesFirst good words first room tells came k = (v : ℕ) × Comes good words room tells came (one_read first v) k
@@ -129,7 +133,8 @@ abbrev pub top : {B : Type 0} → B → LogState → GName → Option Stop → B
 top b room name stopped crowded = record { below = b; room = room; name = name; stopped = stopped; crowded = crowded }
 
 module _ {B : Type 0} (good : B → List ℕ → Type 0) (words : B → ℕ) (stops : B → Option Stop) (log : B → Log) where
-  -- while it goes on a good memory explains what was read below; it was stopped as the access below was, or for want of room for one more of its words
+  -- while it goes on a good memory explains what was read below; it was stopped as the access below was, or for want of
+  -- room for one more of its words
   pub record Stands (b : B) (room : LogState) (stopped : Option Stop) (crowded : Bool) : Type 0 where
     pub passes : crowded ≡ false → stops b ≡ stopped
     pub goes : crowded ≡ true → (stops b ≡ None) × IsFull room.len stopped
@@ -137,12 +142,14 @@ module _ {B : Type 0} (good : B → List ℕ → Type 0) (words : B → ℕ) (st
     pub knew : crowded ≡ true → IsExplained (good b) (words b) (log b)
     pub seen : stopped ≡ None → IsExplained (good b) (words b) (log b)
     pub within : Within (words b) (firsts room.items)
+    pub deep : MOST_MARKS ≤ room.marks_limit
 
   -- WHAT IT LEAVES ALONE: while what is below goes on, that is only read; and its marks stand while it goes on itself
   pub record OnTop (s t : Top B) : Type 0 where
     pub same : SameMemories (good s.below) (good t.below)
     pub still : words t.below ≡ words s.below
     pub len : t.room.len ≡ s.room.len
+    pub limit : t.room.marks_limit ≡ s.room.marks_limit
     pub name : t.name ≡ s.name
     pub reads : stops t.below ≡ None → (stops s.below ≡ None) × OnlyReads (log s.below) (log t.below)
     pub marks : t.stopped ≡ None → (s.stopped ≡ None) × (t.room.marks ≡ s.room.marks) × OnlyReads (log s.below) (log t.below)

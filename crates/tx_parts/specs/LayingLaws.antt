@@ -7,7 +7,7 @@ use Rattle.stm_model.specs.declared.stop.Stop.{Stop}
 use Rattle.stm_model.specs.Memories.{item_at, put, Once, Explains, overlay}
 use Rattle.stm_model.specs.Overlays.{overlay-same}
 use Rattle.stm_model.specs.PlainLaws.{put-item}
-use Rattle.stm_model.specs.Logs.{Log, IsLog, Reads, Writes, SameMemories, IsExplained}
+use Rattle.stm_model.specs.Logs.{Log, IsLog, Reads, Writes, SameMemories}
 use Rattle.tx_effects.specs.Effects.{Under}
 use Rattle.tx_logs.specs.LogStates.{firsts}
 use Rattle.tx_parts.specs.Laying.{laid, over, IsFull, Top, Within, ReadsMore, SameLog, Lays, OnlyReads, OnTop}
@@ -70,28 +70,29 @@ not-crowded len (Some s) f e = absurd (no-stop (Some s) s refl e)
 
 module _ {B : Type 0} (good : B → List ℕ → Type 0) (words : B → ℕ) (stops : B → Option Stop) (log : B → Log) where
   pub on_top-refl : (s : Top B) → OnTop good words stops log s s
-  on_top-refl s = record { same = λ m. ((λ h. h), (λ h. h)); still = refl; len = refl; name = refl; reads = λ e. (e, only-same (log s.below)); marks = λ e. (e, refl, only-same (log s.below)) }
+  on_top-refl s = record { same = λ m. ((λ h. h), (λ h. h)); still = refl; len = refl; limit = refl; name = refl; reads = λ e. (e, only-same (log s.below)); marks = λ e. (e, refl, only-same (log s.below)) }
 
   pub on_top-trans : (s t u : Top B) → OnTop good words stops log s t → OnTop good words stops log t u → OnTop good words stops log s u
   on_top-trans s t u a e = record {
     same = λ w. ((λ q. (e.same w).0 ((a.same w).0 q)), (λ q. (a.same w).1 ((e.same w).1 q)));
     still = e.still ∙ a.still;
     len = e.len ∙ a.len;
+    limit = e.limit ∙ a.limit;
     name = e.name ∙ a.name;
     reads = λ q. (let f = e.reads q in let r = a.reads f.0 in (r.0, only-then (log s.below) (log t.below) (log u.below) r.1 f.1));
     marks = λ q. (let f = e.marks q in let r = a.marks f.0 in (r.0, f.1 ∙ r.1, only-then (log s.below) (log t.below) (log u.below) r.2 f.2));
   }
 
   -- from a mark on, in the terms of what was there before it
-  pub on_top-moved : (s t u : Top B) → t.below ≡ s.below → s.stopped ≡ None → t.room.len ≡ s.room.len → t.name ≡ s.name
+  pub on_top-moved : (s t u : Top B) → t.below ≡ s.below → s.stopped ≡ None → t.room.len ≡ s.room.len → t.room.marks_limit ≡ s.room.marks_limit → t.name ≡ s.name
       → (u.stopped ≡ None → u.room.marks ≡ s.room.marks) → OnTop good words stops log t u → OnTop good words stops log s u
-  on_top-moved s t u same none len name marks a =
+  on_top-moved s t u same none len limit name marks a =
       let o : OnTop good words stops log (record t { below = s.below }) u = subst (λ (b : B). OnTop good words stops log (record t { below = b }) u) same a in
-      record { same = o.same; still = o.still; len = a.len ∙ len; name = a.name ∙ name; reads = o.reads; marks = λ q. (none, marks q, (o.marks q).2) }
+      record { same = o.same; still = o.still; len = a.len ∙ len; limit = a.limit ∙ limit; name = a.name ∙ name; reads = o.reads; marks = λ q. (none, marks q, (o.marks q).2) }
 
-  pub on_top-opened : (s t u : Top B) (stop : Stop) → t.below ≡ s.below → s.stopped ≡ None → t.room.len ≡ s.room.len → t.name ≡ s.name
+  pub on_top-opened : (s t u : Top B) (stop : Stop) → t.below ≡ s.below → s.stopped ≡ None → t.room.len ≡ s.room.len → t.room.marks_limit ≡ s.room.marks_limit → t.name ≡ s.name
       → u.stopped ≡ Some stop → OnTop good words stops log t u → OnTop good words stops log s u
-  on_top-opened s t u stop same none len name is a = on_top-moved s t u same none len name (λ q. absurd (no-stop u.stopped stop is q)) a
+  on_top-opened s t u stop same none len limit name is a = on_top-moved s t u same none len limit name (λ q. absurd (no-stop u.stopped stop is q)) a
 
 -- A READ through the overlay
 -- of a word that lies in it
@@ -196,14 +197,6 @@ explains-front m (x ∷ xs) ys e = (e.0, explains-front m xs ys e.1)
 pub keeps-more : (good : List ℕ → Type 0) (words : ℕ) (l k : Log) → OnlyReads l k → Under good words l good → Under good words k good
 keeps-more good words l k more keeps m ok long sees =
     subst (λ (ws : List (ℕ × ℕ)). good (overlay m ws)) (sym more.1) (keeps m ok long (explains-front m l.reads more.0.0 (subst (Explains m) more.0.1 sees)))
-
--- where the same was read, as good a memory explains it
-pub explained-on : (good good' : List ℕ → Type 0) (words words' : ℕ) (l k : Log) → SameMemories good good' → words' ≡ words → k.reads ≡ l.reads → IsExplained good words l → IsExplained good' words' k
-explained-on good good' words words' l k same w e h = (h.0, (same h.0).0 h.1, h.2 ∙ sym w, subst (Explains h.0) (sym e) h.3, h.4)
-
--- and what kept the rule keeps it
-pub keeps-on : (good : List ℕ → Type 0) (words words' : ℕ) (l k : Log) → words' ≡ words → k ≡ l → Under good words l good → Under good words' k good
-keeps-on good words words' l k w e h = subst (λ (n : ℕ). Under good n k good) (sym w) (subst (λ (l : Log). Under good words l good) (sym e) h)
 
 -- what is so of an answer
 pub answer-then : {T E : Type 0} (r : Result (Option T) E) (F G : T → Type 0) → IfOk r (λ o. IfSome o F) → ((t : T) → F t → G t) → IfOk r (λ o. IfSome o G)

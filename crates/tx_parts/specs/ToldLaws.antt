@@ -1,13 +1,12 @@
--- What a part tells of the memory: laws from a structure's call to what a part tells and keeps, and from parts to the whole.
-use Rattle.std.proofs.Common.{ℕ, ◌≡◌, ◌∙◌, List, [], ◌∷◌, length, sym, ap, subst, inl, inr}
-use Rattle.std.specs.Prelude.{◌⊎◌, Option, Some, None, IfSome, Ok, Err}
+-- What a part tells of the memory: laws from a structure's call to what a part tells and keeps,
+-- and from parts to the whole.
+use Rattle.std.proofs.Common.{ℕ, ◌≡◌, ◌∙◌, List, [], ◌∷◌, length, sym, subst, inl, inr}
+use Rattle.std.specs.Prelude.{◌⊎◌, Option, Some, None, IfSome, Ok}
 use Rattle.stm_model.specs.Logs.{Log, SameMemories}
 use Rattle.stm_model.specs.Memories.{overlay, Explains}
 use Rattle.stm_model.specs.Overlays.{overlay-same, overlay-length}
 use Rattle.tx_effects.specs.Effects.{Effect, DoesOver, Under}
 use Rattle.tx_effects.specs.FreshLaws.{nothing}
-use Rattle.tx_parts.specs.declared.whole.Undone.{Undone}
-use Rattle.tx_parts.specs.declared.whole.Undone.TheVariants.{NoRoom, NoMemory}
 use Rattle.tx_parts.specs.declared.wholly.PartOutcome.TheVariants.{Done}
 use Rattle.tx_parts.specs.Laying.{EitherTells, Comes, ComesAwaited, ReadsMore}
 use Rattle.tx_parts.specs.LayingLaws.{explains-front}
@@ -51,12 +50,8 @@ module _ (good : List ℕ → Type 0) (words : ℕ) where
     pub awaited-told : (first room : ℕ) (r : T) (k : Log) → ComesAwaited good words first room tells (Some (Ok r)) k → Told good words (P (Some r)) nothing k
     awaited-told first room r k came = done-told room r (record { reads = (first, came.0) ∷ []; writes = [] }) k came.1
 
-    -- and one that was not done wrote nothing
-    pub undone-writes : (first room : ℕ) (u : Undone) (k : Log) → ComesAwaited good words first room tells (Some (Err u)) k → k.writes ≡ []
-    undone-writes first room (NoRoom limit) k came = came.1.0.1
-    undone-writes first room NoMemory k came = ap (λ (l : Log). l.writes) came.1
-
--- A PART THAT IS ONE CALL. Its effect leads from memories under the rule to such, and this is so of it: then the part keeps the rule, and tells this
+-- A PART THAT IS ONE CALL. Its effect leads from memories under the rule to such, and this is so of it: then the part
+-- keeps the rule, and tells this
 module _ {A : Type 0} {good seen : List ℕ → Type 0} {words : ℕ} {effect : List ℕ → Effect A} {l k : Log} {reply : A} (same : SameMemories seen good) (keeps : Under good words l good)
     (does : DoesOver seen words effect l reply k) (P : A → List ℕ → List ℕ → Type 0)
     (law : (m : List ℕ) → good m → length m ≡ words → good (effect m).memory × P (effect m).reply m (effect m).memory) where

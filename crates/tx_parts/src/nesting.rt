@@ -1,7 +1,7 @@
 //! Marks beside the reads and writes of an attempt.
 ghost use Rattle.std.specs.Prelude.{◌≡◌, ◌<◌, ◌+◌, None};
 ghost use Rattle.stm_model.specs.Logs.{SameMemories};
-ghost use Rattle.tx_logs.specs.declared.marks.TheConstants.{MAX_MARKS};
+ghost use Rattle.stm_model.specs.declared.config.TheConstants.{MOST_MARKS};
 
 use stm_model::access::Access;
 
@@ -20,7 +20,7 @@ pub trait Nesting: Access {
     /// Makes a mark at what has been written. It takes no memory, and no step.
     fn mark(&mut self)
         requires going { Self.stopped self.old ≡ None }
-        requires shallow { depth self.old < MAX_MARKS }
+        requires shallow { depth self.old < MOST_MARKS }
         ensures log { Self.log self.new ≡ Self.log self.old }
         ensures deeper { depth self.new ≡ depth self.old + 1 }
         ensures goes { Self.stopped self.new ≡ None }

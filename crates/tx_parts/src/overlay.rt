@@ -12,8 +12,8 @@ use stm_model::stop::Stop;
 use tx_logs::push::Push;
 use tx_logs::write_log::WriteLog;
 
-/// An access whose writes lie in a log of its own, over those of the access below it, which it only reads. Where the log
-/// has its length and one more address is written, it is stopped by `Full`, and the access below could go on.
+/// An access whose writes lie in a log of its own, over those of the access below it, which it only reads. Where the
+/// log has its length and one more address is written, it is stopped by `Full`, and the access below could go on.
 #[derive(Drop)]
 pub struct Overlay<'a, A: Access> {
     pub(crate) below: A,
@@ -172,5 +172,5 @@ impl<'a, A: Access> Nesting for Overlay<'a, A> {
 
     ghost keeps_reads = { λ s t a e. (a.1.marks e).2.0 };
 
-    ghost keeps_stopped = { λ s t u stop o a e. (subst (λ b. A.keeps b u.below) o.0 a.0, on_top-opened A.good A.words A.stopped A.log s t u stop o.0 o.1 (ap (λ q. q.len) o.2) o.3 e a.1) };
+    ghost keeps_stopped = { λ s t u stop o a e. (subst (λ b. A.keeps b u.below) o.0 a.0, on_top-opened A.good A.words A.stopped A.log s t u stop o.0 o.1 (ap (λ q. q.len) o.2) (ap (λ q. q.marks_limit) o.2) o.3 e a.1) };
 }

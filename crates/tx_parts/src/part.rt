@@ -2,15 +2,15 @@
 ghost use Rattle.std.specs.Prelude.{◌≡◌, ◌≤◌, ◌+◌, None, Some, IfOk, OnOk, IfErr, IfSome};
 ghost use Rattle.stm_model.specs.Logs.{SameMemories, IsExplained};
 ghost use Rattle.tx_effects.specs.Effects.{Under};
-ghost use Rattle.tx_logs.specs.declared.marks.TheConstants.{MAX_MARKS};
+ghost use Rattle.stm_model.specs.declared.config.TheConstants.{MOST_MARKS};
 
 use crate::nesting::Nesting;
 use stm_model::rule::MemRule;
 use stm_model::stop::Stop;
 
-/// What one part of a transaction does, from whatever was done before, which keeps the rule. None where it gives way: on
-/// this memory it can't be done. Where it is done, it leaves the rule kept: so it may call structures, and others may
-/// after it.
+/// What one part of a transaction does, from whatever was done before, which keeps the rule. None where it gives way:
+/// on this memory it can't be done. Where it is done, it leaves the rule kept: so it may call structures, and others
+/// may after it.
 pub trait Part<K: MemRule> {
     ghost use Rattle.std.specs.Prelude.{ℕ, Option};
     ghost use Rattle.stm_model.specs.Logs.{Log};
@@ -38,7 +38,7 @@ pub trait Part<K: MemRule> {
         requires sound { Under (K.good rule.now) (N.words memory.old) (N.log memory.old)
             (K.good rule.now) }
         requires precondition { precondition self.now rule.now (N.words memory.old) }
-        requires shallow { N.depth memory.old + depth self.now ≤ MAX_MARKS }
+        requires shallow { N.depth memory.old + depth self.now ≤ MOST_MARKS }
         ensures kept { IfOk result (λ o.
             IfSome o (λ r.
             Under (K.good rule.now) (N.words memory.old) (N.log memory.new) (K.good rule.now))) }

@@ -1,10 +1,11 @@
 //! A part as a transaction.
-ghost use Rattle.tx_logs.specs.declared.marks.TheConstants.{MAX_MARKS};
+ghost use Rattle.stm_model.specs.declared.config.TheConstants.{MOST_MARKS};
 
 use crate::part::Part;
 use crate::wholly::{PartOutcome, wholly};
 use std::alloc::Global;
 use stm_model::access::Access;
+use stm_model::config::MOST_MARKS;
 use stm_model::rule::MemRule;
 use stm_model::stop::Stop;
 use tx_logs::write_log::WriteLog;
@@ -27,14 +28,14 @@ impl<K: MemRule, P: Part<K>> Transaction<K> for Whole<P> {
 
     type Output = PartOutcome<P::Output>;
 
-    ghost precondition = { λ it rule words. P.precondition it.part rule words × (P.depth it.part ≤ MAX_MARKS) × (it.first < words) × (1 ≤ it.room) × (it.room ≤ 1048576) };
+    ghost precondition = { λ it rule words. P.precondition it.part rule words × (P.depth it.part ≤ MOST_MARKS) × (it.first < words) × (1 ≤ it.room) × (it.room ≤ 1048576) };
 
     ghost postcondition = { λ it rule words came log. ComesFirst (K.good rule) words it.first it.room (P.postcondition it.part rule words) came log };
 
     /// `NoMemory` where memory was refused for the part's log.
     fn run<A: Access>(&self, rule: &K, memory: &mut A) -> Result<PartOutcome<P::Output>, Stop> {
         memory.read(self.first)?;
-        let Ok(mut room) = WriteLog::new(self.alloc, self.room) else {
+        let Ok(mut room) = WriteLog::new(self.alloc, self.room, MOST_MARKS) else {
             return Ok(PartOutcome::NoMemory);
         };
         wholly(&self.part, rule, memory, &mut room)
@@ -62,7 +63,7 @@ impl<K: MemRule, P: Part<K>> Transaction<K> for Awaited<P> {
 
     type Output = Option<Result<P::Output, Undone>>;
 
-    ghost precondition = { λ it rule words. P.precondition it.whole.part rule words × (P.depth it.whole.part ≤ MAX_MARKS) × (it.whole.first < words) × (1 ≤ it.whole.room) × (it.whole.room ≤ 1048576) };
+    ghost precondition = { λ it rule words. P.precondition it.whole.part rule words × (P.depth it.whole.part ≤ MOST_MARKS) × (it.whole.first < words) × (1 ≤ it.whole.room) × (it.whole.room ≤ 1048576) };
 
     ghost postcondition = { λ it rule words came log. ComesAwaited (K.good rule) words it.whole.first it.whole.room (P.postcondition it.whole.part rule words) came log };
 

@@ -3,7 +3,7 @@ ghost use Rattle.std.specs.Prelude.{◌≡◌, ◌≤◌, None, IfOk, OnOk, IfEr
 ghost use Rattle.stm_model.specs.Logs.{SameMemories, IsExplained};
 ghost use Rattle.tx_effects.specs.Accesses.{LeadsOn};
 ghost use Rattle.tx_effects.specs.Effects.{Under};
-ghost use Rattle.tx_logs.specs.declared.marks.TheConstants.{MAX_MARKS};
+ghost use Rattle.stm_model.specs.declared.config.TheConstants.{MOST_MARKS};
 ghost use Rattle.tx_parts.specs.Laying.{Comes, Leaves, Left, Shows, IsEmptied};
 
 use crate::lent::Lent;
@@ -29,8 +29,8 @@ pub enum PartOutcome<T> {
 
 /// Does a part wholly or not at all: what it writes lies in `room`, an empty log, until it is done, and only then goes
 /// to the memory. So whether it gives way is open also in an attempt that can't be rolled back, and where writes are
-/// stored in place. The room is for as many words as the part writes in all. The log is left empty, to be lent again;
-/// but where there was no room in it, it is left full of the part's words.
+/// stored in place. The room is for as many words as the part writes in all, and for `MOST_MARKS` marks. The log is
+/// left empty, to be lent again; but where there was no room in it, it is left full of the part's words.
 ///
 /// # Errors
 /// The Stop of the access.
@@ -46,15 +46,16 @@ pub fn wholly<K: MemRule, P: Part<K>, A: Access>(
     requires sound { Under (K.good rule.now) (A.words memory.old) (A.log memory.old)
         (K.good rule.now) }
     requires precondition { P.precondition part.now rule.now (A.words memory.old) }
-    requires shallow { P.depth part.now ≤ MAX_MARKS }
+    requires shallow { P.depth part.now ≤ MOST_MARKS }
     requires empty { IsEmptied room.old }
+    requires deep { MOST_MARKS ≤ room.old.marks_limit }
     ensures comes { IfOk result (λ o.
         Comes (K.good rule.now) (A.words memory.old) room.old.len
         (P.postcondition part.now rule.now (A.words memory.old)) o (A.log memory.old)
         (A.log memory.new)) }
     ensures left { IfOk result (λ o. Leaves (A.words memory.old) o room.new) }
     ensures emptied { IfErr result (λ _. IsEmptied room.new) }
-    ensures len { room.new.len ≡ room.old.len }
+    ensures sizes { (room.new.len ≡ room.old.len) × (room.new.marks_limit ≡ room.old.marks_limit) }
     ensures kept { OnOk result
         (Under (K.good rule.now) (A.words memory.old) (A.log memory.new) (K.good rule.now)) }
     ensures frame { LeadsOn A.Access memory.old memory.new result }
@@ -76,14 +77,15 @@ fn wholly_over<K: MemRule, P: Part<K>, A: Access>(
     requires seen { IsExplained (A.good below) (A.words below) (A.log below) }
     requires sound { Under (K.good rule.now) (A.words below) (A.log below) (K.good rule.now) }
     requires precondition { P.precondition part.now rule.now (A.words below) }
-    requires shallow { P.depth part.now ≤ MAX_MARKS }
+    requires shallow { P.depth part.now ≤ MOST_MARKS }
     requires empty { IsEmptied room.old }
+    requires deep { MOST_MARKS ≤ room.old.marks_limit }
     ensures comes { IfOk result.0 (λ o.
         Comes (K.good rule.now) (A.words below) room.old.len
         (P.postcondition part.now rule.now (A.words below)) o (A.log below) (A.log result.1)) }
     ensures left { IfOk result.0 (λ o. Leaves (A.words below) o room.new) }
     ensures emptied { IfErr result.0 (λ _. IsEmptied room.new) }
-    ensures len { room.new.len ≡ room.old.len }
+    ensures sizes { (room.new.len ≡ room.old.len) × (room.new.marks_limit ≡ room.old.marks_limit) }
     ensures kept { OnOk result.0
         (Under (K.good rule.now) (A.words below) (A.log result.1) (K.good rule.now)) }
     ensures frame { LeadsOn A.Access below result.1 result.0 }
@@ -129,7 +131,7 @@ fn run_apart<K: MemRule, P: Part<K>, A: Access>(
     requires seen { IsExplained (A.good overlay.old.below) (A.words overlay.old.below)
         (A.log overlay.old.below) }
     requires precondition { P.precondition part.now rule.now (A.words overlay.old.below) }
-    requires shallow { P.depth part.now ≤ MAX_MARKS }
+    requires shallow { P.depth part.now ≤ MOST_MARKS }
     requires empty { IsEmptied overlay.old.room }
     ensures comes { IfOk result (λ o.
         Comes (K.good rule.now) (A.words overlay.old.below) overlay.old.room.len
@@ -137,6 +139,7 @@ fn run_apart<K: MemRule, P: Part<K>, A: Access>(
         (A.log overlay.new.below)) }
     ensures full { IfOk result (λ o. Shows (A.words overlay.old.below) o overlay.new.room) }
     ensures room { (overlay.new.room.len ≡ overlay.old.room.len)
+        × (overlay.new.room.marks_limit ≡ overlay.old.room.marks_limit)
         × (overlay.new.name ≡ overlay.old.name) }
     ensures kept { OnOk result
         (Under (K.good rule.now) (A.words overlay.old.below) (A.log overlay.new.below)

@@ -1,4 +1,5 @@
--- A queue in a memory: the word of its front, the number of its values, and a ring of cells, named by their index from 0.
+-- A queue in a memory: the word of its front, the number of its values, and a ring of cells,
+-- named by their index from 0.
 use Rattle.std.specs.Prelude.{ℕ, zero, suc, ◌≡◌, ◌+◌, ◌-◌, ◌^◌, ◌<◌, ◌≤◌, ltb, leb, ◌==◌, if◌then◌else◌, List, [], ◌∷◌, slice_index, slice_set, Option, Some, None}
 use Rattle.tx_queue.specs.declared.queue.Queue.{Queue}
 use Rattle.tx_queue.specs.declared.queue.Put.{Put}

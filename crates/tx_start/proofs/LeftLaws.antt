@@ -17,7 +17,7 @@ use Rattle.tx_start.specs.declared.working.Left.{Left}
 use Rattle.tx_start.specs.Lefts.{desc_in, descs_in, answer_in, answers_in, tally_in, tallies_in, AllNew, Works}
 use Rattle.tx_atomic.specs.declared.tally.Tally.{Tally}
 use Rattle.tx_atomic.specs.Tallies.{none}
-use Rattle.tx_start.specs.Counts.{AllCounted, Counts}
+use Rattle.tx_start.specs.Counts.{AllCounted, Counts, IsCounted}
 use Rattle.tx_start.specs.Pasts.{commits_of, past_of}
 use Rattle.tx_start.specs.Seats.{shown}
 use Rattle.tx_start.specs.SeatLaws.{top-within}
@@ -74,11 +74,12 @@ module _ {K V : Type 0} (good : List ℕ → Type 0) (stm : Stm K) (alg : Alg) (
       ∙ (get_or-map (λ (x : Handle K). installs_of x.view) (descs_in ls) i d.desc [] place ∙ ap (λ (x : Handle K). installs_of x.view) at)
 
   -- so its tally counts all that it did
-  pub all-counted : (ds : List (Handle K)) (ls : List (Left K V)) (e : Ended) → AllReady stm 0 ds → AllNew alg ds → length ls ≡ length ds
+  counted-at : (ds : List (Handle K)) (ls : List (Left K V)) (e : Ended) → AllReady stm 0 ds → AllNew alg ds → length ls ≡ length ds
       → ((i : ℕ) (l : Left K V) (x : Handle K) → i < length ds → Works good stm.config tells (get_or ds i x) (get_or ls i l))
-      → AllTold e 0 (descs_in ls) → e.installs ≡ map (λ (d : Handle K). installs_of d.view) (descs_in ls) → AllCounted good stm.config alg e (tallies_in ls)
-  all-counted ds [] e ready new count each told installs i t lt = absurd (omega (arith, lt))
-  all-counted ds (l ∷ ls) e ready new count each told installs i t lt =
+      → AllTold e 0 (descs_in ls) → e.installs ≡ map (λ (d : Handle K). installs_of d.view) (descs_in ls) → (i : ℕ) (t : Tally) → i < length (tallies_in ls)
+      → IsCounted good stm.config alg e i (get_or (tallies_in ls) i t)
+  counted-at ds [] e ready new count each told installs i t lt = absurd (omega (arith, lt))
+  counted-at ds (l ∷ ls) e ready new count each told installs i t lt =
       let here : i < length (l ∷ ls) = let many = length-map (l ∷ ls) tally_in in omega (arith, lt, many) in
       let within : i < length ds = omega (arith, here, count) in
       let one : Left K V = get_or (l ∷ ls) i l in
@@ -95,6 +96,14 @@ module _ {K V : Type 0} (good : List ℕ → Type 0) (stm : Stm K) (alg : Alg) (
         installed = installed (l ∷ ls) l e i here installs;
         counts = subst (λ (q : Tally). Counts good stm.config i (known first) (known one.desc) none q) (sym (get_or-map tally_in (l ∷ ls) i l t here)) mine;
       }
+
+  pub all-counted : (ds : List (Handle K)) (ls : List (Left K V)) (e : Ended) → AllReady stm 0 ds → AllNew alg ds → length ls ≡ length ds → length ds ≡ stm.config.callers
+      → ((i : ℕ) (l : Left K V) (x : Handle K) → i < length ds → Works good stm.config tells (get_or ds i x) (get_or ls i l))
+      → AllTold e 0 (descs_in ls) → e.installs ≡ map (λ (d : Handle K). installs_of d.view) (descs_in ls) → AllCounted good stm.config alg e (tallies_in ls)
+  all-counted ds ls e ready new count many each told installs = record {
+    count = length-map ls tally_in ∙ (count ∙ many);
+    each = counted-at ds ls e ready new count each told installs;
+  }
 
   -- and has its story
   pub stories : (ds : List (Handle K)) (ls : List (Left K V)) (e : Ended) → AllReady stm 0 ds → AllNew alg ds → length ls ≡ length ds

@@ -15,9 +15,10 @@ use Rattle.stm_tx.specs.Descs.{known}
 use Rattle.tx_answers.specs.declared.answers.Commit.TheVariants.{Committed, ReadOnly}
 use Rattle.tx_answers.specs.Answers.{Commits}
 use Rattle.tx_answers.specs.Causes.{FindsFull}
-use Rattle.tx_answers.specs.CallerState.{CallerState, Grows, clock_in, top_of}
-use Rattle.tx_answers.specs.CallerStateLaws.{carries-refl}
+use Rattle.tx_answers.specs.CallerState.{CallerState, clock_in, top_of}
 use Rattle.tx_atomic.specs.Attempts.{TookEffect}
+use Rattle.tx_atomic.specs.Extends.{Extends}
+use Rattle.tx_atomic.specs.ExtendsLaws.{extends-refl}
 use Rattle.tx_atomic.specs.MomentLaws.{happened}
 use Rattle.tx_atomic.specs.Moments.{Happened}
 use Rattle.tx_jobs.specs.Known as jobs
@@ -46,7 +47,7 @@ top-within clock (i ∷ is) within = let rest = top-within clock is within.1 in 
     by (Slot i) found low = omega arith
     by (Heap i) found low = omega arith
 
-pub grows-shown : {K : Type 0} (d e : Handle K) (m n : ℕ) → Grows (known d) (known e) → jobs.Grows (shown (known d) m) (shown (known e) n)
+pub grows-shown : {K : Type 0} (d e : Handle K) (m n : ℕ) → Extends (known d) (known e) → jobs.Grows (shown (known d) m) (shown (known e) n)
 grows-shown d e m n g = record {
   later = g.later;
   is = g.is;
@@ -84,7 +85,7 @@ took-shown good c n tells u w j k t =
     let h : Happened good c (λ log. tells log × MadeOne log u.made w.made) u w w.seen =
     happened good c n (λ log. tells log × MadeOne log u.made w.made) u w w.seen w
     (record { before = t.before; told = (t.told, took-one good c n tells u.front u w t); made = t.made; grows = t.grows; later = t.later; time = t.time; commits = t.commits })
-    (carries-refl w).grows ([], sym (append-nil w.seen), tt) in
+    (extends-refl w) ([], sym (append-nil w.seen), tt) in
     record {
       log = h.log;
       told = h.told.0;

@@ -1,5 +1,6 @@
 //! A caller of a memory, between its transactions.
 ghost use Rattle.std.specs.Prelude.{◌≡◌, ◌<◌};
+ghost use Rattle.stm_model.specs.declared.config.TheConstants.{MOST_LOG};
 ghost use Rattle.stm_rule.specs.Callers.{IsOf};
 ghost use Rattle.tx_answers.specs.CallerState.{IsIdle};
 ghost use Rattle.stm_tx.specs.Descs.{known, number};
@@ -22,6 +23,7 @@ pub struct Caller<'a, R: Wait, K: MemRule> {
     pub pace: Pace,
     pub ghost own: { IsOf desc stm.now },
     pub ghost idle: { IsIdle (known desc) },
+    pub ghost lengthens: { pace.growth.most ≡ MOST_LOG },
 }
 
 impl<'a, R: Wait, K: MemRule> Calls<R, K> for Caller<'a, R, K> {

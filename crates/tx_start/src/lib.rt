@@ -1,5 +1,5 @@
-//! Where a program begins: a memory is opened, its callers do jobs on threads, by the calls that tx_jobs has, it is closed,
-//! and what came of it is answered. The program has no descriptor in its hands.
+//! Where a program begins: a memory is opened, its callers do jobs on threads, by the calls that tx_jobs has, it is
+//! closed, and what came of it is answered. The program has no descriptor in its hands.
 #![tactic(auto)]
 
 pub mod caller;

@@ -18,15 +18,16 @@ use tx_atomic::tally::Tally;
 use tx_jobs::closed::ClosedMemory;
 use tx_jobs::job::Job;
 
-/// What tells of the past of a closed memory: the evidence of its one history, and what came of each caller's attempts, in
-/// the callers' order.
+/// What tells of the past of a closed memory: the evidence of its one history, and what came of each caller's attempts,
+/// in the callers' order.
 #[derive(Drop)]
 pub struct Evidence {
     pub closed: Closed,
     pub tallies: Vec<Tally>,
 }
 
-/// Opens a memory of zeros under an algorithm, has each caller do the job on a thread of its own, and closes the memory.
+/// Opens a memory of zeros under an algorithm, has each caller do the job on a thread of its own, and closes the
+/// memory. A log that is too short for a transaction becomes longer.
 ///
 /// # Errors
 /// As `Stm::new`; and `Memory`, where it is refused for the callers' answers. Closing takes none.
@@ -54,7 +55,7 @@ pub fn with_memory<R: Threads + Wait + Sync, K: MemRule + Drop + Sync + Send, J:
     let room = Vec::with_capacity(alloc, descs.len())?;
     let answers = Vec::with_capacity(alloc, descs.len())?;
     let tallies = Vec::with_capacity(alloc, descs.len())?;
-    let left = work_all(rt, &stm, descs, job)?;
+    let left = work_all(rt, alloc, &stm, descs, job)?;
     let (descs, answers, tallies) = part(left, room, answers, tallies);
     let closed = close_into(stm, descs, &mut words);
     Ok(ClosedMemory {

@@ -16,9 +16,9 @@ use tx_jobs::closed::ClosedMemory;
 use tx_jobs::times::Times;
 use tx_transaction::transaction::Transaction;
 
-/// Opens a memory of zeros under an algorithm, has each caller run the transaction so many times on a thread of its own,
-/// and closes the memory. Each caller answers how often the transaction took effect: fewer times only where the clock
-/// came to its limit.
+/// Opens a memory of zeros under an algorithm, has each caller run the transaction so many times on a thread of its
+/// own, and closes the memory. Each caller answers how often the transaction took effect: fewer times only where the
+/// clock came to its limit.
 ///
 /// # Errors
 /// As `with_memory`.

@@ -6,10 +6,13 @@ ghost use Rattle.tx_start.specs.declared.working.Left.{Left};
 ghost use Rattle.tx_start.specs.Lefts.{descs_in, answers_in, tallies_in, Works};
 
 use crate::caller::Caller;
+use std::alloc::Global;
 use std::sync::Wait;
 use std::thread;
 use std::thread::Threads;
+use stm_model::config::MOST_LOG;
 use stm_tx::{Desc, MemRule, NewError, Stm};
+use tx_atomic::growth::Growth;
 use tx_atomic::pace::Pace;
 use tx_atomic::tally::Tally;
 use tx_backoff::Patience;
@@ -23,12 +26,18 @@ pub(crate) struct Left<K: MemRule, V> {
     pub tally: Tally,
 }
 
-/// Has each caller do its job, on a thread of its own.
+/// Has each caller do its job, on a thread of its own. Logs that are too short become longer with this memory.
 pub(crate) fn work_all<
     R: Threads + Wait + Sync,
     K: MemRule + Drop + Sync + Send,
     J: Job<R, K> + Sync,
->(rt: &R, stm: &Stm<K>, descs: Vec<Desc<K>>, job: &J) -> Result<Vec<Left<K, J::Output>>, NewError>
+>(
+    rt: &R,
+    alloc: Global,
+    stm: &Stm<K>,
+    descs: Vec<Desc<K>>,
+    job: &J,
+) -> Result<Vec<Left<K, J::Output>>, NewError>
     requires ready { All (IsReady stm.now) descs.items }
     requires precondition { J.precondition job.now stm.now.rule stm.now.config.words }
     ensures count { IfOk result (λ left. length left.items ≡ length descs.items) }
@@ -42,7 +51,7 @@ pub(crate) fn work_all<
     let patience = patience_of(rt, descs.len());
     let job_of = |desc|
         requires { IsReady stm.now desc × J.precondition job.now stm.now.rule stm.now.config.words }
-    { work(rt, stm, desc, patience, job) };
+    { work(rt, alloc, stm, desc, patience, job) };
     let left = thread::map_vec(rt, descs, &job_of)?;
     Ok(left)
 }
@@ -58,6 +67,7 @@ fn patience_of<R: Threads>(rt: &R, callers: usize) -> Patience {
 /// Has one caller do its job.
 fn work<R: Wait, K: MemRule, J: Job<R, K>>(
     rt: &R,
+    alloc: Global,
     stm: &Stm<K>,
     desc: Desc<K>,
     patience: Patience,
@@ -70,6 +80,7 @@ fn work<R: Wait, K: MemRule, J: Job<R, K>>(
 {
     let mut pace = Pace::new();
     pace.patience = patience;
+    pace.growth = Growth::up_to(alloc, MOST_LOG);
     let mut caller = Caller {
         rt,
         stm,

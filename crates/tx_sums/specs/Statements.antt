@@ -10,7 +10,8 @@ abbrev pub with_value : ℕ × ℕ → List (ℕ × ℕ) → List (ℕ × ℕ)
 with_value p [] = []
 with_value p (q ∷ qs) = if q.0 == p.0 then p ∷ qs else q ∷ with_value p qs
 
--- a put gives a key that is there the value; one that isn't gets a pair of its own where there is room, and else nothing happens
+-- a put gives a key that is there the value; one that isn't gets a pair of its own where there is room, and else
+-- nothing happens
 abbrev pub PutsPair : Type 0
 PutsPair = (r : SumMap) (m : List ℕ) (key v : ℕ) → IsSumMap r m → SumMapFits r (length m) → ((i : ℕ) → i < r.cells → value r m i < 2 ^ 64) → key < 2 ^ 32 → v < 2 ^ 64 →
     IsSumMap r (put_in r key v m).memory

@@ -1,4 +1,5 @@
--- A tree (tx_tree's shape) in a memory whose cells have values and the sums of what is below them. A cell is named by its place j, from 0; a link to it is j + 1.
+-- A tree (tx_tree's shape) in a memory whose cells have values and the sums of what is below them. A cell is named by
+-- its place j, from 0; a link to it is j + 1.
 use Rattle.std.specs.Prelude.{ℕ, zero, suc, ◌≡◌, ◌+◌, ◌-◌, ◌*◌, ◌%◌, ◌^◌, ◌<◌, ◌≤◌, ◌==◌, ◌&&◌, ltb, leb, if◌then◌else◌, Bool, true, false, not, List, [], ◌∷◌, slice_index, slice_set, Option, Some, None}
 use Rattle.tx_effects.specs.declared.position.Position.{Position}
 use Rattle.tx_effects.specs.Effects.{Effect, unchanged, changed}
@@ -73,7 +74,8 @@ abbrev pub sum_within : SumMap → List ℕ → ℕ → ℕ → ℕ → ℕ
 sum_within r m l h zero = 0
 sum_within r m l h (suc n) = if ltb l (tag r m n) && ltb (tag r m n) h then sum_within r m l h n + value r m n else sum_within r m l h n
 
--- a tree, whose free cells have no value and no sum; the cells below a cell are those of its range, so its sum word is the sum over that range
+-- a tree, whose free cells have no value and no sum; the cells below a cell are those of its range,
+-- so its sum word is the sum over that range
 pub record Holds (r : SumMap) (m : List ℕ) (g : Ranges) : Type 0 where
   pub shape : shapes.Holds (pool r) m g
   pub bare : (i : ℕ) → i < r.cells → tag r m i ≡ 0 → (value r m i ≡ 0) × (slice_index m (sum_at r i) ≡ 0)
@@ -105,7 +107,8 @@ abbrev pub passed_by : SumMap → List ℕ → ℕ → Bool → Passed
 passed_by r m j true = let rest : ℕ = slice_index m (right_at r j) in record { next = rest; added = step_to (sum_under r m rest) (slice_index m (sum_at r j)) }
 passed_by r m j false = record { next = slice_index m (left_at r j); added = 0 }
 
--- a cell with a tag below the bound counts with what is on its left, and the walk to the bound goes to its right; another doesn't, and the walk goes to its left
+-- a cell with a tag below the bound counts with what is on its left, and the walk to the bound goes to its right;
+-- another doesn't, and the walk goes to its left
 abbrev pub passed : SumMap → List ℕ → ℕ → ℕ → Passed
 passed r m bound j = passed_by r m j (ltb (tag r m j) bound)
 
@@ -196,7 +199,8 @@ retagged r x v m = slice_set m (tag_at r x) v
 abbrev pub leftmost : SumMap → List ℕ → ℕ → ℕ → Position
 leftmost r m n a = shapes.leftmost (pool r) m n a
 
--- the cell x, which has no value, takes that of y, which is on its right and has this key; the sums from there on to y lose it
+-- the cell x, which has no value, takes that of y, which is on its right and has this key;
+-- the sums from there on to y lose it
 abbrev pub moved_up : SumMap → ℕ → ℕ → ℕ → List ℕ → List ℕ
 moved_up r x y key m = mended r key (step_to (value r m y) 0) r.cells (right_at r x) (slice_set (slice_set m (value_at r x) (value r m y)) (value_at r y) 0)
 
@@ -207,7 +211,8 @@ replaced_by r x s m = let y : ℕ = less_one s.next in retagged r x s.tag (splic
 abbrev pub least_taken : SumMap → ℕ → List ℕ → Effect Bool
 least_taken r x m = changed true (replaced_by r x (leftmost r m r.cells (right_at r x)) m)
 
--- a cell with one link at most is spliced out; one with two takes tag and value of the least cell on its right, which is spliced out in its place
+-- a cell with one link at most is spliced out; one with two takes tag and value of the least cell on its right,
+-- which is spliced out in its place
 abbrev pub taken_out : SumMap → ℕ → ℕ → List ℕ → List ℕ
 taken_out r x e m =
     if slice_index m (left_at r x) == 0 then spliced r x e (slice_index m (right_at r x)) m

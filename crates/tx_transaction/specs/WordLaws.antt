@@ -69,13 +69,14 @@ read-then {access = access} {s = s} {t = t} {P = P} {Q = Q} {l = l} {k = k} {j =
     }
 
 -- FROM WHAT WAS FOUND TO WHAT A TRANSACTION PROMISES
--- in an attempt that had done nothing: what is so of each memory under the rule that has what was found is so
+-- in an attempt that had done nothing: what is so of each memory of words of the machine under the rule that has what
+-- was found is so
 pub known : {rule good : List ℕ → Type 0} {words : ℕ} {l k : Log} {P : List ℕ → Type 0} → SameMemories good rule → l ≡ nothing → Found good words l P k
-    → {Q : Type 0} → ((m : List ℕ) → IsSound rule words m → P m → Q) → Q
+    → {Q : Type 0} → ((m : List ℕ) → IsSound rule words m → AreWords m → P m → Q) → Q
 known {P = P} same fresh found then =
     let s = found.seen in
     let is = (found.shows s.0 s.1 s.2 s.3).1 in
-    then s.0 ((same s.0).0 s.1, s.2) (subst P (ap (λ (j : Log). overlay s.0 j.writes) fresh) is)
+    then s.0 ((same s.0).0 s.1, s.2) s.4 (subst P (ap (λ (j : Log). overlay s.0 j.writes) fresh) is)
 
 -- where it only read the rule is kept
 pub keeps-read : {rule good : List ℕ → Type 0} {words : ℕ} {l k : Log} {P : List ℕ → Type 0} → SameMemories good rule → l ≡ nothing → Found good words l P k → Keeps rule words k

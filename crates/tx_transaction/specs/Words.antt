@@ -57,8 +57,8 @@ pub record RangeRead (words : ℕ) (l : Log) (start end : ℕ) (tells : List ℕ
 abbrev pub Decides : (ℕ → Bool → Type 0) → (ℕ → Bool) → Type 0
 Decides post passes = (x : ℕ) (b : Bool) → x < 2 ^ 64 → post x b → b ≡ passes x
 
--- from l to k an attempt only read: a good memory explains k, and each one that does explains l, and P is so of it under
--- the writes before
+-- from l to k an attempt only read: a good memory explains k, and each one that does explains l, and P is so of it
+-- under the writes before
 pub record Found (good : List ℕ → Type 0) (words : ℕ) (l : Log) (P : List ℕ → Type 0) (k : Log) : Type 0 where
   pub only_read : k.writes ≡ l.writes
   pub seen : IsExplained good words k

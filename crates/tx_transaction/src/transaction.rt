@@ -20,7 +20,8 @@ pub trait Transaction<K: MemRule> {
     // what it needs of the rule and of the number of words; one that says nothing is of word 0 alone.
     ghost precondition: { Self → K → ℕ → Type 0 } = { λ it rule words. 0 < words };
 
-    // what is so of its answer, and of what an attempt that answers so has read and written; nothing, if it doesn't say.
+    // what is so of its answer, and of what an attempt that answers so has read and written; nothing, if it doesn't
+    // say.
     ghost postcondition: { Self → K → ℕ → Self.Output → Log → Type 0 } = { λ it rule words came log. Unit {0} };
 
     /// Does it in one attempt, which has done nothing before.

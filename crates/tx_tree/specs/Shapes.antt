@@ -1,4 +1,5 @@
--- The shape of a binary search tree in a memory, whatever else its cells hold. A cell is named by its place j in the pool, from 0; a link to it is j + 1, and 0 is a link to none.
+-- The shape of a binary search tree in a memory, whatever else its cells hold. A cell is named by its place j in the
+-- pool, from 0; a link to it is j + 1, and 0 is a link to none.
 use Rattle.std.specs.Prelude.{ℕ, zero, suc, ◌≡◌, ◌+◌, ◌*◌, ◌^◌, ◌<◌, ◌≤◌, ◌⊎◌, ◌==◌, ltb, if◌then◌else◌, List, slice_index}
 use Rattle.tx_effects.specs.declared.position.Position.{Position}
 use Rattle.tx_tree.specs.declared.pool.Pool.{Pool}
@@ -27,7 +28,8 @@ tag r m j = slice_index m (tag_at r j)
 abbrev pub top : ℕ
 top = 2 ^ 32 + 1
 
--- of each used cell: the range of tags, between low and high, that it and the cells below it may have, and its rank, which is greater than those of the cells whose tags end its range
+-- of each used cell: the range of tags, between low and high, that it and the cells below it may have, and its rank,
+-- which is greater than those of the cells whose tags end its range
 pub record Ranges : Type 0 where
   pub low : ℕ → ℕ
   pub high : ℕ → ℕ

@@ -84,7 +84,8 @@ leftmost r m n a = shapes.leftmost (pool r) m n a
 abbrev pub replaced : Tree → ℕ → Position → List ℕ → List ℕ
 replaced r x s m = let y : ℕ = less_one s.next in retagged r x s.tag (spliced r y s.link (slice_index m (right_at r y)) m)
 
--- a cell with one link at most is spliced out; one with two takes the tag of the least cell on its right, which is spliced out in its place
+-- a cell with one link at most is spliced out; one with two takes the tag of the least cell on its right,
+-- which is spliced out in its place
 abbrev pub taken_out : Tree → ℕ → ℕ → List ℕ → List ℕ
 taken_out r x e m =
     if slice_index m (left_at r x) == 0 then spliced r x e (slice_index m (right_at r x)) m

@@ -6,8 +6,8 @@ use stm_model::stop::Stop;
 use tx_bell::stripes::Stripes;
 use tx_transaction::transaction::Transaction;
 
-/// The transaction, which answers the stripes of the words that it read beside what it answers. That costs three instructions
-/// a read.
+/// The transaction, which answers the stripes of the words that it read beside what it answers. That costs three
+/// instructions a read.
 #[derive(Clone, Copy, Drop)]
 pub struct Watched<'a, T> {
     pub transaction: &'a T,

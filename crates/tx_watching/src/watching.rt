@@ -6,8 +6,8 @@ use stm_model::access::Access;
 use stm_model::stop::Stop;
 use tx_bell::stripes::Stripes;
 
-/// The access behind a reference, and the stripes of the words that were read by it. They are exact under every algorithm,
-/// whatever log that one keeps.
+/// The access behind a reference, and the stripes of the words that were read by it. They are exact under every
+/// algorithm, whatever log that one keeps.
 #[derive(Drop)]
 pub struct Watching<'a, A: Access> {
     pub to: &'a mut A,

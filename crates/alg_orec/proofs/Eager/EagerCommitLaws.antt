@@ -105,7 +105,7 @@ module _ {good : List ℕ → Type 0} {c : Config} {n : ℕ} {l : Local} {v : Vi
   -- CANCEL
   pub tells-cancelled : (z : View) (o : Own) → AbortsEager n v z → Cancels good c n (Cancelled l.start) (known_of v o) (known_of z (with_commit false o))
   tells-cancelled z o g = (
-    record { ends = ends-own v z o (with_commit false o) refl refl q.ends; made = q.made; is_start = q.is_start; seen = q.seen; kept = q.kept; sees = q.sees },
+    record { ends = ends-own v z o (with_commit false o) refl refl refl q.ends; made = q.made; is_start = q.is_start; seen = q.seen; kept = q.kept; sees = q.sees },
     (let a = rose.0 in let e = rises in omega arith),
     (let a = rose.1 in let e = rises in omega arith),
     proving.revocable c l v k p.eager v o refl,
@@ -391,6 +391,7 @@ module _ {good : List ℕ → Type 0} {c : Config} {n : ℕ} {l : Local} {v : Vi
                 ∙ sym (append_assoc step_trace.0 (q.more ++ tried l.start now ∷ []) v.steps.step_trace));
             reads_limit = refl;
             writes_limit = refl;
+            marks_limit = refl;
             fenced = refl;
           }
 
@@ -485,7 +486,7 @@ module _ {good : List ℕ → Type 0} {c : Config} {n : ℕ} {l : Local} {v : Vi
     more = [];
     is = λ j. record v { history = record v.history { front = i.front j }; attempt = record v.attempt { start = i.start j } };
     stays = i;
-    grows = λ p. grows-same (known_of v p) (known_of v p) refl refl [] refl refl refl refl;
+    grows = λ p. grows-same (known_of v p) (known_of v p) refl refl [] refl refl refl refl refl;
     start = inl refl;
     again = λ e. absurd (let f : true ≡ false = sym e ∙ quiet in cc);
   }
@@ -522,6 +523,7 @@ module _ {good : List ℕ → Type 0} {c : Config} {n : ℕ} {l : Local} {v : Vi
         step_trace = refl;
         reads_limit = refl;
         writes_limit = refl;
+        marks_limit = refl;
         fenced = refl;
       }
 

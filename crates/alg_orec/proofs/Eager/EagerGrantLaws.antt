@@ -105,4 +105,4 @@ module _ {good : List ℕ → Type 0} {c : Config} {n : ℕ} {l : Local} {v : Vi
     })
 
     pub tells-granted : (p : Local) → p ≡ promoted → Grants good c n irrevs.Granted (known_of v (own_of l)) (known_of w (own_of p))
-    tells-granted p local = opening.tells-promoted can refl r.seen m.start r.more v.owned.in_place l.writes r.moves r.found refl (λ none. none) k.optimistic.ungranted p w local r.is
+    tells-granted p local = opening.tells-promoted can refl r.seen m.start r.more v.owned.in_place l.writes r.moves refl r.found refl (λ none. none) k.optimistic.ungranted p w local r.is

@@ -142,5 +142,5 @@ module _ (n : ℕ) (v u z : View) (o : Own) (eager : v.gate.algorithm ≡ OrecEa
   )
 
   pub quits-back : IsUnmade v u → Quits (known_of v o) (known_of z (with_commit false o))
-  quits-back m = quits-own v z o (with_commit false o) refl refl (subst (λ (y : View). Quits (known_of v o) (known_of y o)) (sym g.is)
+  quits-back m = quits-own v z o (with_commit false o) refl refl refl (subst (λ (y : View). Quits (known_of v o) (known_of y o)) (sym g.is)
       (quits-left n v g.before o (unmade-trans v u g.before m g.unmade) rose ((λ j. irrevocable_under (eager j) (granted_under (eager j) v.gate v.lock) (wrote (known_of v o))) ∙ plain)))

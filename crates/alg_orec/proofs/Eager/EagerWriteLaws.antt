@@ -125,6 +125,7 @@ module _ (good : List ℕ → Type 0) (c : Config) (n : ℕ) (l : Local) (v : Vi
     pub undo_len : q.undo.len ≡ l.undo.len
     pub writes_len : q.writes.len ≡ l.writes.len
     pub marks : q.writes.marks ≡ l.writes.marks
+    pub marks_limit : q.writes.marks_limit ≡ l.writes.marks_limit
     pub locks_len : q.locks.len ≡ l.locks.len
 
   module _ (runs : RunsEager good c n l v) where
@@ -313,6 +314,7 @@ module _ (good : List ℕ → Type 0) (c : Config) (n : ℕ) (l : Local) (v : Vi
       undo_len = ap (λ (p : Local). p.undo.len) s.local ∙ ap (λ (p : Local). p.undo.len) h.local;
       writes_len = ap (λ (p : Local). p.writes.len) s.local ∙ ap (λ (p : Local). p.writes.len) h.local;
       marks = ap (λ (p : Local). p.writes.marks) s.local ∙ ap (λ (p : Local). p.writes.marks) h.local;
+      marks_limit = ap (λ (p : Local). p.writes.marks_limit) s.local ∙ ap (λ (p : Local). p.writes.marks_limit) h.local;
       locks_len = ap (λ (p : Local). p.locks.len) s.local ∙ h.len;
     }
       where
@@ -416,6 +418,7 @@ module _ (good : List ℕ → Type 0) (c : Config) (n : ℕ) (l : Local) (v : Vi
       undo_len = refl;
       writes_len = ap (λ (q : LogState). q.len) push.1;
       marks = ap (λ (q : LogState). q.marks) push.1;
+      marks_limit = ap (λ (q : LogState). q.marks_limit) push.1;
       locks_len = refl;
     }
       where
@@ -437,7 +440,7 @@ module _ (good : List ℕ → Type 0) (c : Config) (n : ℕ) (l : Local) (v : Vi
       y = stored v q.start s.seen s.held s.sample s.check a x s.undo s.more
 
       grown : Grows (known_of v o) (known_of y p)
-      grown = let g = records.grown (laws.reading good c n l v runs) q.start s.seen s.more s.moves v.attempt.reads s.sample s.check p (ap (λ (d : Local). d.reads.len) s.local) s.undo_len in
+      grown = let g = records.grown (laws.reading good c n l v runs) q.start s.seen s.more s.moves v.attempt.reads s.sample s.check p (ap (λ (d : Local). d.reads.len) s.local) s.undo_len s.marks_limit in
           record {
             later = g.later;
             is = g.is;
@@ -448,6 +451,7 @@ module _ (good : List ℕ → Type 0) (c : Config) (n : ℕ) (l : Local) (v : Vi
             step_trace = g.step_trace;
             reads_limit = g.reads_limit;
             writes_limit = g.writes_limit;
+            marks_limit = g.marks_limit;
             fenced = g.fenced;
           }
 

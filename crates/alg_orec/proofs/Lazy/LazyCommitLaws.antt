@@ -214,7 +214,7 @@ module _ (good : List ℕ → Type 0) (c : Config) (n : ℕ) (low : n < c.caller
     stays = subst (λ (q : Local). IsInside good c n (record q { committing = true }) u) (sym whole) (subst (IsInside good c n (record l { start = m.start; locks = m.locks; committing = true })) (sym path)
         (stays-ready m.start m.locks v.history.seen u.owned.held v.sample.loaded v.check e.more h.locks h.places h.few h.versions e.covered
         (λ r t. let o = e.olds r t in let s = start in omega arith) k.unchecked i.legal (subst (λ (s : ℕ). Below v.history.seen (s + 1)) (sym start) i.below) i.sees (λ one. start ∙ k.sole one)));
-    grows = λ o. subst (λ (y : View). Grows (known_of v o) (known_of y o)) (sym h.is) (grows-same (known_of v o) (known_of (holding_still v u.owned.held e.more) o) refl refl e.more refl refl refl refl);
+    grows = λ o. subst (λ (y : View). Grows (known_of v o) (known_of y o)) (sym h.is) (grows-same (known_of v o) (known_of (holding_still v u.owned.held e.more) o) refl refl e.more refl refl refl refl refl);
     start = inl start;
     again = λ g o. absurd (let f : true ≡ false = sym g ∙ first in cc);
   }
@@ -289,6 +289,7 @@ module _ (good : List ℕ → Type 0) (c : Config) (n : ℕ) (low : n < c.caller
         step_trace = refl;
         reads_limit = refl;
         writes_limit = refl;
+        marks_limit = refl;
         fenced = refl;
       }
 

@@ -56,7 +56,7 @@ module _ (good : List ℕ → Type 0) (c : Config) (n : ℕ) (l : Local) (v : Vi
 
     pub tells-cancelled : (z : View) (o : Own) → GivesUp n v z → Cancels good c n (Cancelled l.start) (known_of v o) (known_of z (with_commit false o))
     tells-cancelled z o g = (
-      record { ends = ends-own v z o (with_commit false o) refl refl q.ends; made = q.made; is_start = q.is_start; seen = q.seen; kept = q.kept; sees = q.sees },
+      record { ends = ends-own v z o (with_commit false o) refl refl refl q.ends; made = q.made; is_start = q.is_start; seen = q.seen; kept = q.kept; sees = q.sees },
       (let a = level in omega arith),
       (let a = level in omega arith),
       revocable o,

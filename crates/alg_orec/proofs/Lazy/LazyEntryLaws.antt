@@ -280,6 +280,7 @@ module _ (good : List ℕ → Type 0) (c : Config) (n : ℕ) (low : n < c.caller
           step_trace = f.1 ∙ (ap (λ (y : View). f.0 ++ y.steps.step_trace) path ∙ sym (append_assoc f.0 (tried l.start now ∷ []) v.steps.step_trace));
           reads_limit = refl;
           writes_limit = refl;
+          marks_limit = refl;
           fenced = ap (λ (y : View). fenced_of y.fence) g.is ∙ ap fenced_of (g.unmade.carried.fence ∙ ap (λ (y : View). y.fence) path);
         }
 

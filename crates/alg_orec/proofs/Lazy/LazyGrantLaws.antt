@@ -137,5 +137,5 @@ module _ {good : List ℕ → Type 0} {c : Config} {n : ℕ} {l : Local} {v : Vi
         not-yes false e = refl
 
     pub tells-granted : (p : Local) → p ≡ promoted → Grants good c n irrevs.Granted (known_of v (own_of l)) (known_of w (own_of p))
-    tells-granted p local = opening.tells-promoted can refl r.seen m.start (st.more ++ r.more) (cells_of l.writes.items) (emptied l.writes) r.moves
+    tells-granted p local = opening.tells-promoted can refl r.seen m.start (st.more ++ r.more) (cells_of l.writes.items) (emptied l.writes) r.moves refl
         (Contains-append_right st.more r.more (load_of Clock m.start) r.found) refl (λ none. refl) k.optimistic.ungranted p w local path

@@ -171,7 +171,7 @@ module _ (good : List ℕ → Type 0) (c : Config) (n : ℕ) (l : Local) (v : Vi
               running = ap is_in i.phase;
               closing = ap is_closing i.phase;
               made = refl;
-              grows = grows-same (known_of v o) (known_of v p) refl refl [] refl refl refl refl;
+              grows = grows-same (known_of v o) (known_of v p) refl refl [] refl refl refl (ap (λ (q : LogState). q.marks_limit) is) refl;
               alg = refl;
               fence = refl;
               base = refl;

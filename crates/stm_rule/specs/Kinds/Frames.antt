@@ -67,7 +67,8 @@ ring-named OrecEager e = absurd cc
 ring-named RingSw e = refl
 ring-named Serial e = absurd cc
 
--- who is between no entry and its DONE, and owes no DONE as the gate's holder, has seen no more than the number from which starts are loaded
+-- who is between no entry and its DONE, and owes no DONE as the gate's holder,
+-- has seen no more than the number from which starts are loaded
 pub front-within : (good : (ℕ → ℕ) → Type 0) (c : Config) (w : World) (n : ℕ) → Core good c w → (w.views n).ring_commit.committed ≡ false → (w.views n).attempt.entered ≡ false → (w.views n).history.front ≤ horizon w
 front-within good c w n g early apart = go (has_ring (alg_of w.gate)) refl
   where
@@ -199,7 +200,8 @@ pub record LeavesGate (kind : StepKind) (n : ℕ) : Type 0 where
   pub marks : (w : World) → ((world_after kind n w).base ≡ w.base) × ((world_after kind n w).done ≡ w.done)
   pub step_trace : (w : World) → (kind.after w (w.views n) (answer kind w)).steps.step_trace ≡ (w.views n).steps.step_trace
 
--- the step raises the clock, and what the caller knows as the gate's holder is of its new time; it leaves the other words alone
+-- the step raises the clock, and what the caller knows as the gate's holder is of its new time;
+-- it leaves the other words alone
 pub record RaisesClock (kind : StepKind) (n : ℕ) : Type 0 where
   pub gate : (w : World) → (world_after kind n w).gate ≡ w.gate
   pub status : (w : World) → (world_after kind n w).status ≡ w.status
@@ -213,7 +215,8 @@ pub risen-step_trace : (b : Bool) (v : View) (n : ℕ) → (if b then record v.s
 risen-step_trace true v n = refl
 risen-step_trace false v n = refl
 
--- the step leaves the clock, the lock, the records and the history alone, and of what the caller knows the history, the rises and what it holds
+-- the step leaves the clock, the lock, the records and the history alone, and of what the caller knows the history,
+-- the rises and what it holds
 pub record LeavesCommon (kind : StepKind) (n : ℕ) : Type 0 where
   pub words : (w : World) → ((world_after kind n w).clock ≡ w.clock) × ((world_after kind n w).lock ≡ w.lock) × ((world_after kind n w).records ≡ w.records)
   pub history : (w : World) → ((world_after kind n w).history ≡ w.history) × ((kind.after w (w.views n) (answer kind w)).history ≡ (w.views n).history)

@@ -432,7 +432,8 @@ module _ (good : (ℕ → ℕ) → Type 0) (c : Config) (n : ℕ) where
       (record { gate = λ w. refl; status = λ w. refl; view = λ w. refl; marks = λ w. (refl, refl); step_trace = λ w. refl }) (λ w. refl)
       (λ v m. m.granted) (λ v m. direct.direct_releases good c v.gate.algorithm n q t)
 
-  -- THE RETURN: after a promoted attempt its algorithm starts from rest; an attempt that wasn't promoted leaves what runs
+  -- THE RETURN: after a promoted attempt its algorithm starts from rest;
+  -- an attempt that wasn't promoted leaves what runs
   pub returns : (fence : ℕ) (alg : Alg) → StepLaw (Core good c) (return_gate fence alg) Nothing n (CanReturn fence alg)
   returns fence alg w g may = record {
     rule = record {

@@ -1,5 +1,5 @@
--- Under RingSW a caller that raised the clock as the gate's holder is quiescent: all others are idle, and the clock is its
--- own. Without this clause DONE needn't be the clock at rest: some other caller could have raised the clock and not
+-- Under RingSW a caller that raised the clock as the gate's holder is quiescent: all others are idle, and the clock is
+-- its own. Without this clause DONE needn't be the clock at rest: some other caller could have raised the clock and not
 -- have stored DONE yet.
 use Rattle.std.proofs.Common.{◌≡◌, ℕ, true, sym, subst}
 use Rattle.stm_model.specs.declared.alg.Alg.TheVariants.{RingSw}

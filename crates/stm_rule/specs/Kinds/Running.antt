@@ -262,7 +262,8 @@ pub record Outside (v : RunView) : Type 0 where
   pub unwritten : v.tml.writer ≡ false
   pub uncommitted : v.ring_commit.committed ≡ false
 
--- FRESHNESS: under RingSW nobody has seen past DONE, but who has an entry to write back or raised the clock as the gate's holder
+-- FRESHNESS: under RingSW nobody has seen past DONE, but who has an entry to write back or raised the clock as the
+-- gate's holder
 pub runs-fresh : (c : Config) (r : Regime) (s : RunProjection) (n : ℕ) → Runs c r s → named_in r ≡ RingSw → (s.views n).ring_commit.committed ≡ false → (s.views n).attempt.entered ≡ false → (s.views n).front ≤ s.done
 runs-fresh c (Running Cgl) s n k e early apart = absurd cc
 runs-fresh c (Running Tml) s n k e early apart = absurd cc

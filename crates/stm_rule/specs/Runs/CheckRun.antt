@@ -1,4 +1,5 @@
--- A check that loads the slot of another's entry: caller 1 reads word 0, caller 0 commits word 1, and the start of caller 1 moves past it.
+-- A check that loads the slot of another's entry: caller 1 reads word 0, caller 0 commits word 1,
+-- and the start of caller 1 moves past it.
 use Rattle.std.proofs.Common.{◌≡◌, ℕ, zero, suc, ◌<◌, List, [], ◌∷◌, true, false, refl, sym, subst, arith, ◌∙◌}
 use Rattle.std.specs.Prelude.{◌^◌}
 use Rattle.stm_model.specs.declared.alg.Alg.TheVariants.{RingSw}

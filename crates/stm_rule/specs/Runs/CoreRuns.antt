@@ -189,7 +189,8 @@ module _ (good : (ℕ → ℕ) → Type 0) (c : Config) where
       × ((run core_kind CoreMay (one_attempt (c.clock + 1) a x) (opening_world c)).history
       ≡ record { time = c.clock + 1; caller = 0; number = 0; reads = record { at = a; value = 0 } ∷ []; writes = record { at = a; value = x } ∷ [] } ∷ [])
 
-  -- caller 0 installs TML, commits once as a writer and once promoted, installs Serial, takes a store back, becomes irrevocable and commits
+  -- caller 0 installs TML, commits once as a writer and once promoted, installs Serial, takes a store back,
+  -- becomes irrevocable and commits
   abbrev pub one_of_each : ℕ → List (ℕ × CoreStep)
   one_of_each x =
       (0, announces) ∷ (0, aims) ∷ (0, takes_gate 0) ∷ (0, departs) ∷ (0, settles) ∷ (0, stores_base 0) ∷ (0, stores_done 0)
@@ -203,7 +204,8 @@ module _ (good : (ℕ → ℕ) → Type 0) (c : Config) where
       ∷ (0, of_cgl (stores_heap 0 0)) ∷ (0, of_cgl (stores_back 0 x)) ∷ (0, of_cgl (loads_limit true)) ∷ (0, of_cgl (stores_heap 0 x))
       ∷ (0, of_cgl (stores_clock 5)) ∷ (0, of_cgl frees_lock) ∷ (0, departs) ∷ []
 
--- with one caller and from clock 0 these steps are allowed; after the first 24 its attempt is promoted, and the history is in the end these three entries
+-- with one caller and from clock 0 these steps are allowed; after the first 24 its attempt is promoted, and the history
+-- is in the end these three entries
 abbrev pub CorePromotes : ((ℕ → ℕ) → Type 0) → Config → Type 0
 CorePromotes good c = (x : ℕ) → 0 < c.words → x < 2 ^ 64 → ((y : ℕ) → Keeps good (record { at = 0; value = y } ∷ []) (record { at = 0; value = x } ∷ []))
     → Allowed core_kind (CoreMay good (record c { callers = 1; clock = 0 })) (one_of_each good (record c { callers = 1; clock = 0 }) x) (opening_world (record c { callers = 1; clock = 0 }))
@@ -220,7 +222,8 @@ CorePromotes good c = (x : ℕ) → 0 < c.words → x < 2 ^ 64 → ((y : ℕ) �
 abbrev pub one_install : ℕ → List (ℕ × CoreStep)
 one_install clock = (0, announces) ∷ (0, aims) ∷ (0, takes_gate 0) ∷ (0, departs) ∷ (0, checks 1) ∷ (0, settles) ∷ (0, stores_base clock) ∷ (0, stores_done clock) ∷ (0, installs 0 Serial) ∷ []
 
--- with two callers these steps are allowed from the opening, and caller 0 then is quiet and has installed: what is said of both is said of some world
+-- with two callers these steps are allowed from the opening, and caller 0 then is quiet and has installed:
+-- what is said of both is said of some world
 abbrev pub CoreInstalls : ((ℕ → ℕ) → Type 0) → Config → Type 0
 CoreInstalls good c = Allowed core_kind (CoreMay good (record c { callers = 2 })) (one_install c.clock) (opening_world (record c { callers = 2 }))
     × IsQuiet (record c { callers = 2 }) 0 (run core_kind (CoreMay good (record c { callers = 2 })) (one_install c.clock) (opening_world (record c { callers = 2 })))
@@ -254,7 +257,8 @@ CoreRings good c = (x : ℕ) → 0 < c.words → x < 2 ^ 64 → ((y : ℕ) → K
     × ((run core_kind (CoreMay good (record c { callers = 1; clock = 0 })) (two_by_ring c x) (opening_world (record c { callers = 1; clock = 0 }))).history
     ≡ record { time = 2; caller = 0; number = 1; reads = one_cell x; writes = one_cell x } ∷ record { time = 1; caller = 0; number = 0; reads = one_cell 0; writes = one_cell x } ∷ [])
 
--- caller 0 installs OrecLazy and commits, installs OrecEager, stores in place, is promoted and commits, reads, is promoted after loading the record again and commits
+-- caller 0 installs OrecLazy and commits, installs OrecEager, stores in place, is promoted and commits, reads, is
+-- promoted after loading the record again and commits
 abbrev pub record_steps : ℕ → List (ℕ × CoreStep)
 record_steps x =
     (0, announces) ∷ (0, aims) ∷ (0, takes_gate 0) ∷ (0, departs) ∷ (0, settles) ∷ (0, stores_base 0) ∷ (0, stores_done 0)

@@ -1,4 +1,5 @@
--- A range that is taken out and comes back: caller 0 has word 0, which caller 1 leaves alone since it finds the gate closed, and gives it back with one entry.
+-- A range that is taken out and comes back: caller 0 has word 0, which caller 1 leaves alone since it finds the gate
+-- closed, and gives it back with one entry.
 use Rattle.std.proofs.Common.{◌≡◌, ◌≢◌, ℕ, zero, suc, ◌<◌, ◌≤◌, List, [], ◌∷◌, true, refl, arith}
 use Rattle.std.specs.Prelude.{◌^◌}
 use Rattle.stm_model.specs.declared.alg.Alg.TheVariants.{Cgl}
@@ -20,7 +21,8 @@ taking_out = (0, announces) ∷ (0, aims) ∷ (0, takes_gate 0) ∷ (0, departs)
 abbrev pub giving_back : ℕ → List (ℕ × CoreStep)
 giving_back x = (0, fence_loads 0) ∷ (1, announces) ∷ (1, loads_gate) ∷ (0, fence_stores 0 x) ∷ (1, departs) ∷ (0, settles) ∷ (0, fence_commits Cgl 1) ∷ (0, stores_base 1) ∷ (0, stores_done 1) ∷ (0, unfences Cgl) ∷ []
 
--- with two callers, in a memory that takes fences and from clock 0, these steps are allowed; between them caller 0 has the range, and the history is then this one entry
+-- with two callers, in a memory that takes fences and from clock 0, these steps are allowed; between them caller 0 has
+-- the range, and the history is then this one entry
 abbrev pub CoreFences : ((ℕ → ℕ) → Type 0) → Config → Type 0
 CoreFences good c = (x : ℕ) → 0 < c.words → x < 2 ^ 64 → ((m : ℕ → ℕ) → good m → m 0 ≡ 0 → good (λ a. over (one_cell x) a (m a)))
     → Allowed core_kind (CoreMay good (fenced_config c)) taking_out (opening_world (fenced_config c))

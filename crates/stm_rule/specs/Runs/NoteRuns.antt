@@ -1,4 +1,5 @@
--- Runs in which callers also split and join seats between their steps: they tell notes, learn them, and come together at the closing.
+-- Runs in which callers also split and join seats between their steps: they tell notes, learn them,
+-- and come together at the closing.
 use Rattle.std.specs.Prelude.{ℕ, zero, suc, ◌≡◌, ◌<◌, List, [], ◌∷◌, take, length}
 use Rattle.stm_model.specs.declared.config.Config.{Config}
 use Rattle.rule_base.specs.declared.views.Phase.TheVariants.{Idle}
@@ -35,7 +36,8 @@ notes_without (k ∷ ks) (suc i) = k ∷ notes_without ks i
 abbrev pub after_load : ℕ → World → World
 after_load n w = record w { views = put w.views n (after_seat_load (w.views n)) }
 
--- a split and a join leave the words alone, and the load that each makes is in the caller's step trace; learning spends the note
+-- a split and a join leave the words alone, and the load that each makes is in the caller's step trace; learning spends
+-- the note
 abbrev pub after_deed : ℕ → Deed → Shared → Shared
 after_deed n (steps step) x = record x { world = world_after (core_kind n step) n x.world }
 after_deed n tells x = record { world = after_load n x.world; notes = noted_history (x.world.views n).history ∷ x.notes }
@@ -70,6 +72,7 @@ module _ (good : (ℕ → ℕ) → Type 0) (c : Config) where
   AllMay [] x = Unit {0}
   AllMay (d ∷ ds) x = MayDo d.0 d.1 x × AllMay ds (after_deed d.0 d.1 x)
 
-  -- THE STEP LAW: whatever any callers do, each deed allowed where it comes, the rule holds after each: after the first k, for every k
+  -- THE STEP LAW: whatever any callers do, each deed allowed where it comes, the rule holds after each:
+  -- after the first k, for every k
   abbrev pub CoreKeepsAlong : Type 0
   CoreKeepsAlong = (deeds : List (ℕ × Deed)) (x : Shared) → SharedRule x → AllMay deeds x → (k : ℕ) → SharedRule (after_deeds (take k deeds) x)

@@ -1,4 +1,5 @@
--- A promoted attempt that holds a record of a word that it took back, and wrote nothing: it ends as a rollback does, without an entry. It raises the clock, and gives the record back one version later.
+-- A promoted attempt that holds a record of a word that it took back, and wrote nothing: it ends as a rollback does,
+-- without an entry. It raises the clock, and gives the record back one version later.
 use Rattle.std.proofs.Common.{◌≡◌, ◌<◌, ℕ, List, [], ◌∷◌, Bool, true, false, refl, arith}
 use Rattle.std.specs.Prelude.{◌==◌, if◌then◌else◌}
 use Rattle.stm_model.specs.declared.alg.Alg.TheVariants.{OrecEager}
@@ -25,7 +26,8 @@ quitting x =
 abbrev pub quit_end : ((ℕ → ℕ) → Type 0) → Config → ℕ → World
 quit_end good c x = run core_kind (CoreMay good (small_config c)) (quitting x) (opening_world (small_config c))
 
--- with one caller and one record and from clock 0 these steps are allowed; after them there is no entry, the clock is 1 and the record free since 1, BASE and DONE are as they were installed, and word 0 is as it was
+-- with one caller and one record and from clock 0 these steps are allowed; after them there is no entry, the clock is 1
+-- and the record free since 1, BASE and DONE are as they were installed, and word 0 is as it was
 abbrev pub CoreQuits : ((ℕ → ℕ) → Type 0) → Config → Type 0
 CoreQuits good c = (x : ℕ)
     → Allowed core_kind (CoreMay good (small_config c)) (quitting x) (opening_world (small_config c))

@@ -13,6 +13,7 @@ returns-then-local-clause-keeps g c =
       undo_len = refl;
       writes_len = refl;
       marks = refl;
+      marks_limit = refl;
       may =
           may-store-irrevocable (g.K.MemRule.good c.args.stm.now.rule) c.args.stm.now.config c.args.caller c.args.local.now
           c.args.seat.now.me.0.view c.requires.attempt c.requires.serial c.args.a c.args.x c.requires.inside
@@ -67,6 +68,7 @@ returns-clause-keeps g c =
       undo_len = c.log_old.ensures.logs.undo_len;
       writes_len = c.log_old.ensures.logs.writes_len;
       marks = c.log_old.ensures.logs.marks;
+      marks_limit = c.log_old.ensures.logs.marks_limit;
       may =
           may-store-logged (g.K.MemRule.good c.args.stm.now.rule) c.args.stm.now.config c.args.caller c.args.local.now
           c.args.seat.now.me.0.view c.requires.attempt c.requires.serial c.args.a c.args.x c.below_limit.new.seat.me.0.view

@@ -2,7 +2,7 @@ use Rattle.std.proofs.Common.{◌≡◌, ◌≤◌, ◌++◌, [], ◌∷◌, rep
 use Rattle.nekchhaul.specs.Config.{Config}
 use Rattle.nekchhaul.specs.Histories.{IsLegal, memory_at}
 use Rattle.nekchhaul.specs.Closings.{AllTold}
-use Rattle.nekchhaul.specs.CallerStateLaws.{carries-refl}
+use Rattle.nekchhaul.specs.ExtendsLaws.{extends-refl}
 use Rattle.nekchhaul.specs.Descs.{known, number}
 use Rattle.nekchhaul.specs.CallerLaws.{closed-seen}
 use Rattle.example_buffer.specs.declared.day.TheConstants.{CONFIG}
@@ -34,5 +34,5 @@ returns-in-Ok-close g c =
       words = subst (λ (k : Config). c.in-Ok-close.words.items ≡ memory_at e.clock e.history (replicate k.words 0)) of h.words;
       turn = r1.front;
       one = seen (λ at. at ≤ r1.front) stm.config (number c.in-Some-Some.reader) c.atomically-one.result r0 r1 r2 e.history of (λ at _ le. le) c.atomically-one.ensures.took c.atomically-two.ensures.grew begun;
-      two = seen (λ at. r1.front ≤ at) stm.config (number c.atomically-one.new.desc) c.atomically-two.result r1 r2 r2 e.history of (λ at ge _. ge) c.atomically-two.ensures.took (carries-refl r2).grows begun;
+      two = seen (λ at. r1.front ≤ at) stm.config (number c.atomically-one.new.desc) c.atomically-two.result r1 r2 r2 e.history of (λ at ge _. ge) c.atomically-two.ensures.took (extends-refl r2) begun;
     }

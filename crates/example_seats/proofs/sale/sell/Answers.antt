@@ -3,7 +3,7 @@ use Rattle.nekchhaul.specs.Config.{Config}
 use Rattle.nekchhaul.specs.Histories.{IsLegal, made_by, memory_at}
 use Rattle.nekchhaul.specs.Handles.{AllOpened}
 use Rattle.nekchhaul.specs.Closings.{AllTold}
-use Rattle.nekchhaul.specs.CallerStateLaws.{carries-refl}
+use Rattle.nekchhaul.specs.ExtendsLaws.{extends-refl}
 use Rattle.nekchhaul.specs.Trees.{IsTree}
 use Rattle.nekchhaul.specs.Descs.{known, number}
 use Rattle.nekchhaul.specs.CallerLaws.{closed-made, closed-seen, opened-made}
@@ -37,11 +37,11 @@ returns-in-Ok g c =
     let first_seen = closed-seen e 0 rest (second_through ∷ []) first_through first_told in
     let second_seen = closed-seen e 0 (rest ++ first_through ∷ []) [] second_through told in
     let one = wished (λ at. 0 ≤ at) stm.config stm.rule (number first) 7 c.atomically-one.result f g1 g1 e.history of under
-    (λ at _ _. omega arith) c.atomically-one.ensures.took c.atomically-one.ensures.none (carries-refl g1).grows first_seen in
+    (λ at _ _. omega arith) c.atomically-one.ensures.took c.atomically-one.ensures.none (extends-refl g1) first_seen in
     let two = wished (λ at. at ≤ between.front) stm.config stm.rule (number second) 7 c.atomically-two.result s between t e.history of under
     (λ at _ le. le) c.atomically-two.ensures.took c.atomically-two.ensures.none c.atomically-three.ensures.grew second_seen in
     let three = wished (λ at. between.front ≤ at) stm.config stm.rule (number c.atomically-two.new.desc) 3 c.atomically-three.result between
-    t t e.history of under (λ at ge _. ge) c.atomically-three.ensures.took c.atomically-three.ensures.none (carries-refl t).grows
+    t t e.history of under (λ at ge _. ge) c.atomically-three.ensures.took c.atomically-three.ensures.none (extends-refl t)
     second_seen in
     let callers : stm.config.callers ≡ 2 = ap (λ (k : Config). k.callers) of in
     let both = of-two e.history (λ n le. h.nobody_else n (subst (λ k. k ≤ n) (sym callers) le)) in

@@ -3,7 +3,7 @@ use Rattle.std.specs.Prelude.{ltb}
 use Rattle.std.proofs.lemmas.List.{drop-drop}
 use Rattle.std.proofs.lemmas.Bool.Decides.{nat_tests}
 use Rattle.stm_check.specs.declared.apart.TheConstants.{MOST_TOLD}
-use Rattle.stm_check.proofs.ApartLaws.{long-report, found-report, passed-line, no-report}
+use Rattle.stm_check.proofs.ApartLaws.{passed-line, no-report}
 use Rattle.stm_check.proofs.apart.report_in.Goals as goal
 
 few : (size most : ℕ) → size ≤ most → ltb most size ≡ false

@@ -14,6 +14,7 @@ returns c = record {
   most_ring = refl;
   most_callers = refl;
   most_log = refl;
+  most_marks = refl;
   small_words = refl;
   small_callers = refl;
   block = refl;

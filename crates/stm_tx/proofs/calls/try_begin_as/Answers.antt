@@ -86,7 +86,7 @@ returns-in-Ok-clause-begins g c =
     ∙ who-of (announce d.number) Nothing v 1 s c.announce.ensures.step) in
     shown-of (λ n v w. Begins good f n (Begun a) v w) (handle_of d.seat o) c.args.desc.now d.number w.view c.begin.new.self c.begin.new.self c.desc.view_is refl (ap caller_of c.desc.invariant.0.named)
     (subst (λ (k : Alg). Begins good f d.number (Begun k) (known_of v.view o) (known_of w.view p)) (sym e)
-    (begins-fresh good f d.number (alg_of gate) v.view w.view o p (sym (ap (λ (l : Local). l.reads.len) c.begin.ensures)) (sym (ap (λ (l : Local). l.undo.len) c.begin.ensures))
+    (begins-fresh good f d.number (alg_of gate) v.view w.view o p (sym (ap (λ (l : Local). l.reads.len) c.begin.ensures)) (sym (ap (λ (l : Local). l.undo.len) c.begin.ensures)) (sym (ap (λ (l : Local). l.writes.marks_limit) c.begin.ensures))
     (tells-begun good f d.number gate v.view s.view t.view p (tells-of (announce d.number) Nothing v 1 s c.announce.ensures.step) (tells-of load_gate (FindsGate f d.number) s gate t c.load_gate-gate.ensures.step)
     c.in-Ok.start w.view d.local zero (subst (λ k. k < 2 ^ 48) c.fence_of-desc-inside.ensures.fence c.fence_of-desc-inside.ensures.fits)
     (c.desc.invariant.1.holds ∙ out.reopened) (

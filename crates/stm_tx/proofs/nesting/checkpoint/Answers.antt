@@ -10,7 +10,6 @@ use Rattle.stm_gate.specs.Told.{stands-on}
 use Rattle.stm_tx.specs.Descs.{known}
 use Rattle.stm_tx.proofs.MarkLaws as laws
 use Rattle.stm_tx.proofs.nesting.checkpoint.Goals as goal
-use Rattle.tx_logs.specs.declared.marks.TheConstants.{MAX_MARKS}
 
 pub invariant_of-desc : goal.invariant_of-desc
 invariant_of-desc g c = (
@@ -30,10 +29,10 @@ invariant_of-desc g c = (
 pub returns-then-irrevocable-clause-checks : goal.returns-then-irrevocable-clause-checks
 returns-then-irrevocable-clause-checks g c =
     subst (λ (p : Handle g.row.K.Denot).
-    (p.own.depth < MAX_MARKS) × (c.desc.inside.local.depth + 1 ≡ p.own.depth + 1)
+    (p.own.depth < p.own.marks_limit) × (c.desc.inside.local.depth + 1 ≡ p.own.depth + 1)
     × IsMarked (known p)
     (known_of c.desc.inside.seat.me.0.view (own_of (record c.desc.inside.local { depth = c.desc.inside.local.depth + 1 })))) c.desc.view_is (
-      c.if-depth-ge-MAX_MARKS.false,
+      (let l = c.if-depth-limit.false in let e = c.marks_limit-limit.ensures in omega arith),
       refl,
       laws.marks-number (good_by g.K.MemRule.good c.desc.inside.seat.me.0.who.rule) c.desc.inside.seat.me.0.who.config c.desc.inside.number
           c.desc.inside.local c.desc.inside.seat.me.0.view (inside-of (good_by g.K.MemRule.good c.desc.inside.seat.me.0.who.rule)
@@ -51,7 +50,7 @@ mark-requires g c =
     (in-of c.desc.inside.seat.me.0.view.gate.phase
     (ap (λ (p : Handle g.row.K.Denot). is_in p.view.gate.phase) c.desc.view_is ∙ c.requires.running.0)) c.desc.invariant.1)
     (sym c.irrevocable_under-irrevocable.ensures ∙ c.if-irrevocable.false) in
-    let low : c.desc.inside.local.depth < MAX_MARKS = c.if-depth-ge-MAX_MARKS.false in
+    let low : c.desc.inside.local.depth < c.desc.inside.local.writes.marks_limit = (let l = c.if-depth-limit.false in let e = c.marks_limit-limit.ensures in omega arith) in
     omega arith
 
 pub invariant_of-desc-2 : goal.invariant_of-desc-2
@@ -80,10 +79,10 @@ invariant_of-desc-2 g c =
 pub returns-clause-checks : goal.returns-clause-checks
 returns-clause-checks g c =
     subst (λ (p : Handle g.row.K.Denot).
-    (p.own.depth < MAX_MARKS) × (c.desc.inside.local.depth + 1 ≡ p.own.depth + 1)
+    (p.own.depth < p.own.marks_limit) × (c.desc.inside.local.depth + 1 ≡ p.own.depth + 1)
     × IsMarked (known p) (known_of c.desc.inside.seat.me.0.view
     (own_of (record c.desc.inside.local { writes = c.mark.new.self; depth = c.desc.inside.local.depth + 1 })))) c.desc.view_is (
-      c.if-depth-ge-MAX_MARKS.false,
+      (let l = c.if-depth-limit.false in let e = c.marks_limit-limit.ensures in omega arith),
       refl,
       subst (λ (log : LogState).
           IsMarked (known_of c.desc.inside.seat.me.0.view (own_of c.desc.inside.local))

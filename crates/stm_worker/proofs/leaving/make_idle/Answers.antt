@@ -19,7 +19,7 @@ returns-in-Between g c =
     let v = known c.args.w.now.desc in
     let idle : IsIdle v = subst (λ p. IsAt (g.K.MemRule.good c.args.stm.now.rule) c.args.stm.now.config (caller_of c.args.w.now.desc.who.role) p v) c.in-Between.is c.requires.at in
     made-idle (g.K.MemRule.good c.args.stm.now.rule) c.args.stm.now c.args.w.now c.requires c.args.w.now.desc (record { table = refl; who = refl }) idle (grind (arith, idle.1))
-    (record { grows = grows-same v v refl refl [] refl refl refl refl; made = inl refl; installs = refl }) (λ e. refl)
+    (record { grows = grows-same v v refl refl [] refl refl refl refl refl; made = inl refl; installs = refl }) (λ e. refl)
 
 pub returns-in-Inside : goal.returns-in-Inside
 returns-in-Inside g c =

@@ -2,4 +2,4 @@ use Rattle.std.proofs.Common.{refl}
 use Rattle.tx_answers.proofs.laws.limits_are.Goals as goal
 
 pub returns : goal.returns
-returns c = record { marks = refl; slot_words = refl }
+returns c = record { slot_words = refl }

@@ -5,6 +5,7 @@ use Rattle.tx_answers.specs.CallerStateLaws.{grows-trans}
 use Rattle.stm_tx.specs.Descs.{known, number}
 use Rattle.tx_atomic.specs.Attempts.{TookEffect}
 use Rattle.tx_atomic.specs.AttemptLaws.{same-number, took-since}
+use Rattle.tx_atomic.specs.ExtendsLaws.{grows-extends}
 use Rattle.tx_atomic.specs.Tries.{Opens, Runs}
 use Rattle.tx_atomic.specs.Accounts.{Account, account}
 use Rattle.tx_atomic.specs.TryLaws.{opens-plain, tried-ran, tried-unbegun}
@@ -31,7 +32,7 @@ returns-clause-took g c =
     IfOk-weaker c.run.result _ _ (λ output took.
     let postcondition = g.T.Transaction.postcondition c.args.transaction.now stm.rule stm.config.words output in
     let now = subst (λ n. TookEffect good stm.config n postcondition v.start v w) (same-number c.args.desc.now c.begin.new.desc c.begin.ensures.same) took in
-    took-since good stm.config (number c.args.desc.now) postcondition v.start u.front u v w c.begin.ensures.made c.begin.ensures.grew c.in_ok-begin.ensures.later now) c.run.ensures.took
+    took-since good stm.config (number c.args.desc.now) postcondition v.start u.front u v w c.begin.ensures.made (grows-extends u v c.begin.ensures.grew) c.in_ok-begin.ensures.later now) c.run.ensures.took
 
 pub returns-clause-none : goal.returns-clause-none
 returns-clause-none g c = on_err_weaker c.run.result (λ made. made ∙ c.begin.ensures.made) c.run.ensures.none

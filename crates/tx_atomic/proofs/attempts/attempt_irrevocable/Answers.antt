@@ -6,6 +6,7 @@ use Rattle.stm_tx.specs.Descs.{known, number}
 use Rattle.tx_atomic.specs.Accounts.{account}
 use Rattle.tx_atomic.specs.Attempts.{TookEffect}
 use Rattle.tx_atomic.specs.AttemptLaws.{same-number, took-since}
+use Rattle.tx_atomic.specs.ExtendsLaws.{grows-extends}
 use Rattle.tx_atomic.specs.Tries.{Runs}
 use Rattle.tx_atomic.specs.TryLaws.{tried-ran}
 use Rattle.tx_atomic.proofs.attempts.attempt_irrevocable.Goals as goal
@@ -28,7 +29,7 @@ returns-clause-took g c =
     IfOk-weaker c.run_looking_up.result _ _ (λ output took.
     let postcondition = g.T.Transaction.postcondition c.args.transaction.now stm.rule stm.config.words output in
     let now = subst (λ n. TookEffect good stm.config n postcondition v.start v w) (same-number c.args.desc.now c.open.new.desc c.open.ensures.same) took in
-    took-since good stm.config (number c.args.desc.now) postcondition v.start u.front u v w c.open.ensures.made c.open.ensures.grew c.in_ok-open.ensures.later now) c.run_looking_up.ensures.took
+    took-since good stm.config (number c.args.desc.now) postcondition v.start u.front u v w c.open.ensures.made (grows-extends u v c.open.ensures.grew) c.in_ok-open.ensures.later now) c.run_looking_up.ensures.took
 
 pub returns-clause-none : goal.returns-clause-none
 returns-clause-none g c = on_err_weaker c.run_looking_up.result (λ made. made ∙ c.open.ensures.made) c.run_looking_up.ensures.none

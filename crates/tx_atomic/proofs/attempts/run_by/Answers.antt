@@ -6,6 +6,7 @@ use Rattle.tx_answers.specs.Answers.{Commits}
 use Rattle.tx_answers.specs.CallerStateLaws.{grows-trans}
 use Rattle.stm_tx.specs.Descs.{known, number, serves-on}
 use Rattle.tx_atomic.specs.AttemptLaws.{same-number}
+use Rattle.tx_atomic.specs.ExtendsLaws.{extends-trans, grows-extends}
 use Rattle.tx_atomic.specs.Tries.{Finishes}
 use Rattle.tx_atomic.specs.Accounts.{Account, account}
 use Rattle.tx_atomic.specs.TryLaws.{runs-stopped, runs-finished}
@@ -75,7 +76,7 @@ returns-clause-took g c =
       before = t.before;
       told = subst (λ l. g.T.Transaction.postcondition c.args.transaction.now stm.rule stm.config.words c.in_ok-output.output l) (sym t.told) c.in_ok-output.ensures.postcondition;
       made = t.made ∙ c.act.ensures.made;
-      grows = grows-trans u v t.before c.act.ensures.grew t.grows;
+      grows = extends-trans u v t.before (grows-extends u v c.act.ensures.grew) t.grows;
       later = (let b = c.in_ok-output.ensures.later in let d = t.later in omega (arith, b, d));
       time = t.time;
       commits = subst (λ n. Commits good stm.config n (Committed t.time) t.before w ⊎ Commits good stm.config n (ReadOnly t.time) t.before w) (same-number c.args.desc.now c.act.new.desc c.act.ensures.same) t.commits;

@@ -1,11 +1,11 @@
 use Rattle.std.proofs.Common.{ℕ, suc, rules, refl, ◌∙◌, sym, subst}
 use Rattle.std.proofs.lemmas.Option.{IfSome_then}
 use Rattle.std.specs.Prelude.{Some, None}
-use Rattle.tx_answers.specs.CallerStateLaws.{carries-refl, grows-trans}
 use Rattle.stm_tx.specs.Descs.{known, number}
 use Rattle.tx_atomic.specs.Attempts.{TookEffect}
 use Rattle.tx_atomic.specs.AttemptLaws.{same-number, took-nothing, took-since, took-weaker}
 use Rattle.tx_atomic.specs.Callers.{Took}
+use Rattle.tx_atomic.specs.ExtendsLaws.{extends-refl, extends-trans}
 use Rattle.tx_atomic.specs.Waits.{HasLooked}
 use Rattle.tx_watching.specs.Watches.{CoverReads}
 use Rattle.tx_atomic.specs.declared.tally.Ended.TheVariants.{ClockFull}
@@ -17,7 +17,7 @@ use Rattle.tx_atomic.proofs.waiting.until_some.Goals as goal
 pub loop-init : goal.loop-init
 loop-init g c =
     let stm = c.args.stm.now in
-    let grew = (carries-refl (known c.args.desc.now)).grows in
+    let grew = extends-refl (known c.args.desc.now) in
     let runs : (k : ℕ) × HaveRun (g.K.MemRule.good stm.rule) stm.config (number c.args.desc.now) g.O.Observer.hears k (known c.args.desc.now) (known c.args.desc.now) (account g.O.Observer.heard c.args.pace.now) (account g.O.Observer.heard c.args.pace.now) = (0, (refl, refl)) in
     search (rules, grew, runs)
 
@@ -30,7 +30,7 @@ loop-preserved g c =
     let read = c.in-Some-None-default.read in
     let took = subst (λ r. TookEffect (g.K.MemRule.good stm.rule) stm.config (number c.loop.desc) (λ log. postcondition r log × CoverReads read log) v.front v w)
     c.in-Some-None-default.field-0-0-is c.in-Some-None-default.ensures.took in
-    let grew = grows-trans (known c.args.desc.now) v w c.loop.invariant.grew c.atomically.ensures.grew in
+    let grew = extends-trans (known c.args.desc.now) v w c.loop.invariant.grew c.atomically.ensures.grew in
     let made = took-nothing (g.K.MemRule.good stm.rule) stm.config (number c.loop.desc) (λ log. postcondition None log × CoverReads read log) v.front v w (λ log told. c.requires.waits log told.0) took ∙ c.loop.invariant.made in
     let good = g.K.MemRule.good stm.rule in
     let n = number c.args.desc.now in
@@ -41,7 +41,7 @@ loop-preserved g c =
 
 pub returns-in-None-atomically-clause-grew : goal.returns-in-None-atomically-clause-grew
 returns-in-None-atomically-clause-grew g c =
-    grows-trans (known c.args.desc.now) (known c.loop.desc) (known c.atomically.new.desc) c.loop.invariant.grew c.atomically.ensures.grew
+    extends-trans (known c.args.desc.now) (known c.loop.desc) (known c.atomically.new.desc) c.loop.invariant.grew c.atomically.ensures.grew
 
 pub returns-in-None-atomically-clause-full : goal.returns-in-None-atomically-clause-full
 returns-in-None-atomically-clause-full g c =
@@ -50,7 +50,7 @@ returns-in-None-atomically-clause-full g c =
 
 pub returns-in-Some-Some-default-clause-grew : goal.returns-in-Some-Some-default-clause-grew
 returns-in-Some-Some-default-clause-grew g c =
-    grows-trans (known c.args.desc.now) (known c.loop.desc) (known c.atomically.new.desc) c.loop.invariant.grew c.atomically.ensures.grew
+    extends-trans (known c.args.desc.now) (known c.loop.desc) (known c.atomically.new.desc) c.loop.invariant.grew c.atomically.ensures.grew
 
 pub returns-in-Some-Some-default-clause-took : goal.returns-in-Some-Some-default-clause-took
 returns-in-Some-Some-default-clause-took g c =

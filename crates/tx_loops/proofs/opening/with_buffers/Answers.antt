@@ -10,7 +10,7 @@ use Rattle.tx_loops.specs.declared.looping_caller.LoopingCaller.{LoopingCaller}
 use Rattle.tx_loops.specs.declared.stage.Stage.TheVariants.{Free}
 use Rattle.tx_loops.proofs.opening.with_buffers.Goals as goal
 
-push-free : (ms ns : List LoopingCaller) (m : LoopingCaller) → ns ≡ ms ++ m ∷ [] → All IsFree ms → m.stage ≡ Free → m.plan.wanted ≡ 0 → m.buffer ≡ empty_at (config_of m.caller).writes 1 → All IsFree ns
+push-free : (ms ns : List LoopingCaller) (m : LoopingCaller) → ns ≡ ms ++ m ∷ [] → All IsFree ms → m.stage ≡ Free → m.plan.wanted ≡ 0 → m.buffer ≡ empty_at (config_of m.caller).writes 1 (config_of m.caller).marks → All IsFree ns
 push-free ms ns m is all stage wanted buffer = subst (All IsFree) (sym is) (All-push IsFree ms m all (record { stage = stage; wanted = wanted; buffer = buffer }))
 
 pub loop-caller-preserved : goal.loop-caller-preserved

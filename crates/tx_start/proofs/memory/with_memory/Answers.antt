@@ -65,7 +65,7 @@ returns-clause-counted g c =
     let told = subst (AllTold e 0) parted.descs h.told in
     let installs = h.installs ∙ ap (map (λ (d : Handle g.row.K.Denot). installs_of d.view)) parted.descs in
     let one = all-counted (g.K.MemRule.good stm.rule) stm c.args.alg (g.J.Job.postcondition c.args.job.now stm.rule stm.config.words) c.in_ok-stm.descs.items
-    c.in_ok-left.left.items e c.in_ok-stm.ensures.ready c.in_ok-stm.ensures.new c.in_ok-left.ensures.count c.in_ok-left.ensures.done told installs in
+    c.in_ok-left.left.items e c.in_ok-stm.ensures.ready c.in_ok-stm.ensures.new c.in_ok-left.ensures.count (c.in_ok-stm.ensures.count ∙ sym (ap (λ (k : Config). k.callers) of.0)) c.in_ok-left.ensures.done told installs in
     let two = subst (AllCounted (g.K.MemRule.good stm.rule) stm.config c.args.alg e) (sym parted.tallies) one in
     let three = subst (λ (k : Config). AllCounted (g.K.MemRule.good stm.rule) k c.args.alg e c.part-descs.result.2.items) of.0 two in
     subst (λ r. AllCounted (g.K.MemRule.good r) c.args.config c.args.alg e c.part-descs.result.2.items) of.1 three

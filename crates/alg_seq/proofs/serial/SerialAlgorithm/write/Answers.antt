@@ -74,7 +74,7 @@ returns-in-Ok-clause-write g c =
     (ap (λ (y : View). y.gate.algorithm) t.2
     ∙ (ap (λ (q : GateView). q.algorithm) c.in-Ok.ensures.keeps.may.gate
     ∙ (subst (λ (h : Handle g.row.K.Denot). (known h).alg ≡ Serial) (sym c.desc.view_is) c.requires.algorithm))) c.in-Ok.ensures.keeps.is
-    c.in-Ok.ensures.keeps.undo_len c.in-Ok.ensures.keeps.marks))
+    c.in-Ok.ensures.keeps.undo_len c.in-Ok.ensures.keeps.marks c.in-Ok.ensures.keeps.marks_limit))
     (subst (λ (y : View).
     HasWritten (g.K.MemRule.good c.args.stm.now.rule) c.args.stm.now.config c.desc.inside.number c.args.a c.args.x Done
     (known_of c.desc.inside.seat.me.0.view o) (known_of y o)) (sym t.2)

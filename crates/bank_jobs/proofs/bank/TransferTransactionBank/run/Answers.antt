@@ -14,7 +14,7 @@ moved-keeps m a b v w low high apart long same was =
 pub overflow_add-payee : goal.overflow_add-payee
 overflow_add-payee g c =
     known c.requires.good c.requires.fresh c.in_ok-payer.ensures.found
-    (λ m s ex. let enough = c.if-payer-self.false in grind (sum_steps, ex.0, ex.1.0, s, c.requires.precondition))
+    (λ m s small ex. let enough = c.if-payer-self.false in grind (sum_steps, ex.0, ex.1.0, s, c.requires.precondition))
 
 pub returns-clause-postcondition : goal.returns-clause-postcondition
 returns-clause-postcondition g c =

@@ -14,7 +14,7 @@ handed-keeps limiter m client tokens given handed counted long low fits is total
 
 pub overflow_add-handed : goal.overflow_add-handed
 overflow_add-handed g c =
-    known c.requires.good c.requires.fresh c.in_ok-found.ensures.found (λ m s ex.
+    known c.requires.good c.requires.fresh c.in_ok-found.ensures.found (λ m s small ex.
     let long = s.1 in
     let room = c.granted-given.ensures.within.1 in
     grind (sum_steps, ex.1.0, ex.1.1.0, s.0.1, c.requires.precondition))

@@ -6,7 +6,7 @@ use Rattle.hotel_jobs.proofs.hotel.HandKeyTransactionHotel.run.Goals as goal
 pub overflow_add-out : goal.overflow_add-out
 overflow_add-out g c =
     known c.requires.good c.requires.fresh c.in_ok-guest.ensures.found
-    (λ m s ex. let few = few-keys m (s.1 ∙ c.requires.precondition.0) s.0 in omega (arith, ex.1.1.0))
+    (λ m s small ex. let few = few-keys m (s.1 ∙ c.requires.precondition.0) s.0 in omega (arith, ex.1.1.0))
 
 pub returns-clause-kept : goal.returns-clause-kept
 returns-clause-kept g c =

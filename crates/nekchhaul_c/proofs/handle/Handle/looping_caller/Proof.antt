@@ -75,7 +75,8 @@ looping_caller_spec 𝓤 𝓛 𝓜 𝓡 wired =
     enter ! _ _ _ _ _ $ alloc_all ! (λ l. pass_all ! refl ((tt, tt), tt) $
     fsplit3 ! $ move ! (1 ∷ 2 ∷ 3 ∷ []) $ opens ! tt R {h = h} rb ro (λ us. move ! (1 ∷ []) $ peeks ! R _ (shows 𝓛 R) h us (λ is. fsplit ! $ move ! (1 ∷ []) $
     some_owned ! T h.tag h.at h.inside held (λ alloc b o x one at inside. fsplit ! $
-    -- [the caller; the right to free its block; the fields; the cell of the two words; the open borrow, in three entries]
+    -- [the caller; the right to free its block; the fields; the cell of the two words; the open borrow, in three
+    -- entries]
     let told = lowers.val_is h us is ∙ ap (λ (p : Ptr). word h.tag p ∷ []) at in let Cell = λ (ws : List Val). ‵ (cell_at full_share R.mir ws rb ro) in
     rewrite ! 3 Cell told refl $ first ! $ blocks ! $
     sets ! (of_opd ! (load ! (through ! refl (fld ! refl (stop !))) (look_in ! 3 (sub ! 1 refl (whole !))))) refl (tt, tt) $

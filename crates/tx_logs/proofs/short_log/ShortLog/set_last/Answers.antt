@@ -27,4 +27,4 @@ returns c =
     let count : c.count-last.result ≡ length xs = c.count-last.ensures.count ∙ ap length seen in
     let here : c.item-a.result.0 ≡ address_of xs last = ap (λ (p : ℕ × ℕ). p.0) c.item-a.ensures ∙ ap (λ ys. address_of ys last) seen in
     let put : set xs last (c.item-a.result.0, v) ≡ with_last v xs = ap (λ (a : ℕ). set xs last (a, v)) here ∙ ap (λ (k : ℕ). set xs (k - 1) (address_of xs (k - 1), v)) count in
-    ap (λ (ys : List (ℕ × ℕ)). record { items = ys; len = c.self.inside.len; generation = c.self.inside.generation; marks = [] }) put ∙ ap (λ (l : LogState). record l { items = with_last v l.items }) c.self.view_is
+    ap (λ (ys : List (ℕ × ℕ)). record { items = ys; len = c.self.inside.len; generation = c.self.inside.generation; marks = []; marks_limit = 0 }) put ∙ ap (λ (l : LogState). record l { items = with_last v l.items }) c.self.view_is

@@ -6,4 +6,4 @@ use Rattle.tx_logs.proofs.write_log.WriteLog.depth.Goals as goal
 pub returns-clause-count : goal.returns-clause-count
 returns-clause-count c =
     let i = c.self.invariant in
-    sym (length-marks c.self.inside.marks.items c.self.inside.depth c.self.inside.log.items (omega (arith, i.0, i.1))) ∙ ap (λ (l : LogState). length l.marks) c.self.view_is
+    sym (length-marks c.self.inside.marks.items c.self.inside.depth c.self.inside.log.items (omega (arith, i.0))) ∙ ap (λ (l : LogState). length l.marks) c.self.view_is

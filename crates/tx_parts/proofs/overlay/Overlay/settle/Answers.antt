@@ -17,6 +17,7 @@ invariant_of-self g c =
       knew = λ e. not-crowded s.room.now.len s.stopped (c.self.invariant.goes e).1 going;
       seen = λ e. c.in-Ok.ensures.frame.explained;
       within = subst (λ (n : ℕ). Within n (firsts s.room.now.items)) (sym c.write_through.ensures.frame.words) c.self.invariant.within;
+      deep = c.self.invariant.deep;
     }
 
 pub invariant_of-self-in-Err : goal.invariant_of-self-in-Err
@@ -31,4 +32,5 @@ invariant_of-self-in-Err g c =
       knew = λ e. not-crowded s.room.now.len s.stopped (c.self.invariant.goes e).1 going;
       seen = λ e. absurd (no-stop (Some c.in-Err.stop) c.in-Err.stop refl e);
       within = subst (λ (n : ℕ). Within n (firsts s.room.now.items)) (sym c.write_through.ensures.frame.words) c.self.invariant.within;
+      deep = c.self.invariant.deep;
     }

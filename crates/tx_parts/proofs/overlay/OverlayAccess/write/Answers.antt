@@ -1,5 +1,6 @@
-use Rattle.std.proofs.Common.{ℕ, ◌≡◌, ◌<◌, sym, ap, ◌∙◌, subst, rules}
+use Rattle.std.proofs.Common.{ℕ, ◌≡◌, ◌<◌, ◌≤◌, sym, ap, ◌∙◌, subst, rules}
 use Rattle.std.specs.Prelude.{None}
+use Rattle.stm_model.specs.declared.config.TheConstants.{MOST_MARKS}
 use Rattle.stm_model.specs.Logs.{Writes}
 use Rattle.tx_logs.specs.LogStates.{LogState, firsts}
 use Rattle.tx_parts.specs.Laying.{over, Top, IsFull, Overflows, Within}
@@ -21,6 +22,7 @@ invariant_of-self g c =
       knew = i.knew;
       seen = i.seen;
       within = subst (λ (l : LogState). Within words (firsts l.items)) (sym is) (within-put words c.args.a c.args.v s.room.now.items low i.within);
+      deep = subst (λ (l : LogState). MOST_MARKS ≤ l.marks_limit) (sym is) i.deep;
     }
 
 pub invariant_of-self-in-Full : goal.invariant_of-self-in-Full
@@ -39,6 +41,7 @@ invariant_of-self-in-Full g c =
       knew = λ e. i.seen going;
       seen = search rules;
       within = search rules;
+      deep = search rules;
     }
 
 pub returns-in-Done-clause-value : goal.returns-in-Done-clause-value

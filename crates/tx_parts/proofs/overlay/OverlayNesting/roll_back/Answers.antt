@@ -1,5 +1,6 @@
-use Rattle.std.proofs.Common.{ℕ, ◌≡◌, length, sym, ap, ◌∙◌, subst}
+use Rattle.std.proofs.Common.{ℕ, ◌≡◌, ◌≤◌, length, sym, ap, ◌∙◌, subst}
 use Rattle.std.specs.Prelude.{None}
+use Rattle.stm_model.specs.declared.config.TheConstants.{MOST_MARKS}
 use Rattle.tx_logs.specs.LogStates.{LogState, firsts}
 use Rattle.tx_parts.specs.Laying.{IsFull, Top, Within}
 use Rattle.tx_parts.specs.LayingLaws.{within-take, not-crowded}
@@ -21,4 +22,5 @@ invariant_of-self g c =
       knew = i.knew;
       seen = i.seen;
       within = subst (Within words) (sym left) (within-take words (length r.items) (firsts s.room.now.items) i.within);
+      deep = subst (λ (n : ℕ). MOST_MARKS ≤ n) (sym (ap (λ (l : LogState). l.marks_limit) c.release.ensures ∙ ap (λ (l : LogState). l.marks_limit) c.roll_to.ensures.rolled)) i.deep;
     }
