@@ -9,7 +9,7 @@ use Rattle.rule_base.specs.Own.{Own}
 use Rattle.stm_rule.specs.declared.local.Local.{Local}
 use Rattle.stm_rule.specs.Attempts.{IsInside, Stands}
 use Rattle.tx_answers.specs.CallerState.{known_of, granted_under}
-use Rattle.stm_gate.specs.Told.{running-by}
+use Rattle.stm_gate.proofs.Told.{running-by}
 use Rattle.alg_orec.specs.Committing.{CanCommit}
 
 module _ (good : List ℕ → Type 0) (c : Config) (n : ℕ) (l : Local) (v : View) (i : IsInside good c n l v) (lazy : v.gate.algorithm ≡ OrecLazy) where

@@ -9,11 +9,11 @@ use Rattle.stm_rule.specs.declared.local.Local.{Local}
 use Rattle.stm_rule.specs.declared.stm.Stm.{Stm}
 use Rattle.stm_rule.specs.Attempts.{IsInside, own_of}
 use Rattle.stm_rule.specs.Callers.{Handle}
-use Rattle.stm_rule.specs.StandLemmas.{inside-of}
+use Rattle.stm_rule.proofs.StandLemmas.{inside-of}
 use Rattle.tx_answers.specs.CallerState.{CallerState, is_irrevocable}
 use Rattle.stm_gate.specs.Knowing.{known}
-use Rattle.stm_gate.specs.Opening.{Opened}
-use Rattle.stm_gate.specs.Standing.{in-of}
+use Rattle.stm_gate.proofs.Opening.{Opened}
+use Rattle.stm_gate.proofs.Standing.{in-of}
 use Rattle.alg_orec.proofs.Eager.EagerProving as proving
 
 -- a promoted attempt of OrecEager

@@ -20,7 +20,7 @@ use Rattle.stm_rule.specs.declared.local.Local.{Local}
 use Rattle.stm_rule.specs.declared.stm.Stm.{Stm}
 use Rattle.stm_rule.specs.Attempts.{Keeps, IsInside, IsFenceOf, HasRoom, Stands, ended, own_of}
 use Rattle.stm_rule.specs.Callers.{Handle}
-use Rattle.stm_rule.specs.StandLemmas.{inside-of}
+use Rattle.stm_rule.proofs.StandLemmas.{inside-of}
 use Rattle.steps_orec.specs.RecordFindings.{Moves}
 use Rattle.tx_logs.specs.LogStates.{LogState}
 use Rattle.tx_answers.specs.declared.answers.Irrev.TheVariants as irrevs
@@ -31,10 +31,10 @@ use Rattle.stm_gate.specs.Granting.{IsAlone, Grants, irrevs-after, irrevocable-a
 use Rattle.stm_gate.specs.Knowing.{known, number}
 use Rattle.stm_gate.specs.LeavingLaws.{IsUnmade, found-later, finds-full}
 use Rattle.stm_gate.specs.Opacity.{opaque-at, later-seen}
-use Rattle.stm_gate.specs.Opening.{Opened, is-known, of-seen}
+use Rattle.stm_gate.proofs.Opening.{Opened, is-known, of-seen}
 use Rattle.stm_gate.specs.Promoting.{SparesRecords}
-use Rattle.stm_gate.specs.Standing.{in-of}
-use Rattle.stm_gate.specs.Told.{stands-on}
+use Rattle.stm_gate.proofs.Standing.{in-of}
+use Rattle.stm_gate.proofs.Told.{stands-on}
 use Rattle.alg_orec.specs.Granting.{promoted_at, RefusesGrant, IsNotPromoted}
 use Rattle.alg_orec.specs.Validating.{load_of}
 use Rattle.alg_orec.proofs.Eager.EagerProving.{conflicts-later}

@@ -26,7 +26,7 @@ use Rattle.rule_orec.specs.OrecSteps.{HasOpen, orec_sample, CanOrecSample, orec_
 use Rattle.stm_gate.specs.Logging.{item-touched}
 use Rattle.stm_rule.specs.Alone.{left_at}
 use Rattle.stm_rule.specs.declared.local.Local.{Local}
-use Rattle.steps_orec.specs.OthersLaws.{left-found, owned-others, newer-others, moved-others}
+use Rattle.steps_orec.proofs.OthersLaws.{left-found, owned-others, newer-others, moved-others}
 use Rattle.steps_orec.specs.RecordFindings.{FindsRecord, FindsAgain}
 use Rattle.tx_answers.specs.Causes.{Conflicts, IsStaleAt, has_item, is_some}
 use Rattle.tx_answers.specs.Causes.Asked.{ForWord}

@@ -27,9 +27,9 @@ use Rattle.stm_gate.specs.Logging.{item-touched, put-new}
 use Rattle.stm_rule.specs.Alone.{left_at}
 use Rattle.stm_rule.specs.declared.local.Local.{Local}
 use Rattle.stm_rule.specs.RecordsKept.{cells_of}
-use Rattle.steps_orec.specs.OthersLaws.{left-found, owned-others, moved-others}
+use Rattle.steps_orec.proofs.OthersLaws.{left-found, owned-others, moved-others}
 use Rattle.steps_orec.specs.RecordFindings.{FindsRecord}
-use Rattle.stm_gate.specs.Cells.{cells-at}
+use Rattle.stm_gate.proofs.Cells.{cells-at}
 use Rattle.alg_orec.specs.Validating.{load_of}
 use Rattle.alg_orec.specs.Locking.{holding_still, lock_item, CanLock, CanLockAll, WasFree, HasLocked, IsRefused, LocksOne, Locks, StopsLocking}
 

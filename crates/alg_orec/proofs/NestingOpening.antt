@@ -12,7 +12,7 @@ use Rattle.stm_rule.specs.declared.local.Local.{Local}
 use Rattle.stm_rule.specs.declared.stm.Stm.{Stm}
 use Rattle.stm_rule.specs.Attempts.{Keeps, Stands, good_by, own_of, IsInside}
 use Rattle.stm_rule.specs.Callers.{Handle}
-use Rattle.stm_rule.specs.StandLemmas.{inside-of}
+use Rattle.stm_rule.proofs.StandLemmas.{inside-of}
 use Rattle.tx_answers.specs.declared.answers.Roll.TheVariants.{Rolled}
 use Rattle.tx_answers.specs.Answers.{Rolls, kept_rolled}
 use Rattle.tx_answers.specs.CallerState.{CallerState, IsRunning, known_of, written_under, is_irrevocable, is_in, is_closing}
@@ -20,9 +20,9 @@ use Rattle.tx_answers.specs.CallerStateLaws.{grows-same}
 use Rattle.tx_logs.specs.LogStates.{LogState, rolled}
 use Rattle.stm_gate.specs.Knowing.{known}
 use Rattle.stm_gate.specs.Opacity.{opaque-inside}
-use Rattle.stm_gate.specs.Opening.{Opened}
-use Rattle.stm_gate.specs.Standing.{in-of}
-use Rattle.stm_gate.specs.Told.{stands-on}
+use Rattle.stm_gate.proofs.Opening.{Opened}
+use Rattle.stm_gate.proofs.Standing.{in-of}
+use Rattle.stm_gate.proofs.Told.{stands-on}
 use Rattle.alg_orec.specs.EagerEnding.{restoring}
 use Rattle.alg_orec.proofs.GrantOpening.{granted-known}
 

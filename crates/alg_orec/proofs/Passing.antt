@@ -24,7 +24,7 @@ use Rattle.rule_orec.specs.OrecSteps.{HasOpen, passes, orec_pass}
 use Rattle.stm_gate.specs.Logging.{item-touched}
 use Rattle.stm_rule.specs.declared.local.Local.{Local}
 use Rattle.stm_rule.specs.Findings.{OrecFails}
-use Rattle.steps_orec.specs.OthersLaws.{owned-others, newer-others}
+use Rattle.steps_orec.proofs.OthersLaws.{owned-others, newer-others}
 use Rattle.steps_orec.specs.RecordFindings.{FindsRecord, FindsRead}
 use Rattle.steps_orec.specs.Validating.{is_vouched}
 use Rattle.alg_orec.proofs.ReadItems.{touched-at}

@@ -26,7 +26,7 @@ use Rattle.rule_base.specs.Ranks.{home_of}
 use Rattle.rule_base.specs.StepKinds.{Tells, view_after}
 use Rattle.rule_orec.specs.OrecReading.{no_sample, no_check}
 use Rattle.rule_orec.specs.OrecSteps.{passes, direct_attempt, direct_owned, orec_clock, orec_grant, CanOrecGrant, orec_grant_all, CanOrecGrantAll, HasStores}
-use Rattle.stm_gate.specs.Peeling.{has-touched}
+use Rattle.stm_gate.proofs.Peeling.{has-touched}
 use Rattle.stm_rule.specs.declared.local.Local.{Local}
 use Rattle.stm_rule.specs.Attempts.{own_of}
 use Rattle.stm_rule.specs.Findings.{FindsWithin, OrecFails}

@@ -11,8 +11,8 @@ use Rattle.stm_rule.specs.Attempts.{HasRoom, IsInside, Stands, ended, good_by, o
 use Rattle.stm_rule.specs.Callers.{Handle, IsTied}
 use Rattle.tx_answers.specs.CallerState.{CallerState, known_of}
 use Rattle.stm_gate.specs.Knowing.{known, number}
-use Rattle.stm_gate.specs.Opening.{Opened, is-known, of-view, shows, stands-after}
-use Rattle.stm_gate.specs.Told.{stands-on}
+use Rattle.stm_gate.proofs.Opening.{Opened, is-known, of-view, shows, stands-after}
+use Rattle.stm_gate.proofs.Told.{stands-on}
 use Rattle.tx_logs.specs.Probing.{IsPlace}
 use Rattle.alg_orec.specs.Loading.{HasPlace}
 use Rattle.alg_orec.proofs.RecordReads.{IsReading, written-here}

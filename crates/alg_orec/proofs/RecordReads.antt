@@ -46,7 +46,7 @@ use Rattle.stm_gate.specs.LeavingLaws.{IsUnmade, quits-left, step_trace-left}
 use Rattle.stm_gate.specs.Logging.{put-new}
 use Rattle.stm_gate.specs.Opacity.{opaque-at, opaque-inside, later-seen}
 use Rattle.stm_gate.specs.Starts.{CanBegin, IsFresh, StartsAt}
-use Rattle.stm_gate.specs.KeptLaws.{kept-same}
+use Rattle.stm_gate.proofs.KeptLaws.{kept-same}
 use Rattle.alg_orec.proofs.Proving.{conflicts-by-records}
 use Rattle.alg_orec.specs.Loading.{moved, MayMove, MovesOwed, ShowsNewer, RefusesRead, HasLoaded}
 use Rattle.alg_orec.specs.Validating.{load_of}

@@ -16,7 +16,7 @@ use Rattle.rule_base.specs.StepKinds.{view_after}
 use Rattle.rule_base.specs.World.{World}
 use Rattle.rule_orec.specs.OrecSteps.{orec_release}
 use Rattle.stm_gate.specs.Logging.{item-touched}
-use Rattle.stm_gate.specs.Peeling.{drop-all, peeled, inside-without, no-items}
+use Rattle.stm_gate.proofs.Peeling.{drop-all, peeled, inside-without, no-items}
 use Rattle.stm_rule.specs.Counting.{TakesAtMost}
 use Rattle.stm_rule.specs.declared.local.Local.{Local}
 use Rattle.alg_orec.specs.Locking.{holding_still, ReleasesAll}

@@ -25,11 +25,11 @@ use Rattle.tx_answers.specs.Answers.{Commits, StartMoves}
 use Rattle.tx_answers.specs.Causes.Asked.{ToCommit}
 use Rattle.tx_answers.specs.CallerState.{known_of, written_under, is_in, is_closing, wrote}
 use Rattle.tx_answers.specs.CallerStateLaws.{grows-same}
-use Rattle.stm_gate.specs.KeptLaws.{kept-same}
+use Rattle.stm_gate.proofs.KeptLaws.{kept-same}
 use Rattle.stm_gate.specs.Leaving.{left}
 use Rattle.stm_gate.specs.LeavingLaws.{unmade-refl, ended-left}
 use Rattle.stm_gate.specs.Opacity.{opaque-inside}
-use Rattle.stm_gate.specs.Told.{stands-on}
+use Rattle.stm_gate.proofs.Told.{stands-on}
 use Rattle.alg_ring.specs.Calls.{HasAttempt, HasWrites, StandsTold, TookTurn}
 use Rattle.alg_ring.proofs.Running as attempt
 

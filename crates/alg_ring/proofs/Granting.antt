@@ -37,15 +37,15 @@ use Rattle.tx_answers.specs.Causes.Asked.{ToPromote}
 use Rattle.tx_answers.specs.Evidence.{Found}
 use Rattle.tx_answers.specs.CallerState.{CallerState, Grows, IsRunning, known_of, fenced_of, granted_under, written_under, is_irrevocable, is_in, is_closing, wrote, locked_under}
 use Rattle.tx_answers.specs.CallerStateLaws.{grows-same, grows-trans}
-use Rattle.stm_gate.specs.KeptLaws.{kept-same}
+use Rattle.stm_gate.proofs.KeptLaws.{kept-same}
 use Rattle.stm_gate.specs.Granting.{IsAlone, Grants}
 use Rattle.stm_gate.specs.Knowing.{known, number}
 use Rattle.stm_gate.specs.Leaving.{CanLeave, left, last_steps}
 use Rattle.stm_gate.specs.LeavingLaws.{quits-left, finds-full, found-left, found-later, found-earlier}
 use Rattle.stm_gate.specs.Opacity.{opaque-at}
-use Rattle.stm_gate.specs.Told.{stands-on}
+use Rattle.stm_gate.proofs.Told.{stands-on}
 use Rattle.alg_ring.specs.Calls.{HasAttempt, StandsTold, Stores}
-use Rattle.alg_ring.specs.Opening.{Opened, has-attempt}
+use Rattle.alg_ring.proofs.Opening.{Opened, has-attempt}
 use Rattle.alg_ring.specs.Checking.{CanCheckToGrant, ChecksToGrant, Fails, passed_at}
 use Rattle.alg_ring.proofs.Checked.{passes-grows}
 use Rattle.alg_ring.proofs.Entering.{some-cells}

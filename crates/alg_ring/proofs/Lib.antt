@@ -18,3 +18,4 @@ pub mod Finishing
 pub mod Committing
 pub mod Granting
 pub mod NestingLaws
+pub mod Opening

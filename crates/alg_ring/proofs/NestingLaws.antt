@@ -22,12 +22,12 @@ use Rattle.tx_answers.specs.CallerState.{known_of, granted_under, kept_under, wr
 use Rattle.tx_answers.specs.CallerStateLaws.{grows-same}
 use Rattle.tx_logs.specs.Filters.{address_word, filter_word}
 use Rattle.tx_logs.specs.LogStates.{LogState, rolled}
-use Rattle.stm_gate.specs.MarkLaws.{marks-take}
+use Rattle.stm_gate.proofs.MarkLaws.{marks-take}
 use Rattle.stm_gate.specs.Opacity.{opaque-inside}
 use Rattle.alg_ring.specs.Filtering.{IsFilterOf}
 use Rattle.alg_ring.proofs.Beginning.{no-word}
 use Rattle.alg_ring.proofs.FilterWords.{addresses, or-swap, slot-cells}
-use Rattle.stm_gate.specs.Cells.{items-cells}
+use Rattle.stm_gate.proofs.Cells.{items-cells}
 
 -- THE FILTER of a log, one item after the other
 filter-last : (ws : List (ℕ × ℕ)) (w : ℕ × ℕ) (i : ℕ) → filter_word (addresses (ws ++ w ∷ [])) i ≡ bit_or (address_word w.0 i) (filter_word (addresses ws) i)

@@ -12,11 +12,11 @@ use Rattle.stm_rule.specs.declared.local.Local.{Local}
 use Rattle.stm_rule.specs.Attempts.{IsInside, own_of}
 use Rattle.stm_rule.specs.RecordsKept.{cells_of}
 use Rattle.stm_rule.specs.RingKept.{IsRing}
-use Rattle.stm_rule.specs.StandLemmas.{inside-of}
+use Rattle.stm_rule.proofs.StandLemmas.{inside-of}
 use Rattle.tx_answers.specs.CallerState.{known_of, granted_under, written_under, is_irrevocable, wrote}
-use Rattle.stm_gate.specs.Standing.{in-of}
+use Rattle.stm_gate.proofs.Standing.{in-of}
 use Rattle.alg_ring.specs.Calls.{HasAttempt}
-use Rattle.stm_gate.specs.Cells.{items-cells}
+use Rattle.stm_gate.proofs.Cells.{items-cells}
 use Rattle.alg_ring.proofs.Ending as ending
 
 module _ (good : List ℕ → Type 0) (c : Config) (n : ℕ) (l : Local) (v : View) (a : HasAttempt good c n l v) where

@@ -27,13 +27,13 @@ use Rattle.tx_answers.specs.Causes.{has_item, is_some, reads_full, writes_full}
 use Rattle.tx_answers.specs.Causes.Asked.{ForWord}
 use Rattle.tx_answers.specs.CallerState.{known_of, written_under, is_irrevocable, is_in, is_closing, kept_under}
 use Rattle.tx_answers.specs.CallerStateLaws.{grows-same}
-use Rattle.stm_gate.specs.KeptLaws.{kept-put, member-item, length-addresses}
+use Rattle.stm_gate.proofs.KeptLaws.{kept-put, member-item, length-addresses}
 use Rattle.stm_gate.specs.InnerLaws.{goes-inner}
 use Rattle.stm_gate.specs.Leaving.{left}
 use Rattle.stm_gate.specs.LeavingLaws.{unmade-refl, quits-left}
 use Rattle.stm_gate.specs.Opacity.{opaque-inside}
-use Rattle.stm_gate.specs.Cells.{items-cells}
-use Rattle.stm_gate.specs.CellLogs.{once-put, inside-put, small-put, apart-put, some-put}
+use Rattle.stm_gate.proofs.Cells.{items-cells}
+use Rattle.stm_gate.proofs.CellLogs.{once-put, inside-put, small-put, apart-put, some-put}
 use Rattle.alg_ring.proofs.Ending.{revocable}
 use Rattle.alg_ring.proofs.FilterWords.{slot-put}
 

@@ -1,4 +1,3 @@
 pub mod Checking
 pub mod Calls
-pub mod Opening
 pub mod Filtering

@@ -29,7 +29,7 @@ use Rattle.tx_answers.specs.Causes.{has_item, is_some, writes_full, FindsFull}
 use Rattle.tx_answers.specs.Evidence.{Found}
 use Rattle.tx_answers.specs.CallerState.{known_of, granted_under, kept_under, written_under, is_irrevocable, wrote}
 use Rattle.stm_gate.specs.InnerLaws.{never-full}
-use Rattle.stm_gate.specs.KeptLaws.{member-item, length-addresses, kept-same, kept-irrevocable, kept-plain, cells-longer}
+use Rattle.stm_gate.proofs.KeptLaws.{member-item, length-addresses, kept-same, kept-irrevocable, kept-plain, cells-longer}
 use Rattle.stm_gate.specs.LeavingLaws.{IsUnmade, quits-left, ended-left, step_trace-left, found-later, finds-full}
 use Rattle.stm_gate.specs.Opacity.{opaque-inside}
 use Rattle.alg_seq.specs.Storing.{GivesUp, IsClocked, HasLogged, HasPlace, MayStore}

@@ -35,7 +35,7 @@ use Rattle.tx_answers.specs.Causes.{Asked, has_item, reads_full, writes_full}
 use Rattle.tx_answers.specs.CallerState.{CallerState, known_of, fenced_of, granted_under, locked_under, written_under, kept_under, is_in, is_closing, is_irrevocable, wrote}
 use Rattle.tx_answers.specs.CallerStateLaws.{grows-same}
 use Rattle.stm_gate.specs.InnerLaws.{start-stays}
-use Rattle.stm_gate.specs.KeptLaws.{kept-same}
+use Rattle.stm_gate.proofs.KeptLaws.{kept-same}
 use Rattle.stm_gate.specs.Leaving.{left}
 use Rattle.stm_gate.specs.LeavingLaws.{IsUnmade, IsMade, ended-left, commits-left}
 use Rattle.stm_gate.specs.Logging.{reads-logged, inside-logged, wrote-some}

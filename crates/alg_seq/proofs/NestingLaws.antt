@@ -19,7 +19,7 @@ use Rattle.tx_answers.specs.CallerState.{known_of, kept_under, written_under, is
 use Rattle.tx_answers.specs.CallerStateLaws.{grows-same}
 use Rattle.tx_logs.specs.LogStates.{LogState, rolled}
 use Rattle.stm_gate.specs.Opacity.{opaque-inside}
-use Rattle.stm_gate.specs.Irrevocable.{irrevocable-of}
+use Rattle.stm_gate.proofs.Irrevocable.{irrevocable-of}
 use Rattle.alg_seq.specs.Nesting.{is_sequential}
 use Rattle.alg_seq.proofs.Undoing.{taken}
 

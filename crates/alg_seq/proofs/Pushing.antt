@@ -19,9 +19,9 @@ use Rattle.stm_rule.specs.declared.local.Local.{Local}
 use Rattle.stm_rule.specs.Attempts.{IsLocked}
 use Rattle.tx_answers.specs.Causes.{has_item, is_some}
 use Rattle.stm_gate.specs.Logging.{put-new}
-use Rattle.stm_gate.specs.KeptLaws.{addresses-put, cells-shorter, member-touched}
+use Rattle.stm_gate.proofs.KeptLaws.{addresses-put, cells-shorter, member-touched}
 use Rattle.alg_seq.specs.Storing.{HasLogged, HasPlace}
-use Rattle.stm_gate.specs.Peeling.{has-touched}
+use Rattle.stm_gate.proofs.Peeling.{has-touched}
 
 keep-new : (a x : ℕ) (ws : List (ℕ × ℕ)) → item_at a ws ≡ None → keep a x ws ≡ ws ++ (a, x) ∷ []
 keep-new a x [] e = refl

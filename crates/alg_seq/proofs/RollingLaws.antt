@@ -19,8 +19,8 @@ use Rattle.tx_answers.specs.Answers.{IsRolled}
 use Rattle.tx_answers.specs.Causes.{has_item}
 use Rattle.tx_answers.specs.CallerState.{known_of}
 use Rattle.tx_logs.specs.LogStates.{LogState, rolled, firsts}
-use Rattle.stm_gate.specs.Peeling.{has-touched, no-items}
-use Rattle.stm_gate.specs.RollItems.{has-by, has-take, first-addresses, first-fewer}
+use Rattle.stm_gate.proofs.Peeling.{has-touched, no-items}
+use Rattle.stm_gate.proofs.RollItems.{has-by, has-take, first-addresses, first-fewer}
 use Rattle.alg_seq.specs.Nesting.{is_sequential, HasOlds, IsStoredBack, CanStoreAgain, IsStoredAgain}
 use Rattle.alg_seq.proofs.Keeping.{irrevocable-by}
 use Rattle.alg_seq.proofs.Locked.{locked, keeps-by, or-last, written-plain}

@@ -46,7 +46,7 @@ use Rattle.tx_answers.specs.Causes.Asked.{ForWord}
 use Rattle.tx_answers.specs.CallerState.{known_of, kept_under, granted_under, locked_under, written_under, is_irrevocable, wrote, is_in, is_closing}
 use Rattle.tx_answers.specs.CallerStateLaws.{grows-same}
 use Rattle.stm_gate.specs.InnerLaws.{goes-inner, start-stays, no-log-full}
-use Rattle.stm_gate.specs.KeptLaws.{kept-same, kept-unlogged}
+use Rattle.stm_gate.proofs.KeptLaws.{kept-same, kept-unlogged}
 use Rattle.stm_gate.specs.Leaving.{CanLeave, left}
 use Rattle.stm_gate.specs.LeavingLaws.{IsUnmade, unmade-refl, ended-left, quits-left, commits-left, found-left, finds-full}
 use Rattle.stm_gate.specs.Logging.{reads-logged, inside-logged, wrote-some}

@@ -3,6 +3,7 @@ use Rattle.std.proofs.Common.{ℕ, ◌≡◌, ◌+◌, ◌-◌, ◌*◌, ◌/◌
 use Rattle.std.specs.Prelude.{if◌then◌else◌, ltb, leb, ◌==◌, length, Option, Some, None, codes, bytes_eq}
 use Rattle.std.specs.Fmt.{decimal}
 use Rattle.stm_model.specs.Algorithms.{alg_name}
+use Rattle.stm_model.specs.declared.alg.Alg.{Alg}
 use Rattle.draw_core.specs.declared.part.Lines.{Lines}
 use Rattle.draw_core.specs.declared.picture.Leaf.{Leaf}
 use Rattle.draw_core.specs.declared.row.Row.{Row}
@@ -17,7 +18,7 @@ use Rattle.draw_core.specs.Kinds.{class_of, is_finish}
 use Rattle.draw_core.specs.Markup.{Words, Attributes, Value, reads_on, IsMarkup}
 use Rattle.draw_core.specs.Shown.{shown_words, title_bytes, words_bytes}
 use Rattle.draw_core.specs.Shapes.{Box, box_of, boxes_of, shape_at}
-use Rattle.draw_core.specs.Texts.{place_bytes, size_bytes, rect_bytes, open_bytes, close_bytes, left, top, tall, edge, shape_bytes, part_bytes, layer_bytes, squeezed, head_at, heads_bytes, lane_bytes, clock_bytes, deep, box_rect, box_bytes, boxes_bytes, said_on, turn_bytes, number_bytes, lines_bytes, page_width, page_height, style_bytes, legend_bytes, view_bytes, page_bytes, naming_bytes, titled_bytes, name_bytes, axis_bytes, head_bytes, foot_bytes, drawing_bytes, svg_of, sheet_of}
+use Rattle.draw_core.specs.Texts.{place_bytes, size_bytes, rect_bytes, open_bytes, close_bytes, left, top, tall, edge, shape_bytes, closed_bytes, installed_bytes, part_bytes, layer_bytes, squeezed, head_at, heads_bytes, lane_bytes, clock_bytes, deep, box_rect, label_bytes, row_bytes, box_bytes, boxes_bytes, said_on, turn_bytes, number_bytes, lines_bytes, page_width, page_height, style_bytes, legend_bytes, view_bytes, page_bytes, naming_bytes, titled_bytes, name_bytes, axis_bytes, head_bytes, foot_bytes, drawing_bytes, svg_of, sheet_of}
 use Rattle.draw_core.proofs.Marking.{all_calm, Calm, calm, calm-append, calm-decimal, calm-keeps, shown-calm, Keeps, keeps-none, keeps-append, onto, past-value, past-words}
 use Rattle.draw_core.proofs.Labelling.{alg-calm, label-calm}
 
@@ -125,10 +126,9 @@ clock-keeps row time =
     (rect-keeps (codes "tick") (codes "shape") 126 (top row + 8) 8 8 (calm (codes "tick") refl) (calm (codes "shape") refl))
     (text-holds (codes "clock") (codes "words") 120 (top row + 16) [] (words_bytes (decimal time)) (calm (codes "clock") refl) plain none-more (words-keep (decimal time) (calm-decimal time)))
 
-shape-keeps : (s : Sheet) (shape : Shape) → Keeps (shape_bytes s shape)
-unfolding shape_bytes
-shape-keeps s (Lane lane) = lane-keeps s lane
-shape-keeps s (Closed lane from more) =
+closed-keeps : (s : Sheet) (lane from more : ℕ) → Keeps (closed_bytes s lane from more)
+unfolding closed_bytes
+closed-keeps s lane from more =
     keeps-append (rect_bytes (codes "closed") (codes "shape") 130 (top from) (s.lanes * 216 + 16) (tall from more + 2))
     (open_bytes (codes "side") (codes "words") (edge s + 14) (top from + 16) []
     ++ (codes "gate closed by " ++ (decimal lane ++ close_bytes)))
@@ -136,7 +136,10 @@ shape-keeps s (Closed lane from more) =
     (text-keeps (codes "side") (codes "words") (edge s + 14) (top from + 16) [] (codes "gate closed by " ++ decimal lane)
     (calm (codes "side") refl) plain none-more
     (calm-append (codes "gate closed by ") (decimal lane) (calm (codes "gate closed by ") refl) (calm-decimal lane)))
-shape-keeps s (Installed row alg) =
+
+installed-keeps : (s : Sheet) (row : ℕ) (alg : Alg) → Keeps (installed_bytes s row alg)
+unfolding installed_bytes
+installed-keeps s row alg =
     keeps-append (rect_bytes (codes "installed") (codes "shape") 130 (top row + 23) (s.lanes * 216 + 16) 2)
     (open_bytes (codes "side") (codes "words") (edge s + 14) (top row + 28) [] ++ (alg_name alg ++ codes " from here</text>\n"))
     (rect-keeps (codes "installed") (codes "shape") 130 (top row + 23) (s.lanes * 216 + 16) 2 (calm (codes "installed") refl) (calm (codes "shape") refl))
@@ -144,6 +147,12 @@ shape-keeps s (Installed row alg) =
     (text-keeps (codes "side") (codes "words") (edge s + 14) (top row + 28) [] (alg_name alg ++ codes " from here")
     (calm (codes "side") refl) plain none-more
     (calm-append (alg_name alg) (codes " from here") (alg-calm alg) (calm (codes " from here") refl))))
+
+shape-keeps : (s : Sheet) (shape : Shape) → Keeps (shape_bytes s shape)
+unfolding shape_bytes
+shape-keeps s (Lane lane) = lane-keeps s lane
+shape-keeps s (Closed lane from more) = closed-keeps s lane from more
+shape-keeps s (Installed row alg) = installed-keeps s row alg
 shape-keeps s (Attempt lane from more kind) = rect-keeps (codes "attempt") (class_of kind) (left s lane + 4) (top from + 1) 208 (tall from more) (calm (codes "attempt") refl) (class-calm kind)
 shape-keeps s (Irrevocable lane from more) = rect-keeps (codes "sure") (codes "shape") (left s lane + 4) (top from + 1) 6 (tall from more) (calm (codes "sure") refl) (calm (codes "shape") refl)
 shape-keeps s (Clock row time) = clock-keeps row time
@@ -169,9 +178,6 @@ box-rect-keeps s row b =
     (rect-keeps (codes "box") (class_of b.kind) 134 (top row + 3) (s.lanes * 216 + 8) 18 (calm (codes "box") refl) (class-calm b.kind))
     (rect-keeps (codes "box") (class_of b.kind) (left s b.lane + 14) (top row + 3) 194 18 (calm (codes "box") refl) (class-calm b.kind))
 
-number_text : ℕ → ℕ → List ℕ
-number_text row number = open_bytes (codes "row") (codes "words") 58 (top row + 16) [] ++ (decimal number ++ close_bytes)
-
 said-by : (b : Bool) (words : List ℕ) (times : ℕ) → Calm words → Calm (if b then words else codes " idle " ++ (decimal times ++ codes " times"))
 said-by true words times c = c
 said-by false words times c =
@@ -180,21 +186,21 @@ said-by false words times c =
 said-calm : (b : Box) → Calm b.label → Calm (said_on b)
 said-calm b c = said-by (leb b.times 1) b.label b.times c
 
+label-keeps : (s : Sheet) (row : ℕ) (b : Box) → Calm b.label → Keeps (label_bytes s row b)
+unfolding label_bytes
+label-keeps s row b c =
+    text-holds (codes "label") (class_of b.kind) (left s b.lane + 19) (top row + 16) (squeezed (shown_words (said_on b))) (words_bytes (said_on b))
+    (calm (codes "label") refl) (class-calm b.kind) (squeezed-more (shown_words (said_on b))) (words-keep (said_on b) (said-calm b c))
+
+row-keeps : (row number : ℕ) → Keeps (row_bytes row number)
+unfolding row_bytes
+row-keeps row number = text-keeps (codes "row") (codes "words") 58 (top row + 16) [] (decimal number) (calm (codes "row") refl) plain none-more (calm-decimal number)
+
 box-keeps : (s : Sheet) (row : ℕ) (b : Box) → Calm b.label → Keeps (box_bytes s row b)
-unfolding box_bytes number_text
+unfolding box_bytes
 box-keeps s row b c =
-    let words : List ℕ = said_on b in
-    let number : List ℕ = number_text row b.number in
-    let calm-words : Calm words = said-calm b c in
-    record {
-      keeps = λ tags.
-          onto (Some (Words tags)) (box_rect s row b) (open_bytes (codes "label") (class_of b.kind) (left s b.lane + 19) (top row + 16)
-          (squeezed (shown_words words)) ++ (words_bytes words ++ (close_bytes ++ number))) (Some (Words tags)) ((box-rect-keeps s row b).keeps tags)
-          ∙ (onto (Some (Words tags)) (open_bytes (codes "label") (class_of b.kind) (left s b.lane + 19) (top row + 16) (squeezed (shown_words words))) (words_bytes words ++ (close_bytes ++ number)) (Some (Words (codes "text" ∷ tags)))
-          (opening-reads tags (codes "label") (class_of b.kind) (left s b.lane + 19) (top row + 16) (squeezed (shown_words words)) (calm (codes "label") refl) (class-calm b.kind) (squeezed-more (shown_words words)))
-          ∙ (onto (Some (Words (codes "text" ∷ tags))) (words_bytes words) (close_bytes ++ number) (Some (Words (codes "text" ∷ tags))) ((words-keep words calm-words).keeps (codes "text" ∷ tags))
-          ∙ (text-keeps (codes "row") (codes "words") 58 (top row + 16) [] (decimal b.number) (calm (codes "row") refl) plain none-more (calm-decimal b.number)).keeps tags));
-    }
+    keeps-append (box_rect s row b) (label_bytes s row b ++ row_bytes row b.number) (box-rect-keeps s row b)
+    (keeps-append (label_bytes s row b) (row_bytes row b.number) (label-keeps s row b c) (row-keeps row b.number))
 
 boxes-keep : (s : Sheet) (row : ℕ) (ls : List Row) → Keeps (boxes_bytes s row (boxes_of ls))
 boxes-keep s row [] = keeps-none

@@ -13,7 +13,7 @@ use Rattle.stm_script.specs.declared.op.Op.{Op}
 use Rattle.stm_script.specs.declared.op.Op.TheVariants.{Read, Write, Add, Move, Cancel, Irrev, Emit, Count, Total, ListInsert, ListRemove, ListContains, ListLength, HashInsert, HashRemove, HashContains, TreeInsert, TreeRemove, TreeContains, TreeLeast, QueuePut, QueueGet, MapPut, MapRemove, MapGet, MapSum}
 use Rattle.stm_script.specs.Operations.{op_name}
 use Rattle.stm_text.specs.Lines.{number_of}
-use Rattle.stm_text.specs.Numbers.{number_of-decimal}
+use Rattle.stm_text.proofs.Numbers.{number_of-decimal}
 use Rattle.stm_text.specs.WordLaws.{Visible, AllVisible, seen, visible-decimal}
 use Rattle.tx_answers.specs.declared.answers.Begin.TheVariants.{Begun, Closed, Held, ClockFull}
 use Rattle.tx_answers.specs.declared.answers.Cancel.TheVariants.{Cancelled, Irrevocable}

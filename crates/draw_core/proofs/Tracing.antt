@@ -8,7 +8,7 @@ use Rattle.stm_script.specs.declared.report.Report.{Report}
 use Rattle.stm_text.specs.Decimals.{StartsDigit, digits-decimal}
 use Rattle.stm_text.specs.LineLaws.{lines_of-first}
 use Rattle.stm_text.specs.Lines.{Line as TextLine, lines_of, words_of, number_of}
-use Rattle.stm_text.specs.Numbers.{number_of-decimal}
+use Rattle.stm_text.proofs.Numbers.{number_of-decimal}
 use Rattle.stm_text.specs.Reports.{report_bytes, row_lines, memory_lines, IsWord}
 use Rattle.stm_text.specs.Texts.{joined}
 use Rattle.stm_text.specs.WordLaws.{AllVisible, seen, visible-decimal, joined-lacks, words_of-joined, unlines, unlines-lines_of}

@@ -144,6 +144,22 @@ install_of (w ∷ ws) = alg_named w >>= λ alg. alone (Installed alg) ws
 abbrev pub reserve_of : List (List ℕ) → Option Said
 reserve_of ws = two_of ws >>= λ p. Some (Reserved p.0 p.1)
 
+-- a word that says all, or an operation
+abbrev pub plain_of : List ℕ → List (List ℕ) → Option Said
+plain_of w ws =
+    if bytes_eq w (codes "idle") then alone Idle ws else
+    (if bytes_eq w (codes "drop") then alone Dropped ws else
+    (if bytes_eq w (codes "reopen") then alone Reopened ws else
+    (op_named w >>= λ op. operation_of op ws)))
+
+-- a call between two attempts, but for one that begins
+abbrev pub between_of : List ℕ → List (List ℕ) → Option Said
+between_of w ws =
+    if bytes_eq w (codes "close") then close_of ws else
+    (if bytes_eq w (codes "look") then look_of ws else
+    (if bytes_eq w (codes "install") then install_of ws else
+    (if bytes_eq w (codes "reserve") then reserve_of ws else plain_of w ws)))
+
 -- WHAT A TURN SAYS, by its words after the caller
 abbrev pub said_of : List (List ℕ) → Option Said
 said_of [] = None
@@ -151,15 +167,7 @@ said_of (w ∷ ws) =
     if bytes_eq w (codes "begin") then begin_of ws else
     (if bytes_eq w (codes "cancel") then cancel_of ws else
     (if bytes_eq w (codes "irrev") then irrev_of ws else
-    (if bytes_eq w (codes "commit") then commit_of ws else
-    (if bytes_eq w (codes "close") then close_of ws else
-    (if bytes_eq w (codes "look") then look_of ws else
-    (if bytes_eq w (codes "install") then install_of ws else
-    (if bytes_eq w (codes "reserve") then reserve_of ws else
-    (if bytes_eq w (codes "idle") then alone Idle ws else
-    (if bytes_eq w (codes "drop") then alone Dropped ws else
-    (if bytes_eq w (codes "reopen") then alone Reopened ws else
-    (op_named w >>= λ op. operation_of op ws)))))))))))
+    (if bytes_eq w (codes "commit") then commit_of ws else between_of w ws)))
 
 -- `finish`, or a caller and what it says
 abbrev pub line_of : List (List ℕ) → Option Line

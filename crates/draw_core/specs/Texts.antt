@@ -2,6 +2,7 @@
 use Rattle.std.specs.Prelude.{ℕ, zero, suc, ◌+◌, ◌-◌, ◌*◌, ◌/◌, max, ltb, leb, ◌==◌, if◌then◌else◌, List, [], ◌∷◌, ◌++◌, length, Option, Some, None, codes}
 use Rattle.std.specs.Fmt.{decimal}
 use Rattle.stm_model.specs.Algorithms.{alg_name}
+use Rattle.stm_model.specs.declared.alg.Alg.{Alg}
 use Rattle.draw_core.specs.declared.picture.Leaf.{Leaf}
 use Rattle.draw_core.specs.declared.picture.Sheet.{Sheet}
 use Rattle.draw_core.specs.declared.shape.Shape.{Shape}
@@ -87,14 +88,21 @@ clock_bytes row time =
     rect_bytes (codes "tick") (codes "shape") 126 (top row + 8) 8 8
     ++ (open_bytes (codes "clock") (codes "words") 120 (top row + 16) [] ++ (words_bytes (decimal time) ++ close_bytes))
 
-unfoldable pub shape_bytes : Sheet → Shape → List ℕ
-shape_bytes s (Lane lane) = lane_bytes s lane
-shape_bytes s (Closed lane from more) =
+-- the gate, closed across all lanes; and an install, a line across them
+unfoldable pub closed_bytes : Sheet → ℕ → ℕ → ℕ → List ℕ
+closed_bytes s lane from more =
     rect_bytes (codes "closed") (codes "shape") 130 (top from) (s.lanes * 216 + 16) (tall from more + 2)
     ++ (open_bytes (codes "side") (codes "words") (edge s + 14) (top from + 16) [] ++ (codes "gate closed by " ++ (decimal lane ++ close_bytes)))
-shape_bytes s (Installed row alg) =
+
+unfoldable pub installed_bytes : Sheet → ℕ → Alg → List ℕ
+installed_bytes s row alg =
     rect_bytes (codes "installed") (codes "shape") 130 (top row + 23) (s.lanes * 216 + 16) 2
     ++ (open_bytes (codes "side") (codes "words") (edge s + 14) (top row + 28) [] ++ (alg_name alg ++ codes " from here</text>\n"))
+
+unfoldable pub shape_bytes : Sheet → Shape → List ℕ
+shape_bytes s (Lane lane) = lane_bytes s lane
+shape_bytes s (Closed lane from more) = closed_bytes s lane from more
+shape_bytes s (Installed row alg) = installed_bytes s row alg
 shape_bytes s (Attempt lane from more kind) = rect_bytes (codes "attempt") (class_of kind) (left s lane + 4) (top from + 1) 208 (tall from more)
 shape_bytes s (Irrevocable lane from more) = rect_bytes (codes "sure") (codes "shape") (left s lane + 4) (top from + 1) 6 (tall from more)
 shape_bytes s (Clock row time) = clock_bytes row time
@@ -120,11 +128,17 @@ box_rect s row b = if is_finish b.kind then rect_bytes (codes "box") (class_of b
 abbrev pub said_on : Box → List ℕ
 said_on b = if leb b.times 1 then b.label else codes " idle " ++ (decimal b.times ++ codes " times")
 
+unfoldable pub label_bytes : Sheet → ℕ → Box → List ℕ
+label_bytes s row b =
+    open_bytes (codes "label") (class_of b.kind) (left s b.lane + 19) (top row + 16) (squeezed (shown_words (said_on b)))
+    ++ (words_bytes (said_on b) ++ close_bytes)
+
+-- the number of a line, beside its box
+unfoldable pub row_bytes : ℕ → ℕ → List ℕ
+row_bytes row number = open_bytes (codes "row") (codes "words") 58 (top row + 16) [] ++ (decimal number ++ close_bytes)
+
 unfoldable pub box_bytes : Sheet → ℕ → Box → List ℕ
-box_bytes s row b =
-    box_rect s row b
-    ++ (open_bytes (codes "label") (class_of b.kind) (left s b.lane + 19) (top row + 16) (squeezed (shown_words (said_on b))) ++ (words_bytes (said_on b) ++ (close_bytes
-    ++ (open_bytes (codes "row") (codes "words") 58 (top row + 16) [] ++ (decimal b.number ++ close_bytes)))))
+box_bytes s row b = box_rect s row b ++ (label_bytes s row b ++ row_bytes row b.number)
 
 -- the boxes, from this row on
 abbrev pub boxes_bytes : Sheet → ℕ → List Box → List ℕ
@@ -184,19 +198,20 @@ head_bytes s =
 unfoldable pub foot_bytes : Sheet → List ℕ
 foot_bytes s = codes "<g transform='translate(138," ++ (decimal (deep s * 24 + 66) ++ (codes ")'>\n" ++ (legend_bytes ++ codes "</g>\n</svg>\n")))
 
--- THE TEXT of the boxes and of what they tell together, the layers one on the other
-abbrev pub drawing_bytes : Sheet → List Box → List ℕ
-drawing_bytes s bs =
-    ((((((((head_bytes s
+-- the layers one on the other, after this text
+abbrev pub layers_onto : List ℕ → Sheet → List Box → List ℕ
+layers_onto text s bs =
+    (((((text
     ++ layer_bytes s Lanes 0 bs)
     ++ layer_bytes s Closings 0 bs)
     ++ layer_bytes s Installings 0 bs)
     ++ layer_bytes s Attempts 0 bs)
     ++ layer_bytes s Promotions 0 bs)
-    ++ layer_bytes s Clocks 0 bs)
-    ++ boxes_bytes s 0 bs)
-    ++ turn_bytes s)
-    ++ foot_bytes s
+    ++ layer_bytes s Clocks 0 bs
+
+-- THE TEXT of the boxes and of what they tell together
+abbrev pub drawing_bytes : Sheet → List Box → List ℕ
+drawing_bytes s bs = ((layers_onto (head_bytes s) s bs ++ boxes_bytes s 0 bs) ++ turn_bytes s) ++ foot_bytes s
 
 abbrev pub svg_of : Leaf → List Box → List ℕ
 svg_of leaf bs = drawing_bytes (sheet_of leaf bs) bs

@@ -7,7 +7,7 @@ use crate::chosen::{callers_in, lines_in};
 use crate::part::{Part, WHOLE};
 
 /// What help is asked for.
-#[derive(Clone, Copy, Drop, Debug, PartialEq, Eq)]
+#[derive(Clone, Copy, Drop)]
 pub enum Topic {
     All,
     /// The program's name and version.
@@ -15,7 +15,7 @@ pub enum Topic {
 }
 
 /// The option whose value comes next.
-#[derive(Clone, Copy, Drop, Debug, PartialEq, Eq)]
+#[derive(Clone, Copy, Drop)]
 pub enum Waits {
     ForNone,
     ForLines,
@@ -35,7 +35,7 @@ impl Waits {
 }
 
 /// What the words that were read ask for.
-#[derive(Clone, Copy, Drop, Debug, PartialEq, Eq)]
+#[derive(Clone, Copy, Drop)]
 pub struct Ask<'a> {
     pub part: Part,
     /// The file that is read in place of standard input.

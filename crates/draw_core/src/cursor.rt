@@ -10,7 +10,7 @@ use stm_script::workload::Item;
 use stm_text::lines;
 
 /// How far a caller has come.
-#[derive(Clone, Copy, Drop, Debug, PartialEq, Eq)]
+#[derive(Clone, Copy, Drop)]
 pub struct Cursor {
     /// The item from which on its first transaction that hasn't ended is looked for.
     pub item: usize,

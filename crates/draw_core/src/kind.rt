@@ -9,7 +9,7 @@ use stm_trace::said::Said;
 use tx_answers::answers::{Begin, Cancel, CloseGate, Commit, Irrev, Look};
 
 /// What a line tells of its caller's attempt or closing.
-#[derive(Clone, Copy, Drop, Debug, PartialEq, Eq)]
+#[derive(Clone, Copy, Drop, PartialEq, Eq)]
 pub enum Kind {
     /// An attempt begins under this algorithm.
     Begins(Alg),

@@ -13,7 +13,7 @@ use stm_text::lines;
 use stm_trace::said::Phase;
 
 /// Where a caller stands whose line may not come.
-#[derive(Clone, Copy, Drop, Debug, PartialEq, Eq)]
+#[derive(Clone, Copy, Drop, Debug)]
 pub enum Misfit {
     /// Nowhere: the workload has so many callers.
     NoCaller { callers: usize },
@@ -30,7 +30,7 @@ pub enum Misfit {
 }
 
 /// A line that may not come.
-#[derive(Clone, Copy, Drop, Debug, PartialEq, Eq)]
+#[derive(Clone, Copy, Drop, Debug)]
 pub struct Unfit {
     /// Its number in the whole text, from 1.
     pub line: usize,
@@ -78,22 +78,20 @@ pub fn misfit_by(phase: Phase, misfit: Misfit) -> Misfit
     }
 }
 
-/// Appends what may come at a phase.
-fn put_at(may: &mut String, caller: usize, phase: Phase) -> Result<(), AllocError> {
+/// The lines that may come at a phase, each as what follows the caller's number, and what follows it in a sentence.
+fn lines_at(phase: Phase) -> &'static [(&'static str, &'static str)] {
     match phase {
-        Phase::Between => write!(
-            may,
-            "`{caller} begin ALG`, `{caller} close closed` or `{caller} idle`"
-        ),
-        Phase::Inside => write!(
-            may,
-            "`{caller} NAME REPLY`, `{caller} commit readonly T`, or why it failed"
-        ),
-        Phase::Closing => write!(
-            may,
-            "`{caller} look quiet`, `{caller} look busy C S` or `{caller} reopen`"
-        ),
-        Phase::Quiet => write!(may, "`{caller} install ALG` or `{caller} reopen`"),
+        Phase::Between => &[("begin ALG", ", "), ("close closed", " or "), ("idle", "")],
+        Phase::Inside => &[
+            ("NAME REPLY", ", "),
+            ("commit readonly T", ", or why it failed"),
+        ],
+        Phase::Closing => &[
+            ("look quiet", ", "),
+            ("look busy C S", " or "),
+            ("reopen", ""),
+        ],
+        Phase::Quiet => &[("install ALG", " or "), ("reopen", "")],
     }
 }
 
@@ -108,67 +106,67 @@ fn place_of(phase: Phase) -> &'static str {
 }
 
 impl Unfit {
+    /// Appends where the caller is.
+    fn put_place(&self, why: &mut String, place: &str) -> Result<(), AllocError> {
+        let caller = self.caller;
+        write!(why, "caller {caller} {place}")
+    }
+
     /// Appends why the line may not come.
     fn put_why(&self, why: &mut String) -> Result<(), AllocError> {
-        let caller = self.caller;
         match self.misfit {
             Misfit::NoCaller { callers } => write!(why, "the workload has {callers} callers"),
-            Misfit::Before => {
-                write!(
-                    why,
-                    "caller {caller} is in no attempt, and has a transaction left"
-                )
-            }
-            Misfit::Over => {
-                write!(
-                    why,
-                    "caller {caller} is in no attempt, and has no transaction left"
-                )
-            }
+            Misfit::Before => self.put_place(why, "is in no attempt, and has a transaction left"),
+            Misfit::Over => self.put_place(why, "is in no attempt, and has no transaction left"),
             Misfit::Next(deed) => {
-                write!(why, "caller {caller} is in an attempt, whose script has")?;
+                self.put_place(why, "is in an attempt, whose script has")?;
                 put_deed(why, deed)?;
                 why.push_str(" next")
             }
-            Misfit::Done => {
-                write!(
-                    why,
-                    "caller {caller} is in an attempt, whose script is done"
-                )
-            }
-            Misfit::At(phase) => {
-                write!(why, "caller {caller} ")?;
-                why.push_str(place_of(phase))
-            }
+            Misfit::Done => self.put_place(why, "is in an attempt, whose script is done"),
+            Misfit::At(phase) => self.put_place(why, place_of(phase)),
         }
+    }
+
+    /// Appends lines that may come, and after each what follows it.
+    fn put_lines(&self, may: &mut String, lines: &[(&str, &str)]) -> Result<(), AllocError> {
+        let caller = self.caller;
+        for (line, after) in lines {
+            write!(may, "`{caller} {line}`{after}")?;
+        }
+        Ok(())
+    }
+
+    /// Appends the line of the operation that is next in a script.
+    fn put_next(&self, may: &mut String, op: Op) -> Result<(), AllocError> {
+        let caller = self.caller;
+        let name = op.name();
+        let came = match op {
+            Op::Irrev => "granted",
+            Op::Cancel => "cancelled T",
+            _ => "REPLY",
+        };
+        write!(may, "`{caller} {name} {came}`, or why it failed")
     }
 
     /// Appends what may come.
     fn put_may(&self, may: &mut String) -> Result<(), AllocError> {
-        let caller = self.caller;
         match self.misfit {
             Misfit::NoCaller { callers } => {
                 let last = callers.saturating_sub(1);
                 write!(may, "a line of a caller from 0 to {last}")
             }
-            Misfit::Before => write!(may, "`{caller} begin ALG`, ALG an algorithm"),
-            Misfit::Over => write!(may, "`{caller} idle`"),
-            Misfit::Next(deed) => {
-                let name = deed.op.name();
-                let came = match deed.op {
-                    Op::Irrev => "granted",
-                    Op::Cancel => "cancelled T",
-                    _ => "REPLY",
-                };
-                write!(may, "`{caller} {name} {came}`, or why it failed")
-            }
-            Misfit::Done => {
-                write!(
-                    may,
-                    "`{caller} commit committed T`, `{caller} commit readonly T`, or why it failed"
-                )
-            }
-            Misfit::At(phase) => put_at(may, caller, phase),
+            Misfit::Before => self.put_lines(may, &[("begin ALG", ", ALG an algorithm")]),
+            Misfit::Over => self.put_lines(may, &[("idle", "")]),
+            Misfit::Next(deed) => self.put_next(may, deed.op),
+            Misfit::Done => self.put_lines(
+                may,
+                &[
+                    ("commit committed T", ", "),
+                    ("commit readonly T", ", or why it failed"),
+                ],
+            ),
+            Misfit::At(phase) => self.put_lines(may, lines_at(phase)),
         }
     }
 

@@ -15,7 +15,7 @@ use crate::step::Step;
 use std::alloc::{AllocError, Global};
 
 /// The page, as far as the lines were read.
-#[derive(Drop, Debug)]
+#[derive(Drop)]
 pub struct Page {
     part: Part,
     /// How many rows of the part are at their ends.

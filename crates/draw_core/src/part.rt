@@ -10,14 +10,14 @@ use crate::row::Row;
 pub const MOST_BOXES: usize = 2_000;
 
 /// Lines of a trace, counted from 1.
-#[derive(Clone, Copy, Drop, Debug, PartialEq, Eq)]
+#[derive(Clone, Copy, Drop)]
 pub struct Lines {
     pub first: usize,
     pub last: usize,
 }
 
 /// Some callers, all of them below 32.
-#[derive(Clone, Copy, Drop, Debug, PartialEq, Eq)]
+#[derive(Clone, Copy, Drop)]
 pub struct Callers {
     chosen: [bool; 32],
 }
@@ -76,7 +76,7 @@ impl Callers {
 }
 
 /// The lines and the callers that are drawn: all of them where none are named.
-#[derive(Clone, Copy, Drop, Debug, PartialEq, Eq)]
+#[derive(Clone, Copy, Drop)]
 pub struct Part {
     pub lines: Option<Lines>,
     pub callers: Option<Callers>,

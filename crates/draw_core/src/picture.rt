@@ -3,7 +3,7 @@ ghost use Rattle.std.specs.Prelude.{◌≡◌, ◌++◌, ◌+◌, ◌<◌, ◌^�
 ghost use Rattle.stm_model.specs.Algorithms.{alg_name};
 ghost use Rattle.draw_core.specs.Shapes.{boxes_of, box_of, shape_at};
 ghost use Rattle.draw_core.specs.Markup.{IsMarkup};
-ghost use Rattle.draw_core.specs.Texts.{column, left, lines_bytes, titled_bytes, top, tall, edge, lanes_of, sheet_of, shape_bytes, part_bytes, layer_bytes, squeezed, box_rect, box_bytes, boxes_bytes, clock_bytes, deep, head_at, heads_bytes, lane_bytes, naming_bytes, number_bytes, turn_bytes, page_width, page_height, page_bytes, view_bytes, style_bytes, legend_bytes, name_bytes, axis_bytes, head_bytes, foot_bytes, svg_of};
+ghost use Rattle.draw_core.specs.Texts.{column, left, lines_bytes, titled_bytes, top, tall, edge, lanes_of, sheet_of, shape_bytes, closed_bytes, installed_bytes, part_bytes, layer_bytes, layers_onto, squeezed, box_rect, label_bytes, row_bytes, box_bytes, boxes_bytes, drawing_bytes, clock_bytes, deep, head_at, heads_bytes, lane_bytes, naming_bytes, number_bytes, turn_bytes, page_width, page_height, page_bytes, view_bytes, style_bytes, legend_bytes, name_bytes, axis_bytes, head_bytes, foot_bytes, svg_of};
 
 use crate::kind::Kind;
 use crate::label::label;
@@ -19,7 +19,7 @@ use stm_model::memory::Memory;
 
 /// What a picture shows: the lines that are named and the callers that have lanes, where not all of them are drawn; and
 /// how many of its rows stand above the part.
-#[derive(Clone, Copy, Drop, Debug, PartialEq, Eq)]
+#[derive(Clone, Copy, Drop)]
 pub struct Leaf {
     pub lines: Option<Lines>,
     pub callers: Option<Callers>,
@@ -27,7 +27,7 @@ pub struct Leaf {
 }
 
 /// The page: how many lanes and rows it has, and what it shows.
-#[derive(Clone, Copy, Drop, Debug, PartialEq, Eq)]
+#[derive(Clone, Copy, Drop)]
 pub struct Sheet {
     lanes: u128,
     rows: u128,
@@ -191,6 +191,40 @@ fn put_clock(alloc: Global, text: &mut String, row: usize, time: u64) -> Result<
     text.push_str("</text>\n")
 }
 
+/// The gate, closed across all lanes from a row on.
+#[tactic(auto, unfolding(crate::specs::Texts::closed_bytes))]
+fn put_closed(
+    text: &mut String,
+    sheet: Sheet,
+    lane: usize,
+    from: usize,
+    more: usize,
+) -> Result<(), AllocError>
+    requires { sheet.lanes ≤ 2 ^ 64 }
+    ensures { OnOk result
+        (string_bytes text.new ≡ string_bytes text.old ++ closed_bytes sheet lane from more) }
+{
+    let y = top(from as u128);
+    let wide = sheet.lanes * 216 + 16;
+    put_rect(text, "closed", "shape", 130, y, wide, tall(from, more) + 2)?;
+    put_open(text, "side", "words", sheet.edge() + 14, y + 16, "")?;
+    write!(text, "gate closed by {lane}</text>\n")
+}
+
+/// An install, under its row.
+#[tactic(auto, unfolding(crate::specs::Texts::installed_bytes))]
+fn put_installed(text: &mut String, sheet: Sheet, row: usize, alg: Alg) -> Result<(), AllocError>
+    requires { sheet.lanes ≤ 2 ^ 64 }
+    ensures { OnOk result
+        (string_bytes text.new ≡ string_bytes text.old ++ installed_bytes sheet row alg) }
+{
+    let y = top(row as u128);
+    let wide = sheet.lanes * 216 + 16;
+    put_rect(text, "installed", "shape", 130, y + 23, wide, 2)?;
+    put_open(text, "side", "words", sheet.edge() + 14, y + 28, "")?;
+    put_install(text, alg)
+}
+
 #[tactic(auto, unfolding(crate::specs::Texts::shape_bytes))]
 fn put_shape(alloc: Global, text: &mut String, sheet: Sheet, shape: Shape) -> Result<(), AllocError>
     requires lanes { sheet.lanes ≤ 2 ^ 64 }
@@ -198,29 +232,10 @@ fn put_shape(alloc: Global, text: &mut String, sheet: Sheet, shape: Shape) -> Re
     ensures { OnOk result
         (string_bytes text.new ≡ string_bytes text.old ++ shape_bytes sheet shape) }
 {
-    let wide = sheet.lanes * 216 + 16;
-    let side = sheet.edge() + 14;
     match shape {
         Shape::Lane { lane } => put_lane(text, sheet, lane),
-        Shape::Closed { lane, from, more } => {
-            let high = tall(from, more) + 2;
-            put_rect(text, "closed", "shape", 130, top(from as u128), wide, high)?;
-            put_open(text, "side", "words", side, top(from as u128) + 16, "")?;
-            write!(text, "gate closed by {lane}</text>\n")
-        }
-        Shape::Installed { row, alg } => {
-            put_rect(
-                text,
-                "installed",
-                "shape",
-                130,
-                top(row as u128) + 23,
-                wide,
-                2,
-            )?;
-            put_open(text, "side", "words", side, top(row as u128) + 28, "")?;
-            put_install(text, alg)
-        }
+        Shape::Closed { lane, from, more } => put_closed(text, sheet, lane, from, more),
+        Shape::Installed { row, alg } => put_installed(text, sheet, row, alg),
         Shape::Attempt {
             lane,
             from,
@@ -316,6 +331,38 @@ fn put_box_rect(text: &mut String, sheet: Sheet, row: usize, line: Row) -> Resul
     }
 }
 
+/// The words on the box of a line.
+#[tactic(auto, unfolding(crate::specs::Texts::label_bytes))]
+fn put_label(
+    alloc: Global,
+    text: &mut String,
+    sheet: Sheet,
+    row: usize,
+    line: Row,
+) -> Result<(), AllocError>
+    ensures { OnOk result
+        (string_bytes text.new ≡ string_bytes text.old ++ label_bytes sheet row (box_of line)) }
+{
+    let words = label(alloc, line)?;
+    let short = shown(alloc, words.as_str())?;
+    let class = line.kind().class();
+    let x = sheet.left(line.lane()) + 19;
+    let y = top(row as u128) + 16;
+    put_open(text, "label", class, x, y, squeezed(short.as_str()))?;
+    put_words(text, words.as_str(), short.as_str())?;
+    text.push_str("</text>\n")
+}
+
+/// The number of a line, beside its box.
+#[tactic(auto, unfolding(crate::specs::Texts::row_bytes))]
+fn put_row(text: &mut String, row: usize, number: usize) -> Result<(), AllocError>
+    ensures { OnOk result
+        (string_bytes text.new ≡ string_bytes text.old ++ row_bytes row number) }
+{
+    put_open(text, "row", "words", 58, top(row as u128) + 16, "")?;
+    write!(text, "{number}</text>\n")
+}
+
 /// The box of a line, its words on it, and the number of the line.
 #[tactic(auto, unfolding(crate::specs::Texts::box_bytes))]
 fn put_box(
@@ -329,24 +376,9 @@ fn put_box(
     ensures { OnOk result
         (string_bytes text.new ≡ string_bytes text.old ++ box_bytes sheet row (box_of line)) }
 {
-    let words = label(alloc, line)?;
-    let short = shown(alloc, words.as_str())?;
-    let class = line.kind().class();
-    let y = top(row as u128) + 16;
     put_box_rect(text, sheet, row, line)?;
-    put_open(
-        text,
-        "label",
-        class,
-        sheet.left(line.lane()) + 19,
-        y,
-        squeezed(short.as_str()),
-    )?;
-    put_words(text, words.as_str(), short.as_str())?;
-    text.push_str("</text>\n")?;
-    put_open(text, "row", "words", 58, y, "")?;
-    let number = line.number;
-    write!(text, "{number}</text>\n")
+    put_label(alloc, text, sheet, row, line)?;
+    put_row(text, row, line.number)
 }
 
 fn put_boxes(
@@ -505,23 +537,47 @@ fn put_foot(text: &mut String, sheet: Sheet) -> Result<(), AllocError>
     text.push_str("</g>\n</svg>\n")
 }
 
+/// The layers, each on those before it.
+fn put_layers(
+    alloc: Global,
+    text: &mut String,
+    sheet: Sheet,
+    lines: &[Row],
+) -> Result<(), AllocError>
+    requires lanes { sheet.lanes ≤ 2 ^ 64 }
+    requires rows { sheet.rows ≤ 2 ^ 64 }
+    ensures { OnOk result (string_bytes text.new
+        ≡ layers_onto (string_bytes text.old) sheet (boxes_of lines.now)) }
+{
+    put_layer(alloc, text, sheet, Layer::Lanes, lines)?;
+    put_layer(alloc, text, sheet, Layer::Closings, lines)?;
+    put_layer(alloc, text, sheet, Layer::Installs, lines)?;
+    put_layer(alloc, text, sheet, Layer::Attempts, lines)?;
+    put_layer(alloc, text, sheet, Layer::Promotions, lines)?;
+    put_layer(alloc, text, sheet, Layer::Clocks, lines)
+}
+
+/// The text of a sheet.
+fn drawing(alloc: Global, sheet: Sheet, lines: &[Row]) -> Result<String, AllocError>
+    requires lanes { sheet.lanes ≤ 2 ^ 64 }
+    requires rows { sheet.rows ≤ 2 ^ 64 }
+    ensures { IfOk result (λ t. string_bytes t ≡ drawing_bytes sheet (boxes_of lines.now)) }
+{
+    let mut text = String::new(alloc);
+    put_head(&mut text, sheet)?;
+    put_layers(alloc, &mut text, sheet, lines)?;
+    put_boxes(alloc, &mut text, sheet, lines)?;
+    put_turn(&mut text, sheet)?;
+    put_foot(&mut text, sheet)?;
+    Ok(text)
+}
+
 /// The picture of a page: one box for each of its rows, in the lane of its caller and in the order of the rows, with
 /// what the row tells; and under them what the rows tell together. Its text is markup. Memory may be refused.
 pub fn picture(alloc: Global, leaf: Leaf, lines: &[Row]) -> Result<Vec<u8>, Memory>
     ensures is { IfOk result (λ t. t.items ≡ svg_of leaf (boxes_of lines.now)) }
     ensures markup { IfOk result (λ t. IsMarkup t.items) }
 {
-    let sheet = Sheet::of(leaf, lines);
-    let mut text = String::new(alloc);
-    put_head(&mut text, sheet)?;
-    put_layer(alloc, &mut text, sheet, Layer::Lanes, lines)?;
-    put_layer(alloc, &mut text, sheet, Layer::Closings, lines)?;
-    put_layer(alloc, &mut text, sheet, Layer::Installs, lines)?;
-    put_layer(alloc, &mut text, sheet, Layer::Attempts, lines)?;
-    put_layer(alloc, &mut text, sheet, Layer::Promotions, lines)?;
-    put_layer(alloc, &mut text, sheet, Layer::Clocks, lines)?;
-    put_boxes(alloc, &mut text, sheet, lines)?;
-    put_turn(&mut text, sheet)?;
-    put_foot(&mut text, sheet)?;
+    let text = drawing(alloc, Sheet::of(leaf, lines), lines)?;
     Ok(text.into_bytes())
 }

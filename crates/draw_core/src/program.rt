@@ -67,26 +67,27 @@ fn text_of<R: Files + Input>(rt: &R, ask: Option<Ask<'_>>) -> Text<R::Reader, R:
     }
 }
 
-/// Draws what the words ask for.
+/// Draws what the arguments ask for.
 fn answer<R: AllocGlobal + Files + Input + Print + Eprint>(rt: &R, arguments: &[String]) -> ExitCode
     ensures { EndsBy (map string_bytes arguments.now) (exit_status result) }
 {
-    let Ok(words) = words_in(rt.alloc(), arguments) else {
-        return refused(rt);
-    };
-    let mut source = ReadSource::new(text_of(rt, asked(words.as_slice())));
+    match words_in(rt.alloc(), arguments) {
+        Ok(words) => answer_words(rt, words.as_slice()),
+        Err(_) => refused(rt),
+    }
+}
+
+/// Draws what the words ask for.
+fn answer_words<R: AllocGlobal + Files + Input + Print + Eprint>(rt: &R, words: &[&str]) -> ExitCode
+    ensures { EndsBy (texts_of words.now) (exit_status result) }
+{
+    let mut source = ReadSource::new(text_of(rt, asked(words)));
     let mut sink = WriteSink::new(io::writer(rt));
     let mut why = None;
-    let (status, code) = exits(
-        rt.alloc(),
-        words.as_slice(),
-        &mut source,
-        &mut sink,
-        &mut why,
-    );
+    let (status, code) = exits(rt.alloc(), words, &mut source, &mut sink, &mut why);
     // who doesn't read on any more wants to hear no more
     if !sink.is_closed() {
-        tell(rt, status, words.as_slice(), why);
+        tell(rt, status, words, why);
     }
     code
 }

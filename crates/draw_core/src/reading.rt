@@ -18,7 +18,7 @@ use thiserror::Error;
 pub const MOST_DRAWN: usize = 134_217_728;
 
 /// Why a text has no trace.
-#[derive(Clone, Copy, Drop, Debug, PartialEq, Eq, Error)]
+#[derive(Clone, Copy, Drop, Debug, Error)]
 pub enum ReadError {
     /// The text isn't one that `step` writes: its first line at fault, counted from 1, or 0 for a text that is too
     /// long.

@@ -8,7 +8,7 @@ use crate::step::Step;
 use stm_trace::line::Line;
 
 /// A row: its first line's number in the trace, counted from 1, how many lines it is of, and that line.
-#[derive(Clone, Copy, Drop, Debug, PartialEq, Eq)]
+#[derive(Clone, Copy, Drop)]
 pub struct Row {
     pub number: usize,
     pub times: usize,

@@ -2,7 +2,7 @@
 ghost use Rattle.std.specs.Prelude.{◌≡◌, ◌∷◌, ◌<◌, ◌≤◌, [], length, MatchOption};
 ghost use Rattle.stm_check.specs.Grammar.{words_left};
 ghost use Rattle.stm_text.specs.Lines.{words_of};
-ghost use Rattle.draw_core.specs.Grammar.{is_nil, one_of, two_of, three_of, alg_in, alg_named, op_in, op_named, cause_of, stop_of, begin_of, operation_of, cancel_of, irrev_of, commit_of, close_of, look_of, install_of, reserve_of, said_of, line_of};
+ghost use Rattle.draw_core.specs.Grammar.{is_nil, one_of, two_of, three_of, alg_in, alg_named, op_in, op_named, cause_of, stop_of, begin_of, operation_of, cancel_of, irrev_of, commit_of, close_of, look_of, install_of, reserve_of, plain_of, between_of, said_of, line_of};
 
 use stm_check::words::first_word;
 use stm_model::alg::{ALGORITHMS, Alg};
@@ -316,6 +316,41 @@ fn reserve(rest: &[u8]) -> Option<Said>
     })
 }
 
+/// A word that says all, or an operation.
+fn plain(word: &[u8], rest: &[u8]) -> Option<Said>
+    ensures { result ≡ plain_of word.now (words_left rest.now) }
+{
+    if lines::is(word, b"idle") {
+        return alone(Said::Idle, rest);
+    }
+    if lines::is(word, b"drop") {
+        return alone(Said::Dropped, rest);
+    }
+    if lines::is(word, b"reopen") {
+        return alone(Said::Reopened, rest);
+    }
+    operation(operation_named(word)?, rest)
+}
+
+/// A call between two attempts, but for one that begins.
+fn between(word: &[u8], rest: &[u8]) -> Option<Said>
+    ensures { result ≡ between_of word.now (words_left rest.now) }
+{
+    if lines::is(word, b"close") {
+        return close(rest);
+    }
+    if lines::is(word, b"look") {
+        return look(rest);
+    }
+    if lines::is(word, b"install") {
+        return install(rest);
+    }
+    if lines::is(word, b"reserve") {
+        return reserve(rest);
+    }
+    plain(word, rest)
+}
+
 /// What a turn says, by its words after the caller.
 fn said(rest: &[u8]) -> Option<Said>
     ensures { result ≡ said_of (words_left rest.now) }
@@ -333,28 +368,7 @@ fn said(rest: &[u8]) -> Option<Said>
     if lines::is(word, b"commit") {
         return commit(rest);
     }
-    if lines::is(word, b"close") {
-        return close(rest);
-    }
-    if lines::is(word, b"look") {
-        return look(rest);
-    }
-    if lines::is(word, b"install") {
-        return install(rest);
-    }
-    if lines::is(word, b"reserve") {
-        return reserve(rest);
-    }
-    if lines::is(word, b"idle") {
-        return alone(Said::Idle, rest);
-    }
-    if lines::is(word, b"drop") {
-        return alone(Said::Dropped, rest);
-    }
-    if lines::is(word, b"reopen") {
-        return alone(Said::Reopened, rest);
-    }
-    operation(operation_named(word)?, rest)
+    between(word, rest)
 }
 
 /// A line of a trace, where these are its bytes. An operation has zeros for what it works on.

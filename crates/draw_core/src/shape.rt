@@ -8,7 +8,7 @@ use crate::row::Row;
 use stm_model::alg::Alg;
 
 /// A shape. Lanes are callers; rows count the lines of the trace from 0, and `more` the rows after the first one.
-#[derive(Clone, Copy, Drop, Debug, PartialEq, Eq)]
+#[derive(Clone, Copy, Drop, PartialEq, Eq)]
 pub enum Shape {
     /// The lane of a caller that has lines.
     Lane {
@@ -46,7 +46,7 @@ pub enum Shape {
 }
 
 /// Shapes of one sort, each at a line; later layers lie on earlier ones.
-#[derive(Clone, Copy, Drop, Debug, PartialEq, Eq)]
+#[derive(Clone, Copy, Drop)]
 pub enum Layer {
     Lanes,
     Closings,
@@ -57,7 +57,7 @@ pub enum Layer {
 }
 
 /// What is looked for in the lines of a caller.
-#[derive(Clone, Copy, Drop, Debug, PartialEq, Eq)]
+#[derive(Clone, Copy, Drop)]
 enum Sought {
     Any,
     /// The end of an attempt.

@@ -7,7 +7,7 @@ use crate::row::Row;
 use std::alloc::{AllocError, Global};
 
 /// What a row tells that stands.
-#[derive(Clone, Copy, Drop, Debug, PartialEq, Eq)]
+#[derive(Clone, Copy, Drop)]
 pub enum Mark {
     /// An attempt has begun.
     Begun,
@@ -20,7 +20,7 @@ pub enum Mark {
 }
 
 /// The row that stands, of this caller but for the clock's.
-#[derive(Clone, Copy, Drop, Debug, PartialEq, Eq)]
+#[derive(Clone, Copy, Drop)]
 pub struct Slot {
     pub mark: Mark,
     pub lane: usize,

@@ -6,14 +6,14 @@ use stm_script::workload::Version;
 use stm_trace::line::Line;
 
 /// An operation of a script, of a workload of this version.
-#[derive(Clone, Copy, Drop, Debug, PartialEq, Eq)]
+#[derive(Clone, Copy, Drop, Debug)]
 pub struct Deed {
     pub op: Op,
     pub version: Version,
 }
 
 /// A line, and the operation that it tells of, where a workload has it.
-#[derive(Clone, Copy, Drop, Debug, PartialEq, Eq)]
+#[derive(Clone, Copy, Drop)]
 pub struct Step {
     pub line: Line,
     pub deed: Option<Deed>,

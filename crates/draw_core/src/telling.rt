@@ -21,17 +21,26 @@ pub(crate) fn told(
     let said = match status {
         Status::Ok | Status::Help => return Ok(None),
         Status::Refused { .. } | Status::NoPicture { .. } => return Ok(why),
-        Status::Usage => wrong_word(alloc, words)?,
-        Status::ReadFault => "a file or standard input could not be read".to_string(alloc)?,
-        Status::WriteFault => "standard output could not be written to the end".to_string(alloc)?,
-        Status::Memory => "memory was refused, and nothing was written".to_string(alloc)?,
+        Status::Usage => return Ok(Some(wrong_word(alloc, words)?)),
+        Status::ReadFault => "a file or standard input could not be read",
+        Status::WriteFault => "standard output could not be written to the end",
+        Status::Memory => "memory was refused, and nothing was written",
     };
-    Ok(Some(said))
+    Ok(Some(said.to_string(alloc)?))
 }
 
 /// What is wrong with words that ask for nothing, in a sentence: which of them, and what may stand there.
 pub fn wrong_word(alloc: Global, words: &[&str]) -> Result<String, AllocError> {
     let mut said = String::new(alloc);
+    match up_to_wrong(words) {
+        (ask, Some(word)) => put_wrong(alloc, &mut said, ask, word)?,
+        (ask, None) => put_value(&mut said, "no value follows", ask.waits)?,
+    }
+    Ok(said)
+}
+
+/// What words ask for before the first that may not come, and that one.
+fn up_to_wrong<'a>(words: &[&'a str]) -> (Ask<'a>, Option<&'a str>) {
     let mut ask = Ask {
         part: WHOLE,
         first: None,
@@ -41,14 +50,10 @@ pub fn wrong_word(alloc: Global, words: &[&str]) -> Result<String, AllocError> {
     for word in words.iter().skip(1) {
         match ask.take(word) {
             Some(more) => ask = more,
-            None => {
-                put_wrong(alloc, &mut said, ask, word)?;
-                return Ok(said);
-            }
+            None => return (ask, Some(*word)),
         }
     }
-    put_value(&mut said, "no value follows", ask.waits)?;
-    Ok(said)
+    (ask, None)
 }
 
 /// Appends why this word may not come.

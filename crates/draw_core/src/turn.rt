@@ -7,7 +7,7 @@ use stm_trace::said::Said;
 use tx_answers::answers::{Begin, Cancel, Commit, Irrev};
 
 /// Where a line may come, between its caller's attempts or in one.
-#[derive(Clone, Copy, Drop, Debug, PartialEq, Eq)]
+#[derive(Clone, Copy, Drop)]
 pub enum Stage {
     /// No attempt is open, and a transaction is left.
     Before,
@@ -22,7 +22,7 @@ pub enum Stage {
 }
 
 /// What a line does to its caller's attempt. An operation counts by its name alone.
-#[derive(Clone, Copy, Drop, Debug, PartialEq, Eq)]
+#[derive(Clone, Copy, Drop)]
 pub enum Turn {
     /// An attempt begins.
     Begins,

@@ -11,7 +11,7 @@ use crate::part::Part;
 use crate::phase::{passes, phase_at};
 use crate::step::{Deed, Step};
 use crate::turn::turn_of;
-use std::alloc::{AllocError, AllocFailed, Global};
+use std::alloc::{AllocError, Global};
 use stm_faults::fault::Fault;
 use stm_script::op::Op;
 use stm_script::workload::{Item, Version, Workload};
@@ -20,7 +20,7 @@ use stm_trace::said::Phase;
 use thiserror::Error;
 
 /// Why a text has no steps. A line counts from 1, and is 0 for a text that is too long.
-#[derive(Clone, Copy, Drop, Debug, PartialEq, Eq, Error)]
+#[derive(Clone, Copy, Drop, Debug, Error)]
 pub enum StepsError {
     /// The workload has this fault.
     #[error("refused {line}")]
@@ -42,17 +42,6 @@ impl From<AllocError> for StepsError {
     ghost from_gives = { λ _ e. e ≡ Memory };
 
     fn from(_: AllocError) -> StepsError {
-        StepsError::Memory
-    }
-}
-
-impl<T: Drop> From<AllocFailed<T>> for StepsError {
-    ghost use Rattle.std.specs.Prelude.{◌≡◌};
-    ghost use Rattle.draw_core.specs.declared.walk.StepsError.TheVariants.{Memory};
-
-    ghost from_gives = { λ _ e. e ≡ Memory };
-
-    fn from(_: AllocFailed<T>) -> StepsError {
         StepsError::Memory
     }
 }

@@ -187,7 +187,7 @@ fn lines_have_their_shapes(rt: HostRuntime) -> Result<(), Fail> {
     for (layer, row, shape) in table {
         if row < lines.len() {
             let found = shape_at(layer, row, lines[row], &lines[row + 1..]);
-            assert_eq!(rt; found, shape, "{row}");
+            assert!(rt; found == shape, "{row}");
         }
     }
     Ok(())
@@ -631,15 +631,6 @@ fn long_traces_are_drawn_by_parts(rt: HostRuntime) -> Result<(), Fail> {
 
 #[test]
 fn words_ask_for_a_part_and_files(rt: HostRuntime) -> Result<(), Fail> {
-    let wanted = Ask {
-        part: Part {
-            lines: Some(Lines { first: 7, last: 90 }),
-            callers: Some(Callers::none().with(31).with(0).with(5)),
-        },
-        first: Some("a.stm"),
-        second: Some("a.trace"),
-        waits: Waits::ForNone,
-    };
     let words = [
         "stm_draw",
         "a.stm",
@@ -649,8 +640,21 @@ fn words_ask_for_a_part_and_files(rt: HostRuntime) -> Result<(), Fail> {
         "0,5,31,5",
         "a.trace",
     ];
-    assert_eq!(rt; asked(&words), Some(wanted));
-    assert_eq!(rt; help_of(&["stm_draw", "-h"]), Some(Topic::All));
+    assert!(rt;
+        matches!(
+            asked(&words),
+            Some(Ask {
+                part: Part {
+                    lines: Some(Lines { first: 7, last: 90 }),
+                    callers: Some(callers),
+                },
+                first: Some("a.stm"),
+                second: Some("a.trace"),
+                waits: Waits::ForNone,
+            }) if callers.below(32) == 3 && callers.has(0) && callers.has(5) && callers.has(31)
+        )
+    );
+    assert!(rt; matches!(help_of(&["stm_draw", "-h"]), Some(Topic::All)));
     let table = [
         (
             &["stm_draw", "--lines", "0..3"] as &[&str],
@@ -710,7 +714,7 @@ fn words_ask_for_a_part_and_files(rt: HostRuntime) -> Result<(), Fail> {
         ),
     ];
     for (words, wanted) in &table {
-        assert_eq!(rt; asked(words), None);
+        assert!(rt; asked(words).is_none());
         let said = wrong_word(rt.alloc(), words)?;
         assert!(rt; said.starts_with(wanted), "{said}");
     }

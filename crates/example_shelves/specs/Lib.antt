@@ -1,2 +1,1 @@
 pub mod Shelves
-pub mod ShelfLaws

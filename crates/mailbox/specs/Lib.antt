@@ -1,2 +1,1 @@
 pub mod Mail
-pub mod MailLaws

@@ -9,7 +9,7 @@ use Rattle.tx_checked.specs.declared.misuse.Misuse.{Misuse}
 use Rattle.tx_checked.specs.declared.misuse.Misuse.TheVariants as wrong
 use Rattle.tx_checked.specs.declared.checked_caller.CheckedCaller.{CheckedCaller}
 use Rattle.tx_checked.specs.CheckedCallers.{IsSameCheckedCaller}
-use Rattle.tx_loops.specs.AccessLaws.{read-same}
+use Rattle.tx_loops.proofs.AccessLaws.{read-same}
 use Rattle.nekchhaul_c.specs.Codes.{misuse_code, read_code}
 use Rattle.nekchhaul_c.specs.Reads.{ReadTells, ReadsInTurn, ReadManySays}
 

@@ -9,7 +9,7 @@ use Rattle.tx_checked.specs.CheckedCallers.{IsSameCheckedCaller}
 use Rattle.nekchhaul_c.specs.Codes.{write_code}
 use Rattle.nekchhaul_c.specs.Writes.{WriteTells, WritesInTurn, WriteManySays}
 use Rattle.nekchhaul_c.proofs.InTurn.{misuse-high, same-trans, take-more}
-use Rattle.tx_loops.specs.AccessLaws.{write-same}
+use Rattle.tx_loops.proofs.AccessLaws.{write-same}
 
 one-more : (at xs : List ℕ) (a x : ℕ) (m k n : LoopingCaller) → WritesInTurn at xs m k → WriteTells a x (Ok Done) k n → WritesInTurn (at ++ a ∷ []) (xs ++ x ∷ []) m n
 one-more [] [] a x m k n same h = (n, subst (λ (q : LoopingCaller). WriteTells a x (Ok Done) q n) same h, refl)

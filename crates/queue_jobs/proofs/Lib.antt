@@ -1,1 +1,3 @@
 mod DeedLaws
+mod CountLaws
+pub mod DayLaws

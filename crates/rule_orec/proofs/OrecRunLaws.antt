@@ -1,7 +1,7 @@
 -- Every list of steps of the record algorithms keeps the rule, and no stamp falls.
 use Rattle.std.proofs.Common.{ℕ}
 use Rattle.stm_model.specs.declared.config.Config.{Config}
-use Rattle.rule_base.specs.Lemmas.RunLemmas.{keeps-along}
+use Rattle.rule_base.proofs.Lemmas.RunLemmas.{keeps-along}
 use Rattle.rule_base.specs.StepKinds.{world_after}
 use Rattle.rule_base.specs.World.{World}
 use Rattle.rule_orec.specs.OrecRule.{orec_projection, OrecWorld}

@@ -1,1 +1,5 @@
 mod PromotedRunLaws
+pub mod PromotedLaws
+pub mod OrecGranted
+pub mod RaisingLaws
+pub mod ReleaseRanks

@@ -2,10 +2,10 @@
 use Rattle.std.proofs.Common.{ℕ, sym, subst}
 use Rattle.stm_model.specs.declared.alg.Alg.{Alg}
 use Rattle.stm_model.specs.declared.config.Config.{Config}
-use Rattle.rule_base.specs.Lemmas.RunLemmas.{keeps-along}
+use Rattle.rule_base.proofs.Lemmas.RunLemmas.{keeps-along}
 use Rattle.rule_base.specs.StepKinds.{world_after}
 use Rattle.rule_base.specs.World.{World}
-use Rattle.rule_promoted.specs.PromotedLaws as direct
+use Rattle.rule_promoted.proofs.PromotedLaws as direct
 use Rattle.rule_promoted.specs.PromotedRule.{DirectWorld}
 use Rattle.rule_promoted.specs.PromotedRuns.{DirectStep, direct_kind, DirectMayAs, DirectMay, DirectKeepsAlong}
 use Rattle.rule_promoted.specs.PromotedRuns.DirectStep.{loads, stores, commits, releases}

@@ -1,11 +1,11 @@
 -- Every list of RingSW's steps keeps the rule.
 use Rattle.std.proofs.Common.{ℕ, sym, subst}
 use Rattle.stm_model.specs.declared.config.Config.{Config}
-use Rattle.rule_base.specs.Lemmas.RunLemmas.{keeps-along}
+use Rattle.rule_base.proofs.Lemmas.RunLemmas.{keeps-along}
 use Rattle.rule_base.specs.StepKinds.{world_after}
 use Rattle.rule_base.specs.World.{World}
 use Rattle.rule_ring.specs.Filters.{Filters}
-use Rattle.rule_ring.specs.RingCommitLaws as commit
+use Rattle.rule_ring.proofs.RingCommitLaws as commit
 use Rattle.rule_ring.specs.RingReadLaws as read
 use Rattle.rule_ring.specs.RingRule.{RingWorld}
 use Rattle.rule_ring.specs.RingSteps.{ring_word, ring_again, ring_slot}

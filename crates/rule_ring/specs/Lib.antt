@@ -4,7 +4,6 @@ pub mod RingRule
 pub mod RingSteps
 pub mod RingLemmas
 pub mod RingReadLaws
-pub mod RingCommitLaws
 pub mod SlotFilter
 pub mod RingRuns
 pub mod RingPromoted

@@ -4,7 +4,7 @@ use Rattle.stm_model.specs.declared.config.Config.{Config}
 use Rattle.rule_base.specs.Bridge.{of_words}
 use Rattle.rule_base.specs.Lemmas.BridgeLemmas.{words_of-zeros}
 use Rattle.stm_model.specs.Configs.{IsConfig}
-use Rattle.rule_base.specs.Lemmas.RunLemmas.{keeps-along}
+use Rattle.rule_base.proofs.Lemmas.RunLemmas.{keeps-along}
 use Rattle.rule_base.specs.StepKinds.{world_after}
 use Rattle.rule_base.specs.World.{World}
 use Rattle.rule_seq.specs.CglRule.{CglWorld}
@@ -12,7 +12,7 @@ use Rattle.stm_model.specs.declared.alg.Alg.{Alg}
 use Rattle.stm_model.specs.Algorithms.{takes_lock, irrevocable_under}
 use Rattle.rule_seq.specs.CglRuns.{CglStep, cgl_kind, CglMay, CglKeepsAlong, CglOpens, CglCommits}
 use Rattle.rule_seq.specs.CglRuns.CglStep.{acquires_lock, loads_start, loads_heap, stores_heap, stores_clock, frees_lock, loads_undo, loads_limit, stores_back}
-use Rattle.rule_seq.specs.CglOpening.{cgl_world-opening}
+use Rattle.rule_seq.proofs.CglOpening.{cgl_world-opening}
 use Rattle.rule_seq.specs.CglLaws as laws
 
 one_step : (good : (ℕ → ℕ) → Type 0) (c : Config) (n : ℕ) (s : CglStep) (w : World) → CglWorld good c w → CglMay good c n s (w.views n) → CglWorld good c (world_after (cgl_kind n s) n w)

@@ -7,7 +7,6 @@ pub mod CglSteps
 pub mod CglRuns
 pub mod LockLemmas
 pub mod CglLaws
-pub mod CglOpening
 pub mod TmlRule
 pub mod TmlSteps
 pub mod TmlLaws

@@ -1,0 +1,3 @@
+mod Picking
+mod RecordFindingLaws
+pub mod OthersLaws

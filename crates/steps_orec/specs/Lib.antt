@@ -1,5 +1,2 @@
-pub mod Picking
 pub mod Validating
 pub mod RecordFindings
-pub mod RecordFindingLaws
-pub mod OthersLaws

@@ -1,2 +1,1 @@
 pub mod RingFindings
-pub mod RingFindingLaws

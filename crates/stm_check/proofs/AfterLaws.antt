@@ -21,7 +21,7 @@ use Rattle.stm_text.specs.declared.parse.Mode.TheVariants.{Run, Step as Stepwise
 use Rattle.stm_text.specs.declared.parse.TheConstants.{MAX_TEXT}
 use Rattle.stm_text.specs.Parsed.{IsParsed, GoFits, ScheduleFits}
 use Rattle.stm_text.specs.Drafts.{Writing, after, opening}
-use Rattle.stm_text.specs.Giving.{Gives, gives-with, given}
+use Rattle.stm_text.proofs.Giving.{Gives, gives-with, given}
 use Rattle.stm_text.specs.Grammar.{keyless, one_word, step_of, ended, go_on, parsed, workload_of}
 use Rattle.stm_text.specs.LineLaws.{lines_of-first, lines_of-last, lacks-snoc}
 use Rattle.stm_text.specs.Lines.{Line, with_byte, lines_of, Lacks}

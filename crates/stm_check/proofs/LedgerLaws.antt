@@ -7,7 +7,7 @@ use Rattle.std.proofs.lemmas.List.Elements.{All-append, All-nil, All-head, All-t
 use Rattle.std.proofs.lemmas.List.Sums.{sum_by-set, sum_by-cons}
 use Rattle.stm_model.specs.Memories.{AreWords, overlay}
 use Rattle.stm_model.specs.Plains.{openings, writes_from, own_writes, value_of, settled, forgotten, change_first, any_own}
-use Rattle.stm_model.specs.Settling.{length-change_first, openings-settled, openings-forgotten, writes-changed}
+use Rattle.stm_model.proofs.Settling.{length-change_first, openings-settled, openings-forgotten, writes-changed}
 use Rattle.stm_model.specs.declared.plain.PlainWord.{PlainWord}
 use Rattle.stm_check.specs.Ledgers.{zero_word, one_where, owned, AreTouched}
 

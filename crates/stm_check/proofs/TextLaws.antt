@@ -13,7 +13,7 @@ use Rattle.stm_text.specs.Reports.{spaced, emitted, letter_of, row_line, row_lin
 use Rattle.stm_text.specs.Texts.{joined, line}
 use Rattle.stm_text.specs.Decimals.{StartsDigit, digits-decimal}
 use Rattle.stm_text.specs.LineLaws.{lines_of-first}
-use Rattle.stm_text.specs.Numbers.{number_of-decimal}
+use Rattle.stm_text.proofs.Numbers.{number_of-decimal}
 use Rattle.stm_text.specs.WordLaws.{seen, AllVisible, visible-decimal, joined-lacks, words_of-joined}
 use Rattle.stm_check.specs.declared.reading.TheConstants.{MAX_REPORT}
 use Rattle.stm_check.specs.declared.table.NextReportLine.{NextReportLine}

@@ -13,8 +13,8 @@ use Rattle.stm_text.specs.declared.code.TheConstants.{UNENDED, LONG_REPORT}
 use Rattle.stm_text.specs.Lines.{Line, lines_of, words_of, number_of}
 use Rattle.stm_text.specs.Reports.{letter_of, row_line, row_lines, memory_line, memory_lines, report_bytes, IsWord, RowFits}
 use Rattle.stm_text.specs.Texts.{line}
-use Rattle.stm_text.specs.Giving.{Gives, gives-with, given}
-use Rattle.stm_text.specs.Numbers.{Fits64, number_of-fits, number_of-says}
+use Rattle.stm_text.proofs.Giving.{Gives, gives-with, given}
+use Rattle.stm_text.proofs.Numbers.{Fits64, number_of-fits, number_of-says}
 use Rattle.stm_text.specs.WordLaws.{joined-words_of, end_of, unlines, unlines-lines_of}
 use Rattle.stm_check.specs.declared.reading.TheConstants.{MAX_REPORT}
 use Rattle.stm_check.specs.declared.table.NextReportLine.{NextReportLine}

@@ -17,7 +17,7 @@ use Rattle.stm_script.specs.declared.report.Report.{Report}
 use Rattle.stm_script.specs.declared.report.Row.{Row}
 use Rattle.stm_script.specs.declared.workload.Workload.{Workload}
 use Rattle.stm_script.specs.Operations.{replies, moved, effect_of}
-use Rattle.stm_script.specs.StructureLaws.{chain-insert-quiet, chain-remove-quiet, tree-insert-quiet, tree-remove-quiet, queue-put-quiet, queue-get-quiet, map-put-quiet, map-remove-quiet}
+use Rattle.stm_script.proofs.StructureLaws.{chain-insert-quiet, chain-remove-quiet, tree-insert-quiet, tree-remove-quiet, queue-put-quiet, queue-get-quiet, map-put-quiet, map-remove-quiet}
 use Rattle.stm_script.specs.Scripts.{run, run_row, KindFits}
 use Rattle.stm_script.specs.Reports.{RowFits, Replay, Replays, Shows, Ordered, AllAfter, IsBefore, Ascends, code, rank, writers, writers_by, writer_to, script_of, regions_of, zeros}
 use Rattle.stm_script.specs.Parts.{times, IsGathered, Part, PartIn, RowIn, RowOf, all_rows, by_kind}

@@ -30,7 +30,7 @@ use Rattle.stm_worker.specs.declared.worker.Worker.{Worker}
 use Rattle.stm_worker.specs.Leavings.{BeginsNext, IsPart, MadeIdle}
 use Rattle.stm_worker.specs.Courses.{all_installed}
 use Rattle.stm_worker.specs.Installs.{InstallsBy}
-use Rattle.stm_worker.specs.InstallLaws.{first-installs, open-installs}
+use Rattle.stm_worker.proofs.InstallLaws.{first-installs, open-installs}
 use Rattle.stm_worker.specs.Workers.{place_of, Works}
 use Rattle.stm_driver.specs.Preparings.{ParsedItem, Forms}
 use Rattle.stm_trace.specs.Adapting.{policy_for}

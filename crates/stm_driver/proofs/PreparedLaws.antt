@@ -27,11 +27,11 @@ use Rattle.stm_trace.specs.Places.{CallerProgress, caller_in, items_of}
 use Rattle.stm_worker.specs.declared.worker.Worker.{Worker}
 use Rattle.stm_trace.specs.Turns.{HasSizes}
 use Rattle.stm_worker.specs.Courses.{IsFresh, IsUncut, Knows, Went, all_installed}
-use Rattle.stm_worker.specs.InstallLaws.{installed-on, knows-append, uncut-append, went-append}
+use Rattle.stm_worker.proofs.InstallLaws.{installed-on, knows-append, uncut-append, went-append}
 use Rattle.stm_worker.specs.Workers.{place_of, Sound, IsFreshWorker}
 use Rattle.stm_worker.specs.Workers.{ItemsFit as OwnItems}
 use Rattle.stm_worker.specs.RiseCovers.{CountsNext, CoversBut, due_of, raised}
-use Rattle.stm_worker.specs.RiseCoverLaws.{starts-counts}
+use Rattle.stm_worker.proofs.RiseCoverLaws.{starts-counts}
 use Rattle.stm_trace.specs.Adapting.{policy_for}
 use Rattle.stm_driver.specs.AllWorkers.{AreMade, AreCallers}
 use Rattle.stm_script.specs.Workloads.{config_of}

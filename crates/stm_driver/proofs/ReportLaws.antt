@@ -27,7 +27,7 @@ use Rattle.stm_trace.specs.Turns.{IsOver}
 use Rattle.stm_worker.specs.declared.worker.Worker.{Worker}
 use Rattle.stm_worker.specs.Courses.{all_installed}
 use Rattle.stm_worker.specs.Installs.{InstallsBy}
-use Rattle.stm_worker.specs.InstallLaws.{courses-install}
+use Rattle.stm_worker.proofs.InstallLaws.{courses-install}
 use Rattle.stm_worker.specs.Workers.{place_of}
 use Rattle.stm_driver.specs.Preparings.{ParsedItem, Forms}
 use Rattle.stm_trace.specs.Adapting.{policy_for}

@@ -33,7 +33,7 @@ use Rattle.stm_driver.specs.declared.schedule.Halt.{Halt}
 use Rattle.stm_driver.specs.declared.schedule.Halt.TheVariants.{ClockFull, Memory}
 use Rattle.stm_worker.specs.declared.worker.Worker.{Worker}
 use Rattle.stm_driver.specs.Schedules.{places, place_at, AreSame, AreSound, debts, AreCovered, FoundFull, Plays, Took, Turns}
-use Rattle.stm_worker.specs.InstallLaws.{installed-on, knows-append, uncut-append, went-append}
+use Rattle.stm_worker.proofs.InstallLaws.{installed-on, knows-append, uncut-append, went-append}
 use Rattle.stm_worker.specs.Workers.{place_of, IsSame, Loaded, Sound, Turned}
 
 -- who found the clock full has no attempt open

@@ -17,7 +17,7 @@ use Rattle.stm_trace.specs.Turns.{BeforeTx, IsOver, MaySay}
 use Rattle.stm_worker.specs.declared.worker.Worker.{Worker}
 use Rattle.stm_worker.specs.Workers.{IsSame, IsUnderWay, Loaded, Sound, Starved, Turned, WhenInside, place_of}
 use Rattle.stm_worker.specs.RiseCovers.{CountsNext, CoversBut, uncovered_at, uncovered_by}
-use Rattle.stm_worker.specs.RiseCoverLaws.{alone-covers-but, none-failed, covers-all, covers-left, same-uncovered, turned-counts, turned-covers-but}
+use Rattle.stm_worker.proofs.RiseCoverLaws.{alone-covers-but, none-failed, covers-all, covers-left, same-uncovered, turned-counts, turned-covers-but}
 use Rattle.stm_driver.specs.AllWorkers.{Enough, IsCovered, MetLimit}
 use Rattle.stm_driver.proofs.ScheduleLaws.{full-between, self-same}
 

@@ -36,7 +36,7 @@ use Rattle.tx_answers.specs.declared.answers.Give.TheVariants.{Unchanged, ClockF
 use Rattle.tx_answers.specs.CallerState.{known_of, kept_under, written_under, granted_under, locked_under, is_in, is_closing, is_settled, zeros}
 use Rattle.tx_answers.specs.CallerStateLaws.{grows-same, ascending-append, within-append}
 use Rattle.stm_gate.specs.InnerLaws.{granted-same}
-use Rattle.stm_gate.specs.KeptLaws.{kept-same}
+use Rattle.stm_gate.proofs.KeptLaws.{kept-same}
 use Rattle.stm_gate.specs.LeavingLaws.{finds-full}
 use Rattle.stm_gate.specs.Logging.{item-touched}
 use Rattle.stm_gate.specs.Opacity.{later-seen}

@@ -8,7 +8,7 @@ use Rattle.std.proofs.lemmas.List.{get_or-set_same, get_or-set_other}
 use Rattle.tx_effects.specs.declared.insert.Insert.TheVariants.{Present}
 use Rattle.tx_effects.specs.Effects.{unchanged}
 use Rattle.tx_effects.specs.Keys.{has, keys_after, free_from}
-use Rattle.tx_effects.specs.KeyLaws.{has-with, keys-same}
+use Rattle.tx_effects.proofs.KeyLaws.{has-with, keys-same}
 use Rattle.tx_cells.specs.Chains.{keys, tag, tag_at, IsChains, inserted_by, inserted_in}
 use Rattle.tx_cells.specs.declared.chains.Chains.{Chains}
 use Rattle.tx_cells.specs.Counters.{count, sum_from, added_in}
@@ -21,7 +21,7 @@ use Rattle.stm_script.specs.declared.report.Kind.{Kind}
 use Rattle.stm_script.specs.declared.report.Kind.TheVariants.{W, R, C}
 use Rattle.stm_script.specs.declared.report.Row.{Row}
 use Rattle.stm_script.specs.Operations.{effect_of, moved, replies}
-use Rattle.stm_script.specs.StructureLaws.{chain-insert-length}
+use Rattle.stm_script.proofs.StructureLaws.{chain-insert-length}
 use Rattle.stm_script.specs.Scripts.{run, run_row, has_cancel, KindFits}
 use Rattle.stm_script.specs.Reports.{Replay}
 use Rattle.stm_gen.specs.Generated.{deposits}

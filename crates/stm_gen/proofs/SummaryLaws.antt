@@ -5,7 +5,7 @@ use Rattle.std.proofs.Math.Nat.{mod-eq_of_lt}
 use Rattle.std.proofs.lemmas.Bool.Decides.{nat_tests}
 use Rattle.std.proofs.Math.ListN.{length-replicate}
 use Rattle.tx_effects.specs.Keys.{AllAbove, Ascends, has, how_many, keys_of, with_tag}
-use Rattle.tx_effects.specs.KeyLaws.{keys-many, same-sets}
+use Rattle.tx_effects.proofs.KeyLaws.{keys-many, same-sets}
 use Rattle.tx_cells.specs.Chains.{keys, tag, tag_at}
 use Rattle.tx_cells.specs.Counters.{count, sum_from}
 use Rattle.tx_cells.specs.Structures.{list_of}

@@ -1,4 +1,3 @@
 pub mod Ends
-pub mod Laws
 pub mod Memory
 pub mod Adapters

@@ -7,6 +7,5 @@ pub mod HistoryLaws
 pub mod Plains
 pub mod PlainLaws
 pub mod Statements
-pub mod Settling
 pub mod Configs
 pub mod Algorithms

@@ -21,7 +21,7 @@ use Rattle.rule_base.specs.FenceLaws.{heap_without_fence-none}
 use Rattle.rule_base.specs.Encodings.{alg_of, holder_of}
 use Rattle.rule_base.specs.History.{word_now}
 use Rattle.rule_base.specs.Lemmas.HistoryLemmas.{merged, made_by-none}
-use Rattle.rule_base.specs.Lemmas.ListLemmas.{contains-cons, contains-none}
+use Rattle.rule_base.proofs.Lemmas.ListLemmas.{contains-cons, contains-none}
 use Rattle.rule_base.specs.Notes.{claimed, gathers}
 use Rattle.rule_base.specs.StepsRule.{all_rises}
 use Rattle.rule_base.specs.World.{World}

@@ -17,10 +17,10 @@ use Rattle.stm_rule.specs.Runs.CoreRuns.{CoreStep, core_kind, CoreMay}
 use Rattle.stm_rule.specs.Runs.CoreRuns.CoreStep.{announces, loads_gate, departs, aims, takes_gate, checks, reopens, settles, evens_clock, stores_base, stores_done, installs, of_cgl, of_tml, of_ring, looks_gate, seizes, grants, look_grants, move_grants, direct_loads, direct_stores, direct_commits, direct_raises_clock, direct_ups, returns, fences, fence_loads, fence_stores, fence_commits, unfences, hears, loads_end, of_orec, orec_grants, orec_grants_all, direct_releases}
 use Rattle.stm_rule.specs.Product.{Invariant}
 use Rattle.stm_rule.specs.Quiescence.{RestLasts, GrantedLasts}
-use Rattle.stm_rule.specs.Kinds.RestLaws.{quiet-rests, granted-rests}
+use Rattle.stm_rule.proofs.KindLaws.RestLaws.{quiet-rests, granted-rests}
 use Rattle.rule_orec.specs.OrecRuns.OrecStep.{orec_begins, orec_samples, orec_loads, orec_confirms, orec_clocks, orec_clocks_all, orec_passes, orec_lasts, orec_looks, orec_limits, orec_locks, orec_commits, orec_writes_back, orec_times, orec_olds, orec_ups, orec_own_loads, orec_saves, orec_places, orec_restores, orec_raises_clock}
 use Rattle.rule_base.specs.Fence.{without_fence}
-use Rattle.stm_rule.specs.Kinds.FencedRest.{rest-of, at-rest-of}
+use Rattle.stm_rule.proofs.KindLaws.FencedRest.{rest-of, at-rest-of}
 use Rattle.stm_rule.proofs.CoreLaws.{one_step}
 
 module _ (good : (ℕ → ℕ) → Type 0) (c : Config) where

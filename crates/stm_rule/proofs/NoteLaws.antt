@@ -5,7 +5,7 @@ use Rattle.rule_base.specs.declared.views.SeenHistory.{SeenHistory}
 use Rattle.rule_base.specs.declared.views.View.{View}
 use Rattle.rule_base.specs.Fence.{without_fence}
 use Rattle.stm_rule.specs.Kinds.Lifting.{learns-whole, loads_seat-whole}
-use Rattle.rule_base.specs.Lemmas.SeatLemmas.{seen-later}
+use Rattle.rule_base.proofs.Lemmas.SeatLemmas.{seen-later}
 use Rattle.rule_base.specs.Seating.{IsSeen}
 use Rattle.rule_base.specs.StepKinds.{Advances, world_after}
 use Rattle.rule_base.specs.World.{World}

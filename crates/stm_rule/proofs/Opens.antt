@@ -19,14 +19,14 @@ use Rattle.rule_base.specs.Lemmas.BridgeLemmas.{words_of-zeros}
 use Rattle.rule_base.specs.GateRule.{gate_projection, GateRule}
 use Rattle.rule_base.specs.InstallRule.{install_projection, InstallRule}
 use Rattle.rule_base.specs.RecordRule.{record_projection, RecordRule}
-use Rattle.rule_base.specs.Lemmas.ListLemmas.{contains-none}
+use Rattle.rule_base.proofs.Lemmas.ListLemmas.{contains-none}
 use Rattle.rule_base.specs.Opening.{first_view, opening_world}
 use Rattle.rule_base.specs.Places.{offset, size, InRange}
 use Rattle.stm_model.specs.Configs.{IsConfig, IsSmall, AreBlocks}
 use Rattle.rule_base.specs.Seating.{Claims, Seats}
-use Rattle.rule_base.specs.Lemmas.WordLemmas.{lies-write}
+use Rattle.rule_base.proofs.Lemmas.WordLemmas.{lies-write}
 use Rattle.rule_base.specs.World.{World, Lies, fetch}
-use Rattle.rule_seq.specs.CglOpening.{cgl_world-opening}
+use Rattle.rule_seq.proofs.CglOpening.{cgl_world-opening}
 use Rattle.stm_rule.specs.declared.refusal.NewError.TheVariants.{Words, Records, Ring, Callers, Logs, Marks}
 use Rattle.stm_rule.specs.declared.refusal.NewError.TheVariants as faults
 use Rattle.stm_rule.specs.declared.stm.Key.{Key}

@@ -18,7 +18,7 @@ use Rattle.stm_rule.specs.Runs.NoteRuns.{Shared, Deed, note_at, after_deed, Shar
 use Rattle.stm_rule.specs.Runs.NoteRuns.Deed.{steps, tells, learns, gathers}
 use Rattle.stm_rule.specs.Privatization.{IsBeside, LeavesAlone, is_direct, gives_back, AllLeaveAlone, RangeIsPrivate}
 use Rattle.stm_rule.specs.Product.{Invariant}
-use Rattle.stm_rule.specs.Kinds.Sparing.{spared}
+use Rattle.stm_rule.proofs.KindLaws.Sparing.{spared}
 use Rattle.stm_rule.proofs.NoteLaws.{one_deed}
 
 no : {P : Type 0} → true ≡ false → P

@@ -5,7 +5,7 @@ use Rattle.rule_base.specs.declared.entries.Entry.{Entry}
 use Rattle.rule_base.specs.Bridge.{public_history}
 use Rattle.rule_base.specs.Lemmas.BridgeLemmas.{public_history-append}
 use Rattle.rule_base.specs.History.{upto, Below}
-use Rattle.rule_base.specs.Lemmas.SeenLemmas.{upto-rest}
+use Rattle.rule_base.proofs.Lemmas.SeenLemmas.{upto-rest}
 use Rattle.stm_rule.specs.Runs.NoteRuns.{Shared, Deed, after_deed, after_deeds, SharedRule, MayDo, AllMay}
 use Rattle.stm_rule.specs.Runs.NoteRuns.Deed.{steps, tells, learns, gathers}
 use Rattle.stm_rule.specs.Callers.{BeginsHistory}

@@ -24,9 +24,9 @@ use Rattle.rule_ring.specs.RingRuns.RingStep.{ring_begins, ring_loads, ring_look
 use Rattle.stm_rule.specs.Kinds.Frames.{orec-world}
 use Rattle.rule_base.specs.Fence.{without_fence}
 use Rattle.stm_rule.specs.Kinds.Lifting.{Spares}
-use Rattle.stm_rule.specs.Kinds.SparingMore as sparing
+use Rattle.stm_rule.proofs.KindLaws.SparingMore as sparing
 use Rattle.stm_rule.specs.Product.{Runs, Core, Invariant}
-use Rattle.stm_rule.specs.Kinds.RestLaws.{nobody-else}
+use Rattle.stm_rule.proofs.KindLaws.RestLaws.{nobody-else}
 use Rattle.stm_model.specs.declared.alg.Alg.{Alg}
 use Rattle.stm_model.specs.declared.alg.Alg.TheVariants.{Cgl, Tml, OrecLazy, OrecEager, RingSw, Serial}
 use Rattle.stm_model.specs.Algorithms.{has_records}
@@ -36,7 +36,7 @@ use Rattle.rule_base.specs.RunProjection.{run_projection}
 use Rattle.rule_promoted.specs.PromotedRule.{Suits, OrecSuits, DirectRuns, suit_projection}
 use Rattle.rule_promoted.specs.PromotedSteps.{direct_release, CanDirectRelease}
 use Rattle.rule_promoted.specs.RaisingSteps.{direct_up, CanDirectUp}
-use Rattle.rule_promoted.specs.ReleaseRanks.{release-ranks, entry-covers, next-covers}
+use Rattle.rule_promoted.proofs.ReleaseRanks.{release-ranks, entry-covers, next-covers}
 use Rattle.stm_rule.specs.Kinds.Stamping.{CoreStamps}
 
 rank-view : (vs : ℕ → OrecView) (n q : ℕ) (v : OrecView) (k : Rec) → v.owned.held ≡ (vs n).owned.held → v.owned.eager ≡ (vs n).owned.eager

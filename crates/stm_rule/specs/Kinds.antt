@@ -1,22 +1,7 @@
--- The law of each kind of step, what it leaves of the other clauses, and its lift to the rule with a range.
+-- What a kind of step owes, what it leaves of the other clauses, and its lift to the rule with a range.
 pub mod Raised
 pub mod Running
 pub mod Frames
 pub mod Laws
-pub mod RecordLaws
-pub mod RingLaws
-pub mod ClosingLaws
-pub mod RestLaws
-pub mod InstallingLaws
-pub mod PromotionLaws
-pub mod RingPromotionLaws
-pub mod BesideLaws
 pub mod Stamping
-pub mod Allowing
 pub mod Lifting
-pub mod Sparing
-pub mod SparingMore
-pub mod Lifted
-pub mod FencedRest
-pub mod FencingLaws
-pub mod GivingLaws

@@ -16,9 +16,7 @@ pub mod RecordsKept
 pub mod EagerKept
 pub mod RingKept
 pub mod Attempts
-pub mod StandLemmas
 pub mod Callers
 pub mod Closings
-pub mod CallerLemmas
 pub mod Irrevocable
 pub mod Privatization

@@ -14,7 +14,7 @@ use Rattle.stm_script.specs.declared.report.Row.{Row}
 use Rattle.stm_script.specs.Operations.{replies, moved, effect_of}
 use Rattle.tx_cells.specs.Structures.{list_of, hash_of}
 use Rattle.stm_script.specs.Structures.{list_in, hash_in, tree_in, queue_in, sum_map_in}
-use Rattle.stm_script.specs.StructureLaws.{chain-insert-quiet, chain-remove-quiet, tree-insert-quiet, tree-remove-quiet, queue-put-quiet, queue-get-quiet, map-put-quiet, map-remove-quiet}
+use Rattle.stm_script.proofs.StructureLaws.{chain-insert-quiet, chain-remove-quiet, tree-insert-quiet, tree-remove-quiet, queue-put-quiet, queue-get-quiet, map-put-quiet, map-remove-quiet}
 use Rattle.stm_script.specs.Scripts.{run, run_row, KindFits}
 use Rattle.stm_script.specs.Reports.{RowFits}
 use Rattle.stm_script.specs.Parts.{RowOf, RowIn, by_kind, BeginsWith}

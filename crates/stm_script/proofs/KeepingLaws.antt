@@ -11,7 +11,7 @@ use Rattle.stm_script.specs.declared.op.Op.{Op}
 use Rattle.tx_regions.specs.declared.region.Region.{Region}
 use Rattle.stm_script.specs.Operations.{Effect, effect_of, OpFits, DoesOver, is_cancel}
 use Rattle.stm_script.specs.Scripts.{run, before_cancel}
-use Rattle.stm_script.specs.KeepingLaws.{length-effect}
+use Rattle.stm_script.proofs.KeptLogs.{length-effect}
 use Rattle.stm_script.specs.Statements.{OperationsKeepRegions}
 use Rattle.stm_script.specs.Keeping.{KeepsGood, OpKeeps, ScriptKeeps}
 

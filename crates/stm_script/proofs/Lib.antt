@@ -8,3 +8,5 @@ mod ReplayLaws
 mod FitLaws
 mod MergeLaws
 mod ReportLaws
+pub mod StructureLaws
+pub mod KeptLogs

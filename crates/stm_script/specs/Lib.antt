@@ -5,8 +5,6 @@ pub mod Scripts
 pub mod ScriptLaws
 pub mod Keeping
 pub mod Accesses
-pub mod StructureLaws
-pub mod KeepingLaws
 pub mod Statements
 pub mod Workloads
 pub mod Reports

@@ -33,8 +33,8 @@ use Rattle.stm_text.specs.Lines.{number_of}
 use Rattle.stm_text.specs.Drafts.{Writing, regions_where, with_field, after}
 use Rattle.stm_text.specs.Grammar.{◌>>=◌, named, formed, ranged, below, number, algorithm_of, algorithm, sized, switched, version_of, most_words, most_size, numbered_policy, policy_of, header_line, after_algorithm, next_line, next_region, kind_of, end_of, is_placed, placed, region_of}
 use Rattle.stm_text.specs.Parsed.{IsSized, Follow, RegionsOne, RegionsTwo, LayoutFits, HeaderFits, OpFits, ScriptFits, ItemFits, GoFits, all_turns, ScheduleFits}
-use Rattle.stm_text.specs.Giving.{Gives}
-use Rattle.stm_text.specs.Numbers.{Fits64, number_of-fits}
+use Rattle.stm_text.proofs.Giving.{Gives}
+use Rattle.stm_text.proofs.Numbers.{Fits64, number_of-fits}
 
 pub then-gives : {A B : Type 0} (P : A → Type 0) (Q : B → Type 0) (r : Result A ℕ) (next : A → Result B ℕ) → Gives P r → ((a : A) → P a → Gives Q (next a)) → Gives Q (r >>= next)
 then-gives P Q (Ok a) next h g = g a h

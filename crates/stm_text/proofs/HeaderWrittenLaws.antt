@@ -24,8 +24,8 @@ use Rattle.stm_text.specs.Lines.{number_of}
 use Rattle.stm_text.specs.Drafts.{Writing, regions_where, with_field}
 use Rattle.stm_text.specs.Grammar.{◌>>=◌, named, formed, ranged, below, number, algorithm_of, algorithm, sized, switched, version_of, most_words, numbered_policy, policy_of, header_line, after_algorithm, next_line, no_region}
 use Rattle.stm_text.specs.Texts.{switch_of, op_words, items_lines, version_word, region_words, layout_lines, header_lines, section_lines}
-use Rattle.stm_text.specs.Giving.{Gives, gives-with}
-use Rattle.stm_text.specs.Numbers.{number_of-says}
+use Rattle.stm_text.proofs.Giving.{Gives, gives-with}
+use Rattle.stm_text.proofs.Numbers.{number_of-says}
 use Rattle.stm_text.proofs.HeaderLaws.{then-gives, if-gives, if-else-gives, both-true, HeadAt}
 
 -- what an answer says of the words

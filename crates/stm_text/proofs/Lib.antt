@@ -12,3 +12,5 @@ pub mod WrittenLaws
 pub mod RegionLaws
 pub mod PartingLaws
 pub mod ReadingLaws
+pub mod Numbers
+pub mod Giving

@@ -37,7 +37,7 @@ use Rattle.stm_text.proofs.RegionLaws.{laid-by}
 use Rattle.stm_text.specs.LineLaws.{lines_of-first}
 use Rattle.stm_text.specs.Decimals.{StartsDigit, digits-decimal}
 use Rattle.stm_text.specs.WordLaws.{Visible, seen, AllVisible, visible-decimal, joined-good, joined-lacks, words_of-joined}
-use Rattle.stm_text.specs.Numbers.{number_of-decimal}
+use Rattle.stm_text.proofs.Numbers.{number_of-decimal}
 
 -- a line of words, and then the rest
 pub line-read : (m : Mode) (d : Writing) (k : ℕ) (w : List ℕ) (ws : List (List ℕ)) (rest : List ℕ) → AllVisible (w ∷ ws)

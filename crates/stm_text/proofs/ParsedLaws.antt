@@ -34,7 +34,7 @@ use Rattle.stm_text.specs.Lines.{Line, words_of, any_bad, number_of}
 use Rattle.stm_text.specs.Drafts.{Writing, after, opening}
 use Rattle.stm_text.specs.Grammar.{◌>>=◌, named, formed, ranged, below, number, algorithm, header_line, next_line, region_of, begun, changed, lengthened, added, emitted, has_region, has_structure, structured, planned, scheduled, caller_of, is_plain, plain_in, plain, address, operands, move_of, count_of, op_of, keyed, keyless, region_number, placed_keyless, placed_keyed, stripe_in, stripe_of, placed_count, map_put_of, map_sum_of, reserve_of, go_of, one_word, pair_op, triple_op, quadruple_op, quadruple_item, two_words, three_words, four_words, filled, by_words, step_of, ended, go_on, parsed}
 use Rattle.stm_text.specs.Parsed.{RegionsOne, LayoutFits, HeaderFits, IsFreeIn, IsFree, HasStructure, OpFits, IsAllowed, IsLength, ItemFits, GoFits, all_turns, ScheduleFits, IsParsed}
-use Rattle.stm_text.specs.Giving.{Gives}
+use Rattle.stm_text.proofs.Giving.{Gives}
 use Rattle.stm_text.proofs.OrderLaws.{order-snoc}
 use Rattle.stm_text.proofs.HeaderLaws.{then-gives, if-gives, if-else-gives, named-gives, formed-fits, below-fits, both-true, ranged-fits, gives-any, if-both, HeadAt, bare-fits, Puts, number-within, header_line-fits, IsFront, At, Sound, none-fit, none-planned, next-by, next-no_turns, Leaves, head-sound, regions-sound, region-sound}
 

@@ -39,7 +39,7 @@ use Rattle.stm_text.specs.Lines.{Line, lines_of, words_of, any_bad, number_of}
 use Rattle.stm_text.specs.Drafts.{Writing, with_field, after, opening}
 use Rattle.stm_text.specs.Grammar.{◌>>=◌, named, formed, ranged, below, number, algorithm, sized, most_size, header_line, after_algorithm, next_line, next_region, kind_name, kind_of, is_placed, placed, region_of, begun, changed, lengthened, added, emitted, has_structure, structured, planned, scheduled, caller_of, is_plain, no_region, plain_in, plain, address, operands, move_of, count_of, op_of, keyed, keyless, region_number, placed_keyless, placed_keyed, stripe_in, stripe_of, placed_count, map_put_of, map_sum_of, reserve_of, go_of, one_word, pair_op, triple_op, quadruple_op, quadruple_item, two_words, three_words, four_words, filled, by_words, step_of, ended, go_on, parsed, workload_of}
 use Rattle.stm_text.specs.Texts.{joined, line, op_words, item_lines, items_lines, region_words, header_lines, go_words, section_lines, schedule_lines, lines_with, lines_text, AreLinesOf, IsTextOf}
-use Rattle.stm_text.specs.Giving.{Gives, gives-with, given}
+use Rattle.stm_text.proofs.Giving.{Gives, gives-with, given}
 use Rattle.stm_text.specs.WordLaws.{joined-words_of, unlines, unlines-lines_of}
 use Rattle.stm_text.proofs.HeaderLaws.{then-gives, if-gives, unless-gives, if-else-gives, if-both, HeadAt, IsFront, At, Sound, Leaves}
 use Rattle.stm_text.proofs.ParsedLaws.{op_of-gives, filled-gives, step-sound, opening-sound}

@@ -8,8 +8,6 @@ pub mod Pieces
 pub mod Parting
 pub mod LineLaws
 pub mod Decimals
-pub mod Numbers
 pub mod WordLaws
-pub mod Giving
 pub mod Reading
 pub mod Limits

@@ -1,3 +1,5 @@
 pub mod Standing
 pub mod TellLaws
 pub mod OneWriter
+pub mod AskingLaws
+pub mod FairLaws

@@ -1,5 +1,4 @@
 pub mod Adapting
-pub mod AskingLaws
 pub mod Places
 pub mod Turns
 pub mod Fits
@@ -10,4 +9,3 @@ pub mod TurnLaws
 pub mod WholeLaws
 pub mod RoundLaws
 pub mod Told
-pub mod FairLaws

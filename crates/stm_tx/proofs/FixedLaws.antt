@@ -13,7 +13,7 @@ use Rattle.rule_seq.specs.LockLemmas.{one-taker}
 use Rattle.rule_seq.specs.LockRule.{lock_projection}
 use Rattle.stm_rule.specs.Irrevocable.{one-irrevocable}
 use Rattle.stm_rule.specs.Product.{Invariant}
-use Rattle.stm_gate.specs.Standing.{in-of}
+use Rattle.stm_gate.proofs.Standing.{in-of}
 use Rattle.tx_answers.specs.CallerState.{known_of, granted_under, locked_under, wrote}
 use Rattle.stm_tx.specs.Resting.{IsFixed}
 

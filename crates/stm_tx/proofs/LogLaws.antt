@@ -13,14 +13,14 @@ use Rattle.stm_rule.specs.declared.local.Local.{Local}
 use Rattle.rule_base.specs.Own.{Own}
 use Rattle.stm_rule.specs.Attempts.{IsInside, Keeps, Stands, good_by, own_of}
 use Rattle.stm_rule.specs.Callers.{Handle}
-use Rattle.stm_rule.specs.StandLemmas.{inside-of}
+use Rattle.stm_rule.proofs.StandLemmas.{inside-of}
 use Rattle.tx_logs.specs.Filters.{filter_word}
 use Rattle.stm_rule.specs.RecordsKept.{IsLazy, cells_of}
 use Rattle.stm_rule.specs.EagerKept.{IsEager}
 use Rattle.stm_rule.specs.RingKept.{IsRing}
 use Rattle.tx_answers.specs.CallerState.{granted_under, written_under}
-use Rattle.stm_gate.specs.KeptLaws.{member-touched}
-use Rattle.stm_gate.specs.Standing.{in-of}
+use Rattle.stm_gate.proofs.KeptLaws.{member-touched}
+use Rattle.stm_gate.proofs.Standing.{in-of}
 use Rattle.stm_tx.specs.Descs.{known}
 use Rattle.stm_tx.specs.Rings.{IsLogged, HasSeen}
 use Rattle.stm_tx.proofs.StripeLaws.{cells-member, filter-bit, mapped}

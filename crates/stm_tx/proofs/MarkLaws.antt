@@ -14,10 +14,10 @@ use Rattle.stm_rule.specs.Attempts.{own_of, IsInside, Keeps}
 use Rattle.stm_rule.specs.RecordsKept.{Buffers, HasMarks, IsWriteSet}
 use Rattle.tx_answers.specs.Answers.{IsMarked, Releases}
 use Rattle.tx_answers.specs.CallerState.{CallerState, known_of, written_under, is_irrevocable}
-use Rattle.stm_gate.specs.Cells.{items-cells}
-use Rattle.stm_gate.specs.Irrevocable.{irrevocable-of}
-use Rattle.stm_gate.specs.KeptLaws.{kept-same}
-use Rattle.stm_gate.specs.MarkLaws.{marks-more, marks-take, written-same}
+use Rattle.stm_gate.proofs.Cells.{items-cells}
+use Rattle.stm_gate.proofs.Irrevocable.{irrevocable-of}
+use Rattle.stm_gate.proofs.KeptLaws.{kept-same}
+use Rattle.stm_gate.proofs.MarkLaws.{marks-more, marks-take, written-same}
 
 -- what an attempt had written at each mark, the oldest first
 abbrev Marks : Type 0

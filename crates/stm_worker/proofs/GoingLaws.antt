@@ -10,7 +10,7 @@ use Rattle.stm_script.specs.declared.op.Op.{Op}
 use Rattle.stm_script.specs.declared.op.Op.TheVariants.{Read, Write, Add, Move, Emit, Irrev, Cancel, Count, Total, ListInsert, ListRemove, ListContains, ListLength, HashInsert, HashRemove, HashContains, TreeInsert, TreeRemove, TreeContains, TreeLeast, QueuePut, QueueGet, MapPut, MapRemove, MapGet, MapSum}
 use Rattle.tx_regions.specs.declared.region.Region.{Region}
 use Rattle.stm_script.specs.Keeping.{OpKeeps, ScriptKeeps}
-use Rattle.stm_script.specs.KeepingLaws.{keeps-gave, keeps-run}
+use Rattle.stm_script.proofs.KeptLogs.{keeps-gave, keeps-run}
 use Rattle.stm_model.specs.Algorithms.{irrevocable_under}
 use Rattle.stm_script.specs.Operations.{OpFits, ScriptFits, is_cancel, is_irrev, effect_of, emits_of, replies, moved}
 use Rattle.stm_script.specs.Outputs.{Output, HasRoom}
@@ -22,7 +22,7 @@ use Rattle.tx_tree.specs.Trees.{inserted_in as tree_inserted_in, removed_in as t
 use Rattle.tx_queue.specs.Queues.{put_in, got_in}
 use Rattle.tx_sums.specs.Sums.{put_in as map_put_in, removed_in as map_removed_in}
 use Rattle.stm_script.specs.Structures.{list_in, hash_in, tree_in, queue_in, sum_map_in}
-use Rattle.stm_script.specs.StructureLaws.{chain-insert-wrote, chain-remove-wrote, tree-insert-wrote, tree-remove-wrote}
+use Rattle.stm_script.proofs.StructureLaws.{chain-insert-wrote, chain-remove-wrote, tree-insert-wrote, tree-remove-wrote}
 use Rattle.stm_script.specs.Scripts.{run, before_cancel, has_cancel, has_irrev}
 use Rattle.stm_script.specs.ScriptLaws.{Gave, GaveOver, GivesOn, ran_one, gives-step, gives-none}
 use Rattle.tx_answers.specs.CallerState.{CallerState, is_irrevocable}

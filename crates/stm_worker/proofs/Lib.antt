@@ -8,3 +8,8 @@ mod TurnLaws
 mod LeaveLaws
 mod ReplyLaws
 mod StopLaws
+pub mod InstallLaws
+mod RiseLaws
+mod CoveredLaws
+mod CountLaws
+pub mod RiseCoverLaws

@@ -15,7 +15,7 @@ use Rattle.stm_model.specs.declared.stop.Stop.TheVariants as stops
 use Rattle.stm_script.specs.declared.workload.Header.{Header}
 use Rattle.stm_trace.specs.declared.said.Said.{Said}
 use Rattle.stm_trace.specs.declared.said.Said.TheVariants.{TryBegin, Reply, Stopped, TryCancel, TryIrrevocable, TryCommit, TryClose, Looked, Installed, Reserved, Idle, Dropped, Reopened}
-use Rattle.stm_trace.specs.FairLaws.{IsPlaceOf, fair-begin, fair-close, fair-look, fair-cancel, fair-irrevocable, fair-commit, fair-stop}
+use Rattle.stm_trace.proofs.FairLaws.{IsPlaceOf, fair-begin, fair-close, fair-look, fair-cancel, fair-irrevocable, fair-commit, fair-stop}
 use Rattle.stm_trace.specs.Places.{CallerProgress, clock_of}
 use Rattle.stm_trace.specs.Turns.{HasSizes, IsFair}
 use Rattle.tx_answers.specs.Answers.{Stays, Quits, Ends, Stops}

@@ -46,7 +46,7 @@ use Rattle.stm_trace.specs.declared.said.Phase.{Phase}
 use Rattle.stm_trace.specs.declared.said.Phase.TheVariants.{Between, Inside, Closing, Quiet}
 use Rattle.stm_trace.specs.declared.said.Said.{Said}
 use Rattle.stm_trace.specs.declared.said.Said.TheVariants.{TryBegin, Reply, Stopped, TryCancel, TryIrrevocable, TryCommit, TryClose, Looked, Installed, Reserved, Idle, Dropped, Reopened}
-use Rattle.stm_trace.specs.FairLaws.{IsPlaceOf}
+use Rattle.stm_trace.proofs.FairLaws.{IsPlaceOf}
 use Rattle.stm_trace.specs.Places.{CallerProgress, script_at, rest_of, ended, after, failed_next, granted_at, is_forced, must_next, most_failed, irrevocable, writes}
 use Rattle.stm_trace.specs.Places as places
 use Rattle.stm_trace.specs.Turns.{BeforeTx, Comes, HasSizes, IsFair, Lengthens, MaySay, MayWind, MustSwitchTo, Next, SwitchesTo, is_call}
@@ -54,7 +54,7 @@ use Rattle.stm_worker.specs.declared.worker.Worker.{Worker}
 use Rattle.stm_worker.specs.Goings.{Going, no_log, no_replies}
 use Rattle.stm_worker.specs.Tellings.{Tells, IsOutside, StoppedBy}
 use Rattle.stm_worker.specs.Courses.{IsUncut, MayTurn, installed, is_cut}
-use Rattle.stm_worker.specs.InstallLaws.{say-turn}
+use Rattle.stm_worker.proofs.InstallLaws.{say-turn}
 use Rattle.stm_worker.specs.Workers.{place_of, IsAt, IsCounted, IsKept, IsSame, IsUnderWay, ToSwitch, WhenInside, ItemsFit, DidFirst, Works, WorksSince, Stands, cleared, spares, WroteRow, EndsWith, adapted, Sound, Starved, Turned, Refused, stopped_by}
 use Rattle.stm_worker.proofs.Calls.{grew, nothing, commits, quits}
 use Rattle.stm_worker.proofs.GoingLaws.{wrote-one, going-begun, going-step, going-refused, going-asked, going-later, gave-all, gave-cut, cut-unasked}

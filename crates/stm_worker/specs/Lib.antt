@@ -1,13 +1,8 @@
 pub mod Installs
 pub mod Courses
-pub mod InstallLaws
 pub mod Goings
 pub mod Tellings
 pub mod Workers
 pub mod Rooms
 pub mod Leavings
 pub mod RiseCovers
-pub mod RiseLaws
-pub mod CoveredLaws
-pub mod CountLaws
-pub mod RiseCoverLaws

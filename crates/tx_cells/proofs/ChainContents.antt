@@ -6,7 +6,7 @@ use Rattle.tx_cells.specs.declared.chains.Chains.{Chains}
 use Rattle.tx_effects.specs.declared.insert.Insert.TheVariants.{Present}
 use Rattle.tx_effects.specs.Effects.{unchanged}
 use Rattle.tx_effects.specs.Keys.{has, keys_after, with_key, without_key, with_tag, free_from}
-use Rattle.tx_effects.specs.KeyLaws.{free-is, keys-set, without-with, without-none}
+use Rattle.tx_effects.proofs.KeyLaws.{free-is, keys-set, without-with, without-none}
 use Rattle.tx_cells.specs.Chains.{tag, tag_at, next_at, bucket, keys, Names, IsChains, position_of, linked, unlinked, inserted_by, inserted_in, removed_by, removed_in}
 use Rattle.tx_cells.proofs.ChainLaws.{Found, has-found}
 use Rattle.tx_cells.proofs.ChainOrder.{link-inside, three-other, three-second, three-first}

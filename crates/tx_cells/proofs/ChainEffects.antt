@@ -8,7 +8,7 @@ use Rattle.tx_effects.specs.declared.position.Position.{Position}
 use Rattle.tx_effects.specs.declared.insert.Insert.TheVariants.{Added, Present, NoRoom}
 use Rattle.tx_effects.specs.Effects.{unchanged, changed}
 use Rattle.tx_effects.specs.Keys.{has, free_from, less_one}
-use Rattle.tx_effects.specs.KeyLaws.{has-yes, free-is}
+use Rattle.tx_effects.proofs.KeyLaws.{has-yes, free-is}
 use Rattle.tx_cells.specs.Chains.{tag, tag_at, next_at, keys, IsChains, position_of, unlinked, contained_in, inserted_by, inserted_in, removed_by, removed_in}
 use Rattle.tx_cells.proofs.ChainLaws.{Found, position-found, has-found}
 use Rattle.tx_cells.proofs.ChainInserts.{linked-keeps}

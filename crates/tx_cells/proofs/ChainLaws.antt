@@ -5,7 +5,7 @@ use Rattle.std.proofs.lemmas.Bool.Decides.{nat_tests}
 use Rattle.tx_cells.specs.declared.chains.Chains.{Chains}
 use Rattle.tx_effects.specs.declared.position.Position.{Position}
 use Rattle.tx_effects.specs.Keys.{has, how_many, less_one}
-use Rattle.tx_effects.specs.KeyLaws.{how_many-more, how_many-most, how_many-none, has-yes, has-no}
+use Rattle.tx_effects.proofs.KeyLaws.{how_many-more, how_many-most, how_many-none, has-yes, has-no}
 use Rattle.tx_cells.specs.Chains.{next_at, tag, bucket, head_of, keys, Above, LinkOf, Names, IsChains, found_by, find, position_of}
 
 -- whether cell k is of chain b with a tag above low

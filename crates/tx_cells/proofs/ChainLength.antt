@@ -6,7 +6,7 @@ use Rattle.std.proofs.lemmas.Bool.Decides.{nat_tests}
 use Rattle.tx_effects.specs.Keys.{less_one}
 use Rattle.tx_cells.specs.declared.chains.Chains.{Chains}
 use Rattle.tx_effects.specs.Effects.{unchanged}
-use Rattle.tx_effects.specs.KeyLaws.{how_many-most, keys-many}
+use Rattle.tx_effects.proofs.KeyLaws.{how_many-most, keys-many}
 use Rattle.tx_cells.specs.Chains.{next_at, tag, keys, LinkOf, Names, IsChains, counted_in}
 use Rattle.tx_cells.proofs.ChainLaws.{is_above, left, left-step, left-none, is-above}
 

@@ -5,7 +5,7 @@ use Rattle.std.proofs.Math.Nat.{mod-lt}
 use Rattle.std.proofs.lemmas.Bool.Decides.{nat_tests}
 use Rattle.tx_effects.specs.Keys.{less_one}
 use Rattle.tx_cells.specs.declared.chains.Chains.{Chains}
-use Rattle.tx_effects.specs.KeyLaws.{how_many-most}
+use Rattle.tx_effects.proofs.KeyLaws.{how_many-most}
 use Rattle.tx_cells.specs.Chains.{next_at, tag, bucket, head_of, Above, LinkOf, Names, IsChains}
 use Rattle.tx_cells.proofs.ChainLaws.{left, left-step, left-some}
 use Rattle.tx_cells.specs.ChainWalks.{walk_by, walk, TagsAscend, Among}

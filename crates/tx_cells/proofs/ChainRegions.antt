@@ -7,7 +7,7 @@ use Rattle.tx_effects.specs.declared.insert.Insert.TheVariants.{Present}
 use Rattle.tx_effects.specs.Effects.{unchanged}
 use Rattle.tx_effects.specs.Keys.{has, free_from, less_one}
 use Rattle.tx_effects.specs.EffectLaws.{zero-at}
-use Rattle.tx_effects.specs.KeyLaws.{free-is}
+use Rattle.tx_effects.proofs.KeyLaws.{free-is}
 use Rattle.tx_cells.specs.Chains.{tag, tag_at, next_at, bucket, keys, Above, LinkOf, Names, IsChains, position_of, inserted_by, inserted_in, removed_by, removed_in}
 use Rattle.tx_cells.proofs.ChainLaws.{Found, has-found}
 use Rattle.tx_cells.proofs.ChainOrder.{three-other}

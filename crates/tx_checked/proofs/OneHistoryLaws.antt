@@ -11,11 +11,11 @@ use Rattle.rule_base.specs.Bridge.{public_history, of_words}
 use Rattle.rule_base.specs.History.{Below, upto}
 use Rattle.rule_base.specs.Lemmas.BridgeLemmas.{legal-public, public_history-append, public_history-made_by}
 use Rattle.rule_base.specs.Lemmas.HistoryLemmas.{below-upto, made_by-none}
-use Rattle.rule_base.specs.Lemmas.SeenLemmas.{upto-rest}
+use Rattle.rule_base.proofs.Lemmas.SeenLemmas.{upto-rest}
 use Rattle.rule_base.specs.World.{World}
 use Rattle.rule_base.specs.StepKinds.{LawAt}
 use Rattle.stm_rule.specs.Callers.{BeginsHistory, made_of, seen_of, front_of, taken_of, taken_front_of}
-use Rattle.stm_rule.specs.Kinds.Lifted.{hears}
+use Rattle.stm_rule.proofs.KindLaws.Lifted.{hears}
 use Rattle.stm_rule.specs.NoteSteps.{hear}
 use Rattle.stm_rule.specs.Product.{Invariant}
 use Rattle.tx_answers.specs.CallerState.{zeros}

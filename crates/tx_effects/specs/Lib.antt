@@ -3,6 +3,5 @@ pub mod Accesses
 pub mod EffectLaws
 pub mod FreshLaws
 pub mod Keys
-pub mod KeyLaws
 pub mod Tags
 pub mod Statements

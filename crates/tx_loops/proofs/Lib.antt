@@ -9,3 +9,4 @@ pub mod StageLaws
 pub mod StoreLaws
 pub mod WatchLaws
 pub mod WriteLaws
+pub mod AccessLaws

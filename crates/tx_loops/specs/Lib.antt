@@ -5,6 +5,5 @@ pub mod Watches
 pub mod Hindrances
 pub mod Loops
 pub mod Accesses
-pub mod AccessLaws
 pub mod Openings
 pub mod Ends

@@ -4,9 +4,9 @@ use Rattle.std.specs.Prelude.{◌&&◌, leb, ltb, if◌then◌else◌, slice_ind
 use Rattle.std.proofs.Math.Nat.{mod-add-mod, add-mod-mod, mod-lt, div-add-mod, add-mul-mod_self_left}
 use Rattle.std.proofs.lemmas.Bool.Decides.{nat_tests}
 use Rattle.tx_effects.specs.Effects.{unchanged}
-use Rattle.tx_effects.specs.KeyLaws.{how_many-most}
+use Rattle.tx_effects.proofs.KeyLaws.{how_many-most}
 use Rattle.tx_tree.specs.Shapes.{Ranges, LinkOf, Names, top}
-use Rattle.tx_tree.specs.ShapeWalks.{left, left-less, named-used, left-link, right-link}
+use Rattle.tx_tree.proofs.ShapeWalks.{left, left-less, named-used, left-link, right-link}
 use Rattle.tx_sums.specs.declared.sum_map.SumMap.{SumMap}
 use Rattle.tx_sums.specs.declared.sum_map.Passed.{Passed}
 use Rattle.tx_sums.specs.Sums.{pool, left_at, right_at, sum_at, tag, value, Holds, IsSumMap, sum_within, sum_under, step_to, passed_by, passed, pair_of, pairs_to, pairs, sum_of, summed_in}

@@ -6,9 +6,9 @@ use Rattle.std.proofs.lemmas.Bool.Decides.{nat_tests}
 use Rattle.tx_effects.specs.declared.position.Position.{Position}
 use Rattle.tx_effects.specs.Effects.{changed, unchanged}
 use Rattle.tx_effects.specs.Keys.{free_from}
-use Rattle.tx_effects.specs.KeyLaws.{free-is}
+use Rattle.tx_effects.proofs.KeyLaws.{free-is}
 use Rattle.tx_tree.specs.Shapes.{Names}
-use Rattle.tx_tree.specs.ShapeWalks.{Found, position-found}
+use Rattle.tx_tree.proofs.ShapeWalks.{Found, position-found}
 use Rattle.tx_sums.specs.declared.sum_map.SumMap.{SumMap}
 use Rattle.tx_sums.specs.declared.sum_map.MapPut.TheVariants.{Added, Replaced, NoRoom}
 use Rattle.tx_sums.specs.Sums.{pool, tag_at, value_at, sum_at, tag, value, IsSumMap, with_pair, pair_of, pairs_to, pairs, value_of, side_at, raised, mended_by, mended, attached, step_to, position_of, put_by, added_by, replaced_in, put_in}

@@ -6,10 +6,10 @@ use Rattle.std.proofs.lemmas.List.{get_or-set_same, get_or-set_other}
 use Rattle.std.proofs.lemmas.Bool.Decides.{nat_tests}
 use Rattle.tx_effects.specs.declared.position.Position.{Position}
 use Rattle.tx_effects.specs.Keys.{less_one}
-use Rattle.tx_effects.specs.KeyLaws.{how_many-most}
+use Rattle.tx_effects.proofs.KeyLaws.{how_many-most}
 use Rattle.tx_tree.specs.Shapes.{Ranges, LinkOf, Names}
-use Rattle.tx_tree.specs.ShapeWalks.{named-used, Found, position-found}
-use Rattle.tx_tree.specs.ShapeLeast.{Leftmost, leftmost-found}
+use Rattle.tx_tree.proofs.ShapeWalks.{named-used, Found, position-found}
+use Rattle.tx_tree.proofs.ShapeLeast.{Leftmost, leftmost-found}
 use Rattle.tx_sums.specs.declared.sum_map.SumMap.{SumMap}
 use Rattle.tx_sums.specs.Sums.{pool, HasWords, IsSumMap, Used, Holds, value, value_at, tag_at, left_at, right_at, step_to, tag, position_of, pairs, value_of, replaced_in, removed_in, taken_out, spliced, leftmost, moved_up, retagged, replaced_by}
 use Rattle.tx_sums.specs.Statements.{RemovesKey}

@@ -5,9 +5,9 @@ use Rattle.std.proofs.Math.ListN.{length-set}
 use Rattle.std.proofs.lemmas.List.{get_or-set_same, get_or-set_other}
 use Rattle.std.proofs.lemmas.Bool.Decides.{nat_tests}
 use Rattle.tx_effects.specs.Keys.{how_many}
-use Rattle.tx_effects.specs.KeyLaws.{how_many-most}
+use Rattle.tx_effects.proofs.KeyLaws.{how_many-most}
 use Rattle.tx_tree.specs.Shapes.{Ranges, Within, LinkOf, Names}
-use Rattle.tx_tree.specs.ShapeWalks.{is_within, left, left-less, named-used, left-link, right-link}
+use Rattle.tx_tree.proofs.ShapeWalks.{is_within, left, left-less, named-used, left-link, right-link}
 use Rattle.tx_sums.specs.declared.sum_map.SumMap.{SumMap}
 use Rattle.tx_sums.specs.Sums.{pool, tag_at, left_at, right_at, value_at, sum_at, tag, value, Used, Holds, side_at, raised, mended_by, mended}
 use Rattle.tx_sums.proofs.SumTrees.{Tree, due, holds-of, same-tree, same-link, same-used-old, within-same}

@@ -7,11 +7,11 @@ use Rattle.std.proofs.lemmas.Bool.Decides.{nat_tests}
 use Rattle.tx_effects.specs.declared.position.Position.{Position}
 use Rattle.tx_effects.specs.Effects.{Effect, changed, unchanged}
 use Rattle.tx_effects.specs.Keys.{free_from}
-use Rattle.tx_effects.specs.KeyLaws.{how_many-most, free-is}
+use Rattle.tx_effects.proofs.KeyLaws.{how_many-most, free-is}
 use Rattle.tx_tree.specs.Shapes.{Ranges, Within, LinkOf, Names, top}
-use Rattle.tx_tree.specs.ShapeWalks.{Found, position-found, word-inside, cell-inside}
-use Rattle.tx_tree.specs.ShapeOrder.{over, link-inside, link-used}
-use Rattle.tx_tree.specs.ShapeInserts.{attach-keeps, with_range}
+use Rattle.tx_tree.proofs.ShapeWalks.{Found, position-found, word-inside, cell-inside}
+use Rattle.tx_tree.proofs.ShapeOrder.{over, link-inside, link-used}
+use Rattle.tx_tree.proofs.ShapeInserts.{attach-keeps, with_range}
 use Rattle.tx_sums.specs.declared.sum_map.SumMap.{SumMap}
 use Rattle.tx_sums.specs.declared.sum_map.MapPut.{MapPut}
 use Rattle.tx_sums.specs.declared.sum_map.MapPut.TheVariants.{Added, Replaced, NoRoom}

@@ -6,10 +6,10 @@ use Rattle.std.proofs.lemmas.List.{get_or-set_other}
 use Rattle.std.proofs.lemmas.Bool.Decides.{nat_tests}
 use Rattle.tx_effects.specs.EffectLaws.{zero-at}
 use Rattle.tx_effects.specs.Keys.{free_from}
-use Rattle.tx_effects.specs.KeyLaws.{free-is}
+use Rattle.tx_effects.proofs.KeyLaws.{free-is}
 use Rattle.tx_tree.specs.Shapes.{Ranges, Names}
-use Rattle.tx_tree.specs.ShapeWalks.{Found, position-found}
-use Rattle.tx_tree.specs.ShapeSame.{same-shape, zeros-shape, Outside, out-of, link-place}
+use Rattle.tx_tree.proofs.ShapeWalks.{Found, position-found}
+use Rattle.tx_tree.proofs.ShapeSame.{same-shape, zeros-shape, Outside, out-of, link-place}
 use Rattle.tx_sums.specs.declared.sum_map.SumMap.{SumMap}
 use Rattle.tx_sums.specs.Sums.{pool, tag_at, left_at, right_at, value_at, sum_at, tag, value, Holds, LinksInside, sum_within, sum_under, pairs_to, raised, mended_by, mended, attached, step_to, side_at, position_of, put_by, added_by, put_in}
 use Rattle.tx_sums.specs.Statements.{SumsSubtrees, ZerosAreEmpty, DependsOnOwnWords, ChangesOwnWords}

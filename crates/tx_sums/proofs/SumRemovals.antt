@@ -5,9 +5,9 @@ use Rattle.std.proofs.Math.ListN.{length-set}
 use Rattle.std.proofs.lemmas.List.{get_or-set_same, get_or-set_other}
 use Rattle.std.proofs.lemmas.Bool.Decides.{nat_tests}
 use Rattle.tx_tree.specs.Shapes.{Ranges, Within, LinkOf, Names, Bounds, top}
-use Rattle.tx_tree.specs.ShapeWalks.{Found, position-found}
-use Rattle.tx_tree.specs.ShapeOrder.{link-one, link-inside, link-used}
-use Rattle.tx_tree.specs.ShapeSplices.{shift, shift-by, shifted, splice-keeps}
+use Rattle.tx_tree.proofs.ShapeWalks.{Found, position-found}
+use Rattle.tx_tree.proofs.ShapeOrder.{link-one, link-inside, link-used}
+use Rattle.tx_tree.proofs.ShapeSplices.{shift, shift-by, shifted, splice-keeps}
 use Rattle.tx_sums.specs.declared.sum_map.SumMap.{SumMap}
 use Rattle.tx_sums.specs.Sums.{pool, tag_at, left_at, right_at, value_at, sum_at, tag, value, Used, Holds, sum_within, spliced, position_of}
 use Rattle.tx_sums.proofs.SumTrees.{Tree, tree-of, holds-of, part, part-step, part-same, part-out}

@@ -4,9 +4,9 @@ use Rattle.std.specs.Prelude.{◌==◌, slice_index}
 use Rattle.std.proofs.lemmas.List.{get_or-set_same, get_or-set_other}
 use Rattle.std.proofs.lemmas.Bool.Decides.{nat_tests}
 use Rattle.tx_tree.specs.Shapes.{Ranges, LinkOf, top}
-use Rattle.tx_tree.specs.ShapeOrder.{link-inside}
-use Rattle.tx_tree.specs.ShapeSplices.{shift, shifted}
-use Rattle.tx_tree.specs.ShapeRetags.{retag-keeps, retag-in, retag-back, used-old}
+use Rattle.tx_tree.proofs.ShapeOrder.{link-inside}
+use Rattle.tx_tree.proofs.ShapeSplices.{shift, shifted}
+use Rattle.tx_tree.proofs.ShapeRetags.{retag-keeps, retag-in, retag-back, used-old}
 use Rattle.tx_sums.specs.declared.sum_map.SumMap.{SumMap}
 use Rattle.tx_sums.specs.Sums.{pool, tag_at, left_at, right_at, value_at, sum_at, tag, value, Used, Holds, sum_within, retagged}
 use Rattle.tx_sums.proofs.SumTrees.{part-step, part-same}

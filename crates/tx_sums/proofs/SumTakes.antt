@@ -8,11 +8,11 @@ use Rattle.tx_effects.specs.declared.position.Position.{Position}
 use Rattle.stm_model.specs.Logs.{Log}
 use Rattle.tx_effects.specs.Effects.{Shows, Turns, changed, unchanged}
 use Rattle.tx_effects.specs.Keys.{less_one}
-use Rattle.tx_effects.specs.KeyLaws.{how_many-most}
+use Rattle.tx_effects.proofs.KeyLaws.{how_many-most}
 use Rattle.tx_tree.specs.Shapes.{Ranges, Within, LinkOf, Names, Bounds, top}
-use Rattle.tx_tree.specs.ShapeWalks.{named-used, left-link, Found, position-found}
-use Rattle.tx_tree.specs.ShapeLeast.{Leftmost, leftmost-found, least-gap}
-use Rattle.tx_tree.specs.ShapeSplices.{shifted}
+use Rattle.tx_tree.proofs.ShapeWalks.{named-used, left-link, Found, position-found}
+use Rattle.tx_tree.proofs.ShapeLeast.{Leftmost, leftmost-found, least-gap}
+use Rattle.tx_tree.proofs.ShapeSplices.{shifted}
 use Rattle.tx_sums.specs.declared.sum_map.SumMap.{SumMap}
 use Rattle.tx_sums.specs.Sums.{pool, tag_at, left_at, right_at, value_at, sum_at, tag, value, Used, Holds, IsSumMap, LinksInside, LinksFrom, HasRight, IsLink, IsEmptied, sum_within, side_at, raised, mended_by, mended, step_to, spliced, retagged, leftmost, moved_up, replaced_by, least_taken, taken_out, taken_in, replaced_in, position_of, removed_by, removed_in}
 use Rattle.tx_sums.proofs.SumTrees.{Tree, tree-of, same-tree, same-link, same-used-old, part, part-in, part-out, within-set, mod-changes}

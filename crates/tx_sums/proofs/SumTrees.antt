@@ -5,8 +5,8 @@ use Rattle.std.proofs.Math.Nat.{add-mod-mod, mod-add-mod, add-mod_left}
 use Rattle.std.proofs.lemmas.Bool.Decides.{nat_tests}
 use Rattle.tx_tree.specs.Shapes.{Ranges, LinkOf}
 use Rattle.tx_tree.specs.Shapes as shapes
-use Rattle.tx_tree.specs.ShapeSame.{same-shape}
-use Rattle.tx_tree.specs.ShapeSame.{same-link as shape-link}
+use Rattle.tx_tree.proofs.ShapeSame.{same-shape}
+use Rattle.tx_tree.proofs.ShapeSame.{same-link as shape-link}
 use Rattle.tx_sums.specs.declared.sum_map.SumMap.{SumMap}
 use Rattle.tx_sums.specs.Sums.{pool, left_at, right_at, sum_at, tag, value, Used, sum_within, Holds}
 

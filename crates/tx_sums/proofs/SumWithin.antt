@@ -4,11 +4,11 @@ use Rattle.std.specs.Prelude.{◌==◌, if◌then◌else◌, Option, Some, None,
 use Rattle.std.proofs.lemmas.Bool.Decides.{nat_tests}
 use Rattle.tx_effects.specs.declared.position.Position.{Position}
 use Rattle.tx_effects.specs.Keys.{free_from, less_one}
-use Rattle.tx_effects.specs.KeyLaws.{free-is, how_many-most}
+use Rattle.tx_effects.proofs.KeyLaws.{free-is, how_many-most}
 use Rattle.tx_tree.specs.Shapes.{Ranges, LinkOf, Names}
-use Rattle.tx_tree.specs.ShapeWalks.{named-used, Found, position-found}
-use Rattle.tx_tree.specs.ShapeSame.{link-place}
-use Rattle.tx_tree.specs.ShapeLeast.{Leftmost, leftmost-found}
+use Rattle.tx_tree.proofs.ShapeWalks.{named-used, Found, position-found}
+use Rattle.tx_tree.proofs.ShapeSame.{link-place}
+use Rattle.tx_tree.proofs.ShapeLeast.{Leftmost, leftmost-found}
 use Rattle.tx_sums.specs.declared.sum_map.SumMap.{SumMap}
 use Rattle.tx_sums.specs.Sums.{pool, SumMapFits, HasWords, IsSumMap, Used, Holds, value, value_at, tag_at, left_at, right_at, step_to, tag, position_of, attached, put_by, added_by, put_in, replaced_in, removed_in, taken_out, spliced, leftmost, moved_up, retagged, replaced_by}
 use Rattle.tx_sums.specs.Statements.{RemovesWithin, WordsStay}

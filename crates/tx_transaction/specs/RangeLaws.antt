@@ -1,10 +1,10 @@
 -- What a memory has in its first words, or in a range of them: their sum, and how many pass a test.
 use Rattle.std.proofs.Common.{ℕ, suc, ◌≡◌, ◌≢◌, ◌<◌, ◌≤◌, ◌+◌, ◌-◌, ◌*◌, ◌∙◌, Bool, true, false, List, [], ◌∷◌, length, get_or, set, take, drop, sum, refl, sym, ap, arith, subst, length-take-le, get_or-take, get_or-drop, get_or-set_other, drop-set-lt}
-use Rattle.std.specs.Prelude.{sum_by, cond}
+use Rattle.std.specs.Prelude.{sum_by, cond, min}
 use Rattle.std.proofs.lemmas.Bool.Decides.{nat_tests}
 use Rattle.std.proofs.lemmas.Grind.{elements, get_or-set_at}
-use Rattle.std.proofs.lemmas.List.{take-set-le, drop-set-add, length-drop, get_or_default}
-use Rattle.std.proofs.lemmas.List.Sums.{sum_by-set, sum_by-le, get_or-le-sum_by}
+use Rattle.std.proofs.lemmas.List.{take-set-le, drop-set-add, length-drop, length-take, get_or_default}
+use Rattle.std.proofs.lemmas.List.Sums.{sum_by-set, sum_by-le, get_or-le-sum_by, count_by-le-length}
 use Rattle.std.proofs.Math.ListN.{length-set}
 use Rattle.std.proofs.Math.Seq.{take-set-lt}
 use Rattle.stm_model.specs.Memories.{written}
@@ -119,6 +119,16 @@ count-set passes m start end a v from lt le = within-set (λ x. cond (passes x) 
 pub count-past : (passes : ℕ → Bool) (m : List ℕ) (start end a v : ℕ) → end ≤ a → start ≤ end → count_in passes start end (set m a v) ≡ count_in passes start end m
 count-past passes m start end a v past from = within-past (λ x. cond (passes x) 1 0) m start end a v past from
 
+pub count-before : (passes : ℕ → Bool) (m : List ℕ) (start end a v : ℕ) → a < start → count_in passes start end (set m a v) ≡ count_in passes start end m
+count-before passes m start end a v before = within-before (λ x. cond (passes x) 1 0) m start end a v before
+
+-- they are no more than the range has
+pub count-most : (passes : ℕ → Bool) (m : List ℕ) (start end : ℕ) → count_in passes start end m ≤ end - start
+count-most passes m start end =
+    let few = count_by-le-length passes (words_in start end m) in
+    let long : length (words_in start end m) ≡ min (end - start) (length (drop start m)) = length-take (end - start) (drop start m) in
+    omega arith
+
 -- one that passes counts
 pub part-of-count : (passes : ℕ → Bool) (m : List ℕ) (start end a : ℕ) → start ≤ a → a < end → end ≤ length m → cond {A = ℕ} (passes (get_or m a 0)) 1 0 ≤ count_in passes start end m
 part-of-count passes m start end a from lt le = within-part (λ x. cond (passes x) 1 0) m start end a from lt le
@@ -149,4 +159,4 @@ pub ruleset range_steps = (arith, nat_tests, elements, part-of-range, range-set,
 -- for `omega`: such sums, where `grind` splits cases without end
 pub ruleset sum_facts = (arith, sum-set, sum-past, length-written, word-written, word-beside)
 
-pub ruleset range_facts = (arith, range-set, range-past, range-before, count-set, count-past, length-written, word-written, word-beside)
+pub ruleset range_facts = (arith, range-set, range-past, range-before, count-set, count-past, count-before, length-written, word-written, word-beside)

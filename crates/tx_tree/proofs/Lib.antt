@@ -4,3 +4,10 @@ pub mod TreeTakes
 pub mod TreeEffects
 pub mod TreeContents
 pub mod TreeRegions
+pub mod ShapeOrder
+pub mod ShapeSame
+pub mod ShapeWalks
+pub mod ShapeLeast
+pub mod ShapeInserts
+pub mod ShapeSplices
+pub mod ShapeRetags

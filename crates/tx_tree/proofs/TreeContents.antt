@@ -9,11 +9,11 @@ use Rattle.tx_effects.specs.declared.position.Position.{Position}
 use Rattle.tx_effects.specs.declared.insert.Insert.TheVariants.{Present}
 use Rattle.tx_effects.specs.Effects.{unchanged, changed}
 use Rattle.tx_effects.specs.Keys.{has, keys_after, with_key, without_key, with_tag, free_from, less_one}
-use Rattle.tx_effects.specs.KeyLaws.{free-is, keys-set, without-with, without-none, with-swap, how_many-most}
+use Rattle.tx_effects.proofs.KeyLaws.{free-is, keys-set, without-with, without-none, with-swap, how_many-most}
 use Rattle.tx_tree.specs.Shapes.{Ranges, Used, LinkOf, Names, Holds}
-use Rattle.tx_tree.specs.ShapeWalks.{Found, has-found}
-use Rattle.tx_tree.specs.ShapeOrder.{link-inside}
-use Rattle.tx_tree.specs.ShapeLeast.{Leftmost, leftmost-found}
+use Rattle.tx_tree.proofs.ShapeWalks.{Found, has-found}
+use Rattle.tx_tree.proofs.ShapeOrder.{link-inside}
+use Rattle.tx_tree.proofs.ShapeLeast.{Leftmost, leftmost-found}
 use Rattle.tx_tree.specs.Trees.{pool, tag_at, left_at, right_at, tag, keys, IsTree, position_of, attached, spliced, retagged, leftmost, replaced, taken_out, inserted_by, inserted_in, removed_in}
 use Rattle.tx_tree.proofs.TreeWrites.{spliced-tags, spliced-freed}
 use Rattle.tx_tree.proofs.TreeEffects.{found}

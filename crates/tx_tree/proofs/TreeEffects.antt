@@ -9,10 +9,10 @@ use Rattle.stm_model.specs.Logs.{Log, SameMemories}
 use Rattle.tx_effects.specs.Effects.{unchanged, changed, Under, DoesOver}
 use Rattle.tx_effects.specs.EffectLaws.{under-after}
 use Rattle.tx_effects.specs.Keys.{has, free_from, less_one}
-use Rattle.tx_effects.specs.KeyLaws.{has-yes, free-is}
+use Rattle.tx_effects.proofs.KeyLaws.{has-yes, free-is}
 use Rattle.tx_tree.specs.Shapes.{top}
-use Rattle.tx_tree.specs.ShapeWalks.{Found, position-found, has-found}
-use Rattle.tx_tree.specs.ShapeLeast.{leftmost-some}
+use Rattle.tx_tree.proofs.ShapeWalks.{Found, position-found, has-found}
+use Rattle.tx_tree.proofs.ShapeLeast.{leftmost-some}
 use Rattle.tx_tree.specs.Trees.{pool, tag, tag_at, left_at, right_at, keys, IsTree, position_of, spliced, retagged, leftmost, taken_out, contained_in, inserted_by, inserted_in, removed_in}
 use Rattle.tx_tree.proofs.TreeWrites.{attached-keeps}
 use Rattle.tx_tree.proofs.TreeTakes.{taken_out-keeps}

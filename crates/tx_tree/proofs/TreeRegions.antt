@@ -8,11 +8,11 @@ use Rattle.tx_effects.specs.declared.position.Position.{Position}
 use Rattle.tx_effects.specs.declared.insert.Insert.TheVariants.{Present}
 use Rattle.tx_effects.specs.Effects.{unchanged, changed}
 use Rattle.tx_effects.specs.Keys.{has, free_from, less_one}
-use Rattle.tx_effects.specs.KeyLaws.{free-is, has-yes, how_many-most}
+use Rattle.tx_effects.proofs.KeyLaws.{free-is, has-yes, how_many-most}
 use Rattle.tx_tree.specs.Shapes.{Ranges, Used, LinkOf, Names, Holds}
-use Rattle.tx_tree.specs.ShapeWalks.{Found, has-found}
-use Rattle.tx_tree.specs.ShapeSame.{same-shape, Outside, out-of, link-place}
-use Rattle.tx_tree.specs.ShapeLeast.{Leftmost, leftmost-found}
+use Rattle.tx_tree.proofs.ShapeWalks.{Found, has-found}
+use Rattle.tx_tree.proofs.ShapeSame.{same-shape, Outside, out-of, link-place}
+use Rattle.tx_tree.proofs.ShapeLeast.{Leftmost, leftmost-found}
 use Rattle.tx_tree.specs.Trees.{pool, tag_at, left_at, right_at, tag, keys, IsTree, position_of, spliced, leftmost, replaced, taken_out, inserted_by, inserted_in, removed_in}
 use Rattle.tx_tree.proofs.TreeEffects.{found}
 

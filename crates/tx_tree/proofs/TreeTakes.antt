@@ -8,13 +8,13 @@ use Rattle.tx_tree.specs.declared.tree.Tree.{Tree}
 use Rattle.tx_effects.specs.declared.position.Position.{Position}
 use Rattle.std.specs.Prelude.{Some, None}
 use Rattle.tx_effects.specs.Keys.{least, less_one}
-use Rattle.tx_effects.specs.KeyLaws.{how_many-most, least-is, least-none}
+use Rattle.tx_effects.proofs.KeyLaws.{how_many-most, least-is, least-none}
 use Rattle.tx_tree.specs.Shapes.{Ranges, Used, Within, LinkOf, Names, Holds, top}
-use Rattle.tx_tree.specs.ShapeOrder.{link-inside}
-use Rattle.tx_tree.specs.ShapeWalks.{left-link, named-used}
-use Rattle.tx_tree.specs.ShapeLeast.{Leftmost, leftmost-found, least-gap}
-use Rattle.tx_tree.specs.ShapeSplices.{shifted}
-use Rattle.tx_tree.specs.ShapeRetags.{retag-keeps}
+use Rattle.tx_tree.proofs.ShapeOrder.{link-inside}
+use Rattle.tx_tree.proofs.ShapeWalks.{left-link, named-used}
+use Rattle.tx_tree.proofs.ShapeLeast.{Leftmost, leftmost-found, least-gap}
+use Rattle.tx_tree.proofs.ShapeSplices.{shifted}
+use Rattle.tx_tree.proofs.ShapeRetags.{retag-keeps}
 use Rattle.tx_tree.specs.Trees.{pool, tag_at, left_at, right_at, tag, keys, IsTree, spliced, retagged, leftmost, replaced, taken_out}
 use Rattle.tx_tree.proofs.TreeWrites.{spliced-tags, spliced-freed, spliced-keeps}
 

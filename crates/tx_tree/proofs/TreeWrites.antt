@@ -7,10 +7,10 @@ use Rattle.std.proofs.lemmas.Bool.Decides.{nat_tests}
 use Rattle.tx_tree.specs.declared.tree.Tree.{Tree}
 use Rattle.tx_effects.specs.declared.position.Position.{Position}
 use Rattle.tx_tree.specs.Shapes.{Ranges, Used, LinkOf, Names, Holds}
-use Rattle.tx_tree.specs.ShapeWalks.{Found}
-use Rattle.tx_tree.specs.ShapeOrder.{over, link-one, link-used, link-inside}
-use Rattle.tx_tree.specs.ShapeInserts.{attach-keeps, with_range}
-use Rattle.tx_tree.specs.ShapeSplices.{splice-keeps, shifted}
+use Rattle.tx_tree.proofs.ShapeWalks.{Found}
+use Rattle.tx_tree.proofs.ShapeOrder.{over, link-one, link-used, link-inside}
+use Rattle.tx_tree.proofs.ShapeInserts.{attach-keeps, with_range}
+use Rattle.tx_tree.proofs.ShapeSplices.{splice-keeps, shifted}
 use Rattle.tx_tree.specs.Trees.{pool, tag_at, left_at, right_at, tag, IsTree, attached, spliced}
 
 -- a splice frees the cell, and leaves the other tags

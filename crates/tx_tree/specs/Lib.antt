@@ -1,10 +1,3 @@
 pub mod Shapes
-pub mod ShapeOrder
-pub mod ShapeSame
-pub mod ShapeWalks
-pub mod ShapeLeast
-pub mod ShapeInserts
-pub mod ShapeSplices
-pub mod ShapeRetags
 pub mod Trees
 pub mod Statements

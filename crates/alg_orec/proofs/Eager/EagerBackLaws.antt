@@ -18,7 +18,7 @@ use Rattle.rule_orec.specs.OrecSteps.{orec_raise_clock, CanOrecRaiseClock}
 use Rattle.stm_gate.specs.Leaving.{CanLeave, left}
 use Rattle.stm_gate.specs.LeavingLaws.{IsUnmade}
 use Rattle.stm_gate.specs.Logging.{item-touched}
-use Rattle.stm_gate.specs.Peeling.{no-items}
+use Rattle.stm_gate.proofs.Peeling.{no-items}
 use Rattle.stm_rule.specs.declared.local.Local.{Local}
 use Rattle.stm_rule.specs.Attempts.{IsOutside}
 use Rattle.steps_orec.specs.RecordFindings.{FindsClock}

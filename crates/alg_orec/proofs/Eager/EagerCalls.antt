@@ -11,7 +11,7 @@ use Rattle.stm_rule.specs.Callers.{Handle}
 use Rattle.stm_rule.specs.EagerKept.{IsEager}
 use Rattle.tx_answers.specs.CallerState.{IsRunning}
 use Rattle.stm_gate.specs.Knowing.{known}
-use Rattle.stm_gate.specs.Standing.{runs-of}
+use Rattle.stm_gate.proofs.Standing.{runs-of}
 use Rattle.alg_orec.proofs.Eager.EagerProving.{eager-of, plain-of}
 
 -- an attempt that was not promoted, between two of its calls

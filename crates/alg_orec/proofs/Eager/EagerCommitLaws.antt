@@ -33,12 +33,12 @@ use Rattle.stm_gate.specs.Leaving.{CanLeave, left}
 use Rattle.stm_gate.specs.LeavingLaws.{IsUnmade, unmade-refl, ended-left, step_trace-left, finds-full, found-later}
 use Rattle.stm_gate.specs.Logging.{item-touched}
 use Rattle.stm_gate.specs.Opacity.{opaque-inside, later-seen}
-use Rattle.stm_gate.specs.Told.{running-by}
+use Rattle.stm_gate.proofs.Told.{running-by}
 use Rattle.stm_rule.specs.declared.local.Local.{Local}
 use Rattle.stm_rule.specs.Attempts.{own_of, IsInside, IsOutside, HasRoom, Stands, StandsBy}
 use Rattle.stm_rule.specs.Attempts as attempts
 use Rattle.stm_rule.specs.EagerKept.{IsEager}
-use Rattle.steps_orec.specs.OthersLaws.{clock-others}
+use Rattle.steps_orec.proofs.OthersLaws.{clock-others}
 use Rattle.steps_orec.specs.RecordFindings.{FindsClock, FindsCommit, Enters}
 use Rattle.tx_answers.specs.declared.answers.Cancel.TheVariants.{Cancelled}
 use Rattle.tx_answers.specs.declared.answers.Commit.TheVariants as commits

@@ -29,7 +29,7 @@ use Rattle.stm_gate.specs.Leaving.{CanLeave, left}
 use Rattle.stm_gate.specs.LeavingLaws.{Carried, IsRaised, commits-left, ended-raised}
 use Rattle.stm_gate.specs.Logging.{wrote-some}
 use Rattle.stm_gate.specs.Opacity.{opaque-inside}
-use Rattle.stm_gate.specs.Peeling.{no-items}
+use Rattle.stm_gate.proofs.Peeling.{no-items}
 use Rattle.steps_orec.specs.RecordFindings.{FindsStill}
 use Rattle.rule_promoted.specs.RaisingSteps.{direct_raise_clock, CanDirectRaiseClock}
 use Rattle.stm_rule.specs.declared.local.Local.{Local}

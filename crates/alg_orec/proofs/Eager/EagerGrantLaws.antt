@@ -14,7 +14,7 @@ use Rattle.stm_rule.specs.EagerKept.{IsEager}
 use Rattle.tx_answers.specs.declared.answers.Irrev.TheVariants as irrevs
 use Rattle.tx_answers.specs.CallerState.{known_of, has_written}
 use Rattle.stm_gate.specs.Granting.{Grants}
-use Rattle.stm_gate.specs.Peeling.{no-items}
+use Rattle.stm_gate.proofs.Peeling.{no-items}
 use Rattle.alg_orec.specs.EagerEnding.{CanAbortEager, AbortsEager}
 use Rattle.alg_orec.specs.Granting.{CanPromote, IsPromoted, IsNotPromoted}
 use Rattle.alg_orec.proofs.Eager.EagerProving.{eager-of, ended-by, held-within, length-none, never-held, no-writes, none-held, quits-back}

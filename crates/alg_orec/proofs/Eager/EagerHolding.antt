@@ -7,7 +7,7 @@ use Rattle.rule_base.specs.declared.entries.Cell.{Cell}
 use Rattle.rule_base.specs.declared.views.View.{View}
 use Rattle.rule_base.specs.History.{touches}
 use Rattle.rule_base.specs.Ranks.{home_of}
-use Rattle.stm_gate.specs.Peeling.{no-items}
+use Rattle.stm_gate.proofs.Peeling.{no-items}
 use Rattle.stm_rule.specs.declared.local.Local.{Local}
 use Rattle.stm_rule.specs.EagerKept.{IsEager}
 use Rattle.alg_orec.proofs.Eager.EagerProving.{length-none}

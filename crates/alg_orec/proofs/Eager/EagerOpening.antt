@@ -16,7 +16,7 @@ use Rattle.tx_answers.specs.Answers.{HasRead, HasWritten}
 use Rattle.tx_answers.specs.CallerState.{CallerState, IsRunning, known_of}
 use Rattle.tx_logs.specs.LogStates.{LogState}
 use Rattle.stm_gate.specs.Knowing.{known, number}
-use Rattle.stm_gate.specs.Opening.{opened, shows, tells-of}
+use Rattle.stm_gate.proofs.Opening.{opened, shows, tells-of}
 use Rattle.alg_orec.proofs.Eager.EagerCalls.{RunsEager, runs-eager}
 use Rattle.alg_orec.proofs.Eager.EagerProving.{held-within}
 use Rattle.alg_orec.proofs.Eager.EagerLaws as laws

@@ -14,7 +14,7 @@ use Rattle.rule_base.specs.declared.views.View.{View}
 use Rattle.rule_base.specs.Bridge.{addresses, items}
 use Rattle.rule_base.specs.Own.{Own}
 use Rattle.stm_gate.specs.LeavingLaws.{IsUnmade, quits-left, step_trace-left}
-use Rattle.stm_gate.specs.Peeling.{no-items}
+use Rattle.stm_gate.proofs.Peeling.{no-items}
 use Rattle.stm_rule.specs.declared.local.Local.{Local}
 use Rattle.stm_rule.specs.Attempts.{Keeps, IsInside}
 use Rattle.stm_rule.specs.EagerKept.{IsEager}

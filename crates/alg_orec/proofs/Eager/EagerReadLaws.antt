@@ -36,7 +36,7 @@ use Rattle.stm_rule.specs.declared.local.Local.{Local}
 use Rattle.stm_rule.specs.Attempts.{own_of, IsInside}
 use Rattle.stm_rule.specs.Callers.{Handle, IsSameCaller}
 use Rattle.stm_rule.specs.EagerKept.{IsEager}
-use Rattle.steps_orec.specs.OthersLaws.{left-found, moved-others}
+use Rattle.steps_orec.proofs.OthersLaws.{left-found, moved-others}
 use Rattle.steps_orec.specs.RecordFindings.{FindsAgain}
 use Rattle.tx_answers.specs.declared.answers.Read.{Read}
 use Rattle.tx_answers.specs.declared.answers.Read.TheVariants as reads
@@ -50,7 +50,7 @@ use Rattle.alg_orec.proofs.Eager.EagerCalls.{RunsEager}
 use Rattle.alg_orec.proofs.Eager.EagerLaws as laws
 use Rattle.alg_orec.proofs.Eager.EagerProving.{ended-by, written}
 use Rattle.alg_orec.proofs.Eager.EagerTakingLaws as taking
-use Rattle.stm_gate.specs.KeptLaws.{kept-same}
+use Rattle.stm_gate.proofs.KeptLaws.{kept-same}
 use Rattle.alg_orec.proofs.LoadLaws.{free-word, untouched-loads}
 use Rattle.tx_logs.specs.Probing.{IsPlace}
 use Rattle.alg_orec.proofs.RecordReads as records

@@ -25,9 +25,9 @@ use Rattle.tx_answers.specs.Answers.{Rolls, kept_rolled}
 use Rattle.tx_answers.specs.Causes.{has_item}
 use Rattle.tx_answers.specs.CallerState.{CallerState, known_of, kept_under, written_under}
 use Rattle.tx_logs.specs.LogStates.{LogState, rolled, firsts}
-use Rattle.stm_gate.specs.Peeling.{has-touched}
-use Rattle.stm_gate.specs.RollItems.{has-by, has-take, first-addresses, first-fewer}
-use Rattle.stm_gate.specs.Told.{stands-on}
+use Rattle.stm_gate.proofs.Peeling.{has-touched}
+use Rattle.stm_gate.proofs.RollItems.{has-by, has-take, first-addresses, first-fewer}
+use Rattle.stm_gate.proofs.Told.{stands-on}
 use Rattle.alg_orec.proofs.Eager.EagerNestingLaws.{kept}
 use Rattle.alg_orec.proofs.Eager.EagerProving.{plain-of}
 use Rattle.alg_orec.proofs.Eager.EagerReleasing.{restore_item}

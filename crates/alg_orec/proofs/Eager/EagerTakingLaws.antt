@@ -37,7 +37,7 @@ use Rattle.stm_gate.specs.LeavingLaws.{found-earlier}
 use Rattle.stm_gate.specs.Logging.{put-new}
 use Rattle.stm_rule.specs.Alone.{left_at}
 use Rattle.stm_rule.specs.declared.local.Local.{Local}
-use Rattle.steps_orec.specs.OthersLaws.{left-found, moved-others}
+use Rattle.steps_orec.proofs.OthersLaws.{left-found, moved-others}
 use Rattle.steps_orec.specs.RecordFindings.{FindsClock, FindsRecord}
 use Rattle.tx_answers.specs.Causes.{Conflicts, IsInTheWay}
 use Rattle.tx_answers.specs.Causes.Asked.{ForWord}

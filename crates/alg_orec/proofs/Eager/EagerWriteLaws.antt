@@ -27,12 +27,12 @@ use Rattle.rule_base.specs.Own.{Own}
 use Rattle.rule_base.specs.Ranks.{home_of}
 use Rattle.rule_base.specs.StepKinds.{Nothing, Tells}
 use Rattle.rule_orec.specs.OrecSteps.{orec_place, CanOrecPlace}
-use Rattle.stm_gate.specs.KeptLaws.{cells-longer, cells-shorter, kept-put, kept-there, length-addresses, member-item}
+use Rattle.stm_gate.proofs.KeptLaws.{cells-longer, cells-shorter, kept-put, kept-there, length-addresses, member-item}
 use Rattle.stm_gate.specs.Leaving.{left}
 use Rattle.stm_gate.specs.LeavingLaws.{step_trace-left, finds-full, found-later}
 use Rattle.stm_gate.specs.Logging.{put-new}
 use Rattle.stm_gate.specs.Opacity.{opaque-at}
-use Rattle.stm_gate.specs.Peeling.{has-touched}
+use Rattle.stm_gate.proofs.Peeling.{has-touched}
 use Rattle.stm_rule.specs.declared.local.Local.{Local}
 use Rattle.stm_rule.specs.Attempts.{own_of, IsInside, HasRoom}
 use Rattle.stm_rule.specs.Attempts as attempts

@@ -38,12 +38,12 @@ use Rattle.tx_answers.specs.CallerState.{Grows, known_of, granted_under, written
 use Rattle.tx_answers.specs.CallerStateLaws.{grows-same}
 use Rattle.stm_gate.specs.LeavingLaws.{IsUnmade}
 use Rattle.stm_gate.specs.Opacity.{later-seen}
-use Rattle.stm_gate.specs.Peeling.{has-touched}
+use Rattle.stm_gate.proofs.Peeling.{has-touched}
 use Rattle.alg_orec.specs.Committing.{CanCommit, readied, Owed, IsReady, IsStopped, Prepares}
 use Rattle.alg_orec.specs.Ending.{CanAbortLazy}
 use Rattle.alg_orec.specs.Locking.{holding_still, lock_item, CanLockAll, WasFree, IsRefused, Holds, LocksEach, StopsLocking}
 use Rattle.alg_orec.specs.Validating.{load_of, OnlyLoads, CanValidate, Refuses, IsFoundStale, IsHeldNewer, IsStale, IsValid, Validates}
-use Rattle.stm_gate.specs.Cells.{items-cells}
+use Rattle.stm_gate.proofs.Cells.{items-cells}
 use Rattle.alg_orec.proofs.Proving.{lazy-of}
 
 -- loads change no word

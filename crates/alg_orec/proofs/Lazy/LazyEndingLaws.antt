@@ -20,7 +20,7 @@ use Rattle.stm_gate.specs.Leaving.{CanLeave, left}
 use Rattle.stm_gate.specs.LeavingLaws.{unmade-refl, ended-left}
 use Rattle.stm_gate.specs.Opacity.{opaque-inside}
 use Rattle.alg_orec.specs.Ending.{CanAbortLazy, GivesUp}
-use Rattle.stm_gate.specs.Cells.{items-cells}
+use Rattle.stm_gate.proofs.Cells.{items-cells}
 use Rattle.alg_orec.proofs.Proving.{lazy-of, with_commit, ends-own}
 
 module _ (good : List ℕ → Type 0) (c : Config) (n : ℕ) (l : Local) (v : View) (i : IsInside good c n l v) (lazy : v.gate.algorithm ≡ OrecLazy) where

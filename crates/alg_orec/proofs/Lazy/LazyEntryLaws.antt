@@ -34,7 +34,7 @@ use Rattle.rule_orec.specs.OrecSteps.{HasOrec, orec_limit, orec_entry, orec_comm
 use Rattle.stm_rule.specs.declared.local.Local.{Local}
 use Rattle.stm_rule.specs.Attempts.{IsInside, IsOutside, HasRoom, Stands, StandsBy, ended}
 use Rattle.stm_rule.specs.RecordsKept.{cells_of, IsLazy}
-use Rattle.steps_orec.specs.OthersLaws.{clock-others}
+use Rattle.steps_orec.proofs.OthersLaws.{clock-others}
 use Rattle.steps_orec.specs.RecordFindings.{FindsClock, FindsCommit, Enters}
 use Rattle.tx_answers.specs.Answers.{Quits, Commits, CommitsAt, KeepsRule, entry}
 use Rattle.tx_answers.specs.declared.answers.Commit.TheVariants as commits
@@ -47,8 +47,8 @@ use Rattle.alg_orec.specs.Ending.{CanAbortLazy, GivesUp}
 use Rattle.alg_orec.specs.Validating.{load_of}
 use Rattle.alg_orec.proofs.AgainLaws as again
 use Rattle.alg_orec.proofs.AgainLaws.{tried}
-use Rattle.stm_gate.specs.Cells.{items-cells, cells-some}
-use Rattle.stm_gate.specs.KeptLaws.{kept-same}
+use Rattle.stm_gate.proofs.Cells.{items-cells, cells-some}
+use Rattle.stm_gate.proofs.KeptLaws.{kept-same}
 use Rattle.alg_orec.proofs.Lazy.LazyCommitLaws as laws
 use Rattle.alg_orec.proofs.Proving.{Leads, conflicts-later, lazy-of, with_commit, quits-back, ended-by, quits-leads, full-leads, commits-leads}
 use Rattle.stm_gate.specs.InnerLaws.{unlocked-of}

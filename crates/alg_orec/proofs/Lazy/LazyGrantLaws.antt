@@ -23,7 +23,7 @@ use Rattle.stm_gate.specs.Granting.{Grants}
 use Rattle.alg_orec.specs.Ending.{CanAbortLazy, GivesUp}
 use Rattle.alg_orec.specs.Granting.{CanPromote, promoted_at, IsPromoted, IsNotPromoted, CanStoreAll, StoresAll}
 use Rattle.alg_orec.specs.Validating.{load_of}
-use Rattle.stm_gate.specs.Cells.{items-cells, cells-some}
+use Rattle.stm_gate.proofs.Cells.{items-cells, cells-some}
 use Rattle.alg_orec.proofs.GrantOpening.{CanGrant}
 use Rattle.alg_orec.proofs.GrantOpening as opening
 use Rattle.alg_orec.proofs.Proving.{lazy-of, quits-back, ended-by}

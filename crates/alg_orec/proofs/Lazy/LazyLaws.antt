@@ -36,12 +36,12 @@ use Rattle.tx_answers.specs.CallerState.{known_of, granted_under, kept_under, wr
 use Rattle.tx_answers.specs.CallerStateLaws.{grows-same}
 use Rattle.tx_logs.specs.declared.push.Push.TheVariants as pushes
 use Rattle.tx_logs.specs.LogStates.{LogState, Pushes}
-use Rattle.stm_gate.specs.KeptLaws.{kept-put, length-addresses, member-item}
+use Rattle.stm_gate.proofs.KeptLaws.{kept-put, length-addresses, member-item}
 use Rattle.stm_gate.specs.Logging.{put-new}
 use Rattle.stm_gate.specs.Opacity.{opaque-inside}
 use Rattle.stm_gate.specs.Starts.{CanBegin, StartsAt}
-use Rattle.stm_gate.specs.Cells.{items-cells}
-use Rattle.stm_gate.specs.CellLogs.{once-put, inside-put, small-put, apart-put, some-put}
+use Rattle.stm_gate.proofs.Cells.{items-cells}
+use Rattle.stm_gate.proofs.CellLogs.{once-put, inside-put, small-put, apart-put, some-put}
 use Rattle.alg_orec.proofs.RecordReads as reads
 use Rattle.alg_orec.proofs.RecordReads.{IsReading}
 use Rattle.alg_orec.specs.Ending.{GivesUp}

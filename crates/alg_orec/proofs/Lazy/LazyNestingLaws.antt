@@ -16,8 +16,8 @@ use Rattle.tx_answers.specs.declared.answers.Roll.TheVariants.{Rolled}
 use Rattle.tx_answers.specs.Answers.{Rolls, kept_rolled}
 use Rattle.tx_answers.specs.CallerState.{CallerState, known_of, kept_under, written_under}
 use Rattle.tx_logs.specs.LogStates.{LogState, rolled}
-use Rattle.stm_gate.specs.MarkLaws.{marks-take}
-use Rattle.stm_gate.specs.Cells.{items-cells}
+use Rattle.stm_gate.proofs.MarkLaws.{marks-take}
+use Rattle.stm_gate.proofs.Cells.{items-cells}
 use Rattle.alg_orec.proofs.NestingOpening.{GoesOn, inside-with, stands-with, rolls-log}
 use Rattle.alg_orec.proofs.Proving.{lazy-of}
 

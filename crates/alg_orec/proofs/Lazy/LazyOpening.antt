@@ -7,11 +7,11 @@ use Rattle.stm_rule.specs.declared.stm.Stm.{Stm}
 use Rattle.stm_rule.specs.Attempts.{IsInside, Stands, good_by, own_of}
 use Rattle.stm_rule.specs.Callers.{Handle, IsOf, IsTied}
 use Rattle.stm_rule.specs.RecordsKept.{IsLazy}
-use Rattle.stm_rule.specs.StandLemmas.{inside-of}
+use Rattle.stm_rule.proofs.StandLemmas.{inside-of}
 use Rattle.tx_answers.specs.CallerState.{CallerState, IsRunning}
 use Rattle.stm_gate.specs.Knowing.{known}
-use Rattle.stm_gate.specs.Opening.{opened}
-use Rattle.stm_gate.specs.Standing.{in-of}
+use Rattle.stm_gate.proofs.Opening.{opened}
+use Rattle.stm_gate.proofs.Standing.{in-of}
 use Rattle.alg_orec.proofs.Lazy.LazyLaws.{lazy-of, reading}
 use Rattle.alg_orec.proofs.ReadCalls.{plain-of}
 use Rattle.alg_orec.proofs.RecordOpening.{RecordOpening}

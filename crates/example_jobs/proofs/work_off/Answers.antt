@@ -1,5 +1,5 @@
 use Rattle.nekchhaul.specs.StoryLaws.{by-came}
-use Rattle.queue_jobs.specs.DayLaws.{closed-whole, closed-day}
+use Rattle.queue_jobs.proofs.DayLaws.{closed-whole, closed-day}
 use Rattle.example_jobs.proofs.work_off.Goals as goal
 
 pub returns-clause-whole : goal.returns-clause-whole

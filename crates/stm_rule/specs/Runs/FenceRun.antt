@@ -1,6 +1,6 @@
 -- A range that is taken out and comes back: caller 0 has word 0, which caller 1 leaves alone since it finds the gate
 -- closed, and gives it back with one entry.
-use Rattle.std.proofs.Common.{◌≡◌, ◌≢◌, ℕ, zero, suc, ◌<◌, ◌≤◌, List, [], ◌∷◌, true, refl, arith}
+use Rattle.std.proofs.Common.{◌≡◌, ◌≢◌, ℕ, zero, suc, ◌<◌, List, [], ◌∷◌, true, refl, arith}
 use Rattle.std.specs.Prelude.{◌^◌}
 use Rattle.stm_model.specs.declared.alg.Alg.TheVariants.{Cgl}
 use Rattle.stm_model.specs.declared.config.Config.{Config}

@@ -9,13 +9,13 @@ use Rattle.stm_rule.specs.declared.local.Local.{Local}
 use Rattle.stm_rule.specs.Attempts.{own_of}
 use Rattle.stm_rule.specs.Callers.{Handle}
 use Rattle.stm_rule.specs.Kept.{good_of}
-use Rattle.stm_rule.specs.StandLemmas.{tells-of}
+use Rattle.stm_rule.proofs.StandLemmas.{tells-of}
 use Rattle.tx_answers.specs.declared.answers.Commit.TheVariants.{Committed, ReadOnly}
 use Rattle.tx_answers.specs.Answers.{KeepsRule}
 use Rattle.tx_answers.specs.Answers as answers
 use Rattle.tx_answers.specs.CallerState.{CallerState}
-use Rattle.stm_gate.specs.DirectLaws as direct
-use Rattle.stm_gate.specs.Opening.{Opened, opened, of-view, shows}
+use Rattle.stm_gate.proofs.DirectLaws as direct
+use Rattle.stm_gate.proofs.Opening.{Opened, opened, of-view, shows}
 use Rattle.alg_orec.proofs.CommitOpening.{Promoted, promoted}
 use Rattle.alg_orec.proofs.Eager.EagerDirectLaws as laws
 use Rattle.alg_orec.proofs.eager_committing.commit_direct.Goals.{After-desc}

@@ -7,8 +7,8 @@ use Rattle.rule_base.specs.Encodings.{free_record}
 use Rattle.rule_base.specs.History.{over, touches, without}
 use Rattle.rule_promoted.specs.RaisingSteps.{direct_raise_clock}
 use Rattle.steps_orec.specs.RecordFindings.{FindsStill}
-use Rattle.stm_gate.specs.Peeling.{peeled}
-use Rattle.stm_rule.specs.StandLemmas.{tells-of}
+use Rattle.stm_gate.proofs.Peeling.{peeled}
+use Rattle.stm_rule.proofs.StandLemmas.{tells-of}
 use Rattle.alg_orec.specs.EagerEnding.{AllBelow}
 use Rattle.alg_orec.proofs.Eager.EagerBackLaws.{newest-low}
 use Rattle.alg_orec.proofs.Eager.EagerDirectLaws as laws

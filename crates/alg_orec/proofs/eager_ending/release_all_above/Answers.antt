@@ -7,7 +7,7 @@ use Rattle.rule_base.specs.Bridge.{items}
 use Rattle.rule_base.specs.Encodings.{free_record}
 use Rattle.rule_base.specs.History.{over, touches, without, Inside}
 use Rattle.rule_orec.specs.OrecSteps.{HasOrec}
-use Rattle.stm_gate.specs.Peeling.{drop-all, peeled, inside-without, no-items}
+use Rattle.stm_gate.proofs.Peeling.{drop-all, peeled, inside-without, no-items}
 use Rattle.alg_orec.specs.EagerEnding.{AllBelow}
 use Rattle.alg_orec.specs.Locking.{holding_still}
 use Rattle.alg_orec.proofs.Eager.EagerReleasing.{below-without}

@@ -8,7 +8,7 @@ use Rattle.tx_answers.specs.declared.answers.Irrev.TheVariants as irrevs
 use Rattle.tx_answers.specs.CallerState.{CallerState, known_of}
 use Rattle.stm_gate.specs.Granting.{Grants}
 use Rattle.stm_gate.specs.Knowing.{known}
-use Rattle.stm_gate.specs.Opening.{opened, stands-after, tells-of}
+use Rattle.stm_gate.proofs.Opening.{opened, stands-after, tells-of}
 use Rattle.alg_orec.proofs.Eager.EagerProving.{held-within, eager-of}
 use Rattle.alg_orec.proofs.Eager.EagerGrantLaws as laws
 use Rattle.alg_orec.proofs.GrantOpening.{can-grant, fence-kept, holds-kept, named-kept}

@@ -8,8 +8,8 @@ use Rattle.rule_base.specs.History.{over, touches, without, Small}
 use Rattle.rule_base.specs.Bridge.{items}
 use Rattle.rule_base.specs.Lemmas.BridgeLemmas.{item-some}
 use Rattle.rule_orec.specs.OrecSteps.{HasOrec}
-use Rattle.stm_gate.specs.Peeling.{has-touched}
-use Rattle.stm_gate.specs.RollItems.{peeled-last, take-whole, there-item}
+use Rattle.stm_gate.proofs.Peeling.{has-touched}
+use Rattle.stm_gate.proofs.RollItems.{peeled-last, take-whole, there-item}
 use Rattle.tx_answers.specs.Causes.{has_item, is_some}
 use Rattle.alg_orec.proofs.Eager.EagerReleasing.{restore_item, restored-step}
 use Rattle.alg_orec.proofs.Eager.EagerRollingLaws.{small-without}

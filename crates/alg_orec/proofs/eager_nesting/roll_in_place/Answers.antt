@@ -7,8 +7,8 @@ use Rattle.tx_answers.specs.declared.answers.Roll.TheVariants.{Rolled}
 use Rattle.tx_answers.specs.Answers.{Rolls}
 use Rattle.tx_answers.specs.CallerState.{CallerState, known_of}
 use Rattle.tx_logs.specs.LogStates.{LogState, rolled}
-use Rattle.stm_gate.specs.MarkLaws.{some-by}
-use Rattle.stm_gate.specs.Opening.{opened, stands-after, tells-of}
+use Rattle.stm_gate.proofs.MarkLaws.{some-by}
+use Rattle.stm_gate.proofs.Opening.{opened, stands-after, tells-of}
 use Rattle.alg_orec.specs.EagerNesting.{RestoresAfter}
 use Rattle.alg_orec.proofs.Eager.EagerRollingLaws as laws
 use Rattle.alg_orec.proofs.NestingOpening.{goes-on-of}

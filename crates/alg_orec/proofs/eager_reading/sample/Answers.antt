@@ -9,7 +9,7 @@ use Rattle.stm_rule.specs.Callers.{handle_of}
 use Rattle.tx_answers.specs.declared.answers.Read.TheVariants as reads
 use Rattle.tx_answers.specs.Answers.{HasRead}
 use Rattle.tx_answers.specs.CallerState.{CallerState, known_of}
-use Rattle.stm_gate.specs.Opening.{is-known, shows}
+use Rattle.stm_gate.proofs.Opening.{is-known, shows}
 use Rattle.alg_orec.proofs.Eager.EagerLaws as eager
 use Rattle.alg_orec.proofs.Eager.EagerOpening.{EagerOpening, counts, opens-eager}
 use Rattle.alg_orec.proofs.RecordOpening.{answers-ended, answers-moved, stays-tied, unread, unwritten}

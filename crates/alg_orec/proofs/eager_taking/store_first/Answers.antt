@@ -1,6 +1,6 @@
 use Rattle.rule_base.specs.StepKinds.{Nothing}
 use Rattle.rule_orec.specs.OrecSteps.{orec_save, orec_place}
-use Rattle.stm_rule.specs.StandLemmas.{tells-of}
+use Rattle.stm_rule.proofs.StandLemmas.{tells-of}
 use Rattle.alg_orec.proofs.Eager.EagerTakingLaws as laws
 use Rattle.alg_orec.proofs.eager_taking.store_first.Goals as goal
 

@@ -6,7 +6,7 @@ use Rattle.rule_base.specs.Ranks.{home_of}
 use Rattle.rule_orec.specs.OrecSteps.{orec_clock, orec_grant}
 use Rattle.stm_rule.specs.Findings.{FindsWithin}
 use Rattle.stm_rule.specs.Kept.{good_of}
-use Rattle.stm_rule.specs.StandLemmas.{tells-of}
+use Rattle.stm_rule.proofs.StandLemmas.{tells-of}
 use Rattle.steps_orec.specs.RecordFindings.{FindsClock, FindsGrant}
 use Rattle.steps_orec.specs.Validating.{to_validate}
 use Rattle.tx_answers.specs.declared.answers.Irrev.TheVariants as irrevs

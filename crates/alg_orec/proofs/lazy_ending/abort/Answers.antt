@@ -7,7 +7,7 @@ use Rattle.rule_base.specs.Encodings.{free_record}
 use Rattle.rule_base.specs.History.{over, touches, without, Inside}
 use Rattle.rule_orec.specs.OrecSteps.{HasOrec}
 use Rattle.stm_gate.specs.LeavingLaws.{IsUnmade}
-use Rattle.stm_gate.specs.Peeling.{drop-all, peeled, inside-without, no-items}
+use Rattle.stm_gate.proofs.Peeling.{drop-all, peeled, inside-without, no-items}
 use Rattle.alg_orec.proofs.CountingLaws.{takes-left}
 use Rattle.alg_orec.proofs.Releasing.{release_item, Versions, released-step, versions-of, versions-without}
 use Rattle.alg_orec.proofs.lazy_ending.abort.Goals.{After-item-r}

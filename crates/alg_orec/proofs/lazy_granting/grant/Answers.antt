@@ -6,7 +6,7 @@ use Rattle.stm_rule.specs.Attempts.{emptied, own_of}
 use Rattle.tx_answers.specs.declared.answers.Irrev.TheVariants as irrevs
 use Rattle.tx_answers.specs.CallerState.{CallerState, known_of}
 use Rattle.stm_gate.specs.Granting.{Grants}
-use Rattle.stm_gate.specs.Opening.{opened, stands-after, tells-of}
+use Rattle.stm_gate.proofs.Opening.{opened, stands-after, tells-of}
 use Rattle.alg_orec.proofs.Lazy.LazyGrantLaws as laws
 use Rattle.alg_orec.proofs.GrantOpening.{can-grant, fence-kept, holds-kept, named-kept}
 use Rattle.alg_orec.proofs.lazy_granting.grant.Goals as goal

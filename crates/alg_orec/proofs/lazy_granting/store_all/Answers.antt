@@ -4,7 +4,7 @@ use Rattle.rule_base.specs.Encodings.{fenced}
 use Rattle.rule_base.specs.declared.entries.Cell.{Cell}
 use Rattle.rule_base.specs.declared.seats.SeatView.{SeatView}
 use Rattle.stm_rule.specs.RecordsKept.{cells_of}
-use Rattle.stm_gate.specs.Cells.{cell, cells-next, cells-there}
+use Rattle.stm_gate.proofs.Cells.{cell, cells-next, cells-there}
 use Rattle.alg_orec.proofs.Writing.{storing, store_item, stored-step}
 use Rattle.alg_orec.proofs.lazy_granting.store_all.Goals as goal
 

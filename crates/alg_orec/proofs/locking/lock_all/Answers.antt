@@ -13,7 +13,7 @@ use Rattle.stm_rule.specs.declared.local.Local.{Local}
 use Rattle.stm_rule.specs.RecordsKept.{cells_of}
 use Rattle.alg_orec.specs.Locking.{HasLocked, IsOfWritten, Locks, LocksOne, lock_item}
 use Rattle.alg_orec.specs.Validating.{load_of}
-use Rattle.stm_gate.specs.Cells.{cells-there}
+use Rattle.stm_gate.proofs.Cells.{cells-there}
 use Rattle.alg_orec.proofs.Seats.{seat-on}
 use Rattle.alg_orec.proofs.LockAllLaws as turns
 use Rattle.alg_orec.proofs.LockingLaws as laws

@@ -4,8 +4,8 @@ use Rattle.rule_base.specs.declared.seats.SeatView.{SeatView}
 use Rattle.rule_base.specs.Bridge.{items}
 use Rattle.rule_base.specs.History.{without}
 use Rattle.rule_orec.specs.OrecSteps.{HasOrec}
-use Rattle.stm_gate.specs.Peeling.{drop-all, peeled, no-items}
-use Rattle.stm_gate.specs.Cells.{items-cells, cells-there}
+use Rattle.stm_gate.proofs.Peeling.{drop-all, peeled, no-items}
+use Rattle.stm_gate.proofs.Cells.{items-cells, cells-there}
 use Rattle.alg_orec.proofs.Writing.{owing, store_item, written-step}
 use Rattle.alg_orec.proofs.locking.write_back_all.Goals as goal
 

@@ -10,7 +10,7 @@ use Rattle.stm_rule.specs.Callers.{handle_of}
 use Rattle.tx_answers.specs.declared.answers.Write.TheVariants as writes
 use Rattle.tx_answers.specs.Answers.{HasWritten}
 use Rattle.tx_answers.specs.CallerState.{CallerState}
-use Rattle.stm_gate.specs.Opening.{is-known, of-view}
+use Rattle.stm_gate.proofs.Opening.{is-known, of-view}
 use Rattle.alg_orec.proofs.Eager.EagerCalls.{RunsEager}
 use Rattle.alg_orec.proofs.Eager.EagerLaws as reading
 use Rattle.alg_orec.proofs.Eager.EagerOpening.{EagerOpening, answers-stored, counts, opens-eager, stays-stored}

@@ -4,8 +4,8 @@ use Rattle.rule_orec.specs.OrecSteps.{orec_own_load, OrecOwnLoads}
 use Rattle.stm_rule.specs.Attempts.{own_of}
 use Rattle.stm_rule.specs.Callers.{handle_of}
 use Rattle.stm_rule.specs.Kept.{good_of}
-use Rattle.stm_rule.specs.StandLemmas.{tells-of}
-use Rattle.stm_gate.specs.Opening.{of-view, of-seen}
+use Rattle.stm_rule.proofs.StandLemmas.{tells-of}
+use Rattle.stm_gate.proofs.Opening.{of-view, of-seen}
 use Rattle.alg_orec.proofs.Eager.EagerLaws as eager
 use Rattle.alg_orec.proofs.Eager.EagerOpening.{EagerOpening, answers-read, opens-eager, stays-read}
 use Rattle.alg_orec.proofs.RecordOpening.{place-here}

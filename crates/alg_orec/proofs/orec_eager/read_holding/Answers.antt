@@ -6,7 +6,7 @@ use Rattle.stm_rule.specs.Callers.{handle_of}
 use Rattle.tx_answers.specs.declared.answers.Read.TheVariants as reads
 use Rattle.tx_answers.specs.Answers.{HasRead}
 use Rattle.tx_answers.specs.CallerState.{CallerState}
-use Rattle.stm_gate.specs.Opening.{is-known}
+use Rattle.stm_gate.proofs.Opening.{is-known}
 use Rattle.alg_orec.proofs.Eager.EagerLaws as laws
 use Rattle.alg_orec.proofs.RecordReads as records
 use Rattle.alg_orec.proofs.Eager.EagerOpening.{EagerOpening, opens-eager}

@@ -11,7 +11,7 @@ use Rattle.tx_answers.specs.declared.answers.Read.TheVariants as reads
 use Rattle.tx_answers.specs.Answers.{HasRead}
 use Rattle.tx_answers.specs.CallerState.{CallerState}
 use Rattle.stm_gate.specs.Knowing.{known}
-use Rattle.stm_gate.specs.Opening.{shows}
+use Rattle.stm_gate.proofs.Opening.{shows}
 use Rattle.tx_logs.specs.LogStates.{LogState}
 use Rattle.tx_logs.specs.Probing.{IsPlace}
 use Rattle.alg_orec.proofs.Lazy.LazyLaws as laws

@@ -6,7 +6,7 @@ use Rattle.rule_base.specs.StepKinds.{Tells}
 use Rattle.rule_orec.specs.OrecSteps.{orec_sample}
 use Rattle.stm_rule.specs.declared.local.Local.{Local}
 use Rattle.stm_rule.specs.Kept.{good_of}
-use Rattle.stm_rule.specs.StandLemmas.{tells-of}
+use Rattle.stm_rule.proofs.StandLemmas.{tells-of}
 use Rattle.steps_orec.specs.RecordFindings.{FindsRecord}
 use Rattle.alg_orec.proofs.LoadLaws as laws
 use Rattle.alg_orec.specs.Loading.{RefusesRead, TellsSeen}

@@ -3,7 +3,7 @@ use Rattle.std.specs.Prelude.{Ok}
 use Rattle.rule_ring.specs.RingSteps.{ring_move}
 use Rattle.steps_ring.specs.RingFindings.{FindsMove}
 use Rattle.stm_rule.specs.Kept.{good_of}
-use Rattle.stm_rule.specs.StandLemmas.{tells-of}
+use Rattle.stm_rule.proofs.StandLemmas.{tells-of}
 use Rattle.alg_ring.specs.Checking as checking
 use Rattle.alg_ring.proofs.Checks.{check-fails, check-moves}
 use Rattle.alg_ring.proofs.check.catch_up.Goals as goal

@@ -3,7 +3,7 @@ use Rattle.std.specs.Prelude.{Ok}
 use Rattle.rule_promoted.specs.PromotedSteps.{ring_look_grant, ring_move_grant}
 use Rattle.steps_ring.specs.RingFindings.{FindsLook, FindsLevel}
 use Rattle.stm_rule.specs.Kept.{good_of}
-use Rattle.stm_rule.specs.StandLemmas.{tells-of}
+use Rattle.stm_rule.proofs.StandLemmas.{tells-of}
 use Rattle.alg_ring.specs.Checking as checking
 use Rattle.alg_ring.proofs.Checks.{grant-passes, grant-fails, grant-moves}
 use Rattle.alg_ring.proofs.check.check_to_grant.Goals as goal

@@ -3,7 +3,7 @@ use Rattle.std.specs.Prelude.{bit_and}
 use Rattle.rule_base.specs.declared.seats.SeatView.{SeatView}
 use Rattle.rule_base.specs.StepKinds.{Nothing, view_after}
 use Rattle.rule_ring.specs.RingSteps.{ring_word}
-use Rattle.stm_rule.specs.StandLemmas.{tells-of}
+use Rattle.stm_rule.proofs.StandLemmas.{tells-of}
 use Rattle.alg_ring.specs.Checking.{LoadsPart}
 use Rattle.alg_ring.proofs.Seats.{seat-on}
 use Rattle.alg_ring.proofs.Slot.{part-first, part-next, part-found, part-last, PartSoFar, may-word}

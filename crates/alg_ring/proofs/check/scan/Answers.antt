@@ -2,7 +2,7 @@ use Rattle.std.proofs.Common.{◌≤◌, ◌+◌, arith}
 use Rattle.rule_ring.specs.RingSteps.{ring_again}
 use Rattle.steps_ring.specs.RingFindings.{FindsAgain}
 use Rattle.stm_rule.specs.Kept.{good_of}
-use Rattle.stm_rule.specs.StandLemmas.{tells-of}
+use Rattle.stm_rule.proofs.StandLemmas.{tells-of}
 use Rattle.alg_ring.proofs.Checks.{scans-far, scans-later, scans-met, scans-ok}
 use Rattle.alg_ring.proofs.check.scan.Goals as goal
 

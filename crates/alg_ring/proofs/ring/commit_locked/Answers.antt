@@ -3,7 +3,7 @@ use Rattle.stm_model.specs.declared.config.TheConstants.{CLOCK_LIMIT}
 use Rattle.rule_base.specs.StepKinds.{Nothing}
 use Rattle.rule_ring.specs.RingSteps.{ring_tick, ring_done}
 use Rattle.stm_rule.specs.Kept.{good_of}
-use Rattle.stm_rule.specs.StandLemmas.{tells-of}
+use Rattle.stm_rule.proofs.StandLemmas.{tells-of}
 use Rattle.steps_ring.specs.RingFindings.{FindsTick}
 use Rattle.alg_ring.proofs.Finishing as laws
 use Rattle.alg_ring.proofs.ring.commit_locked.Goals as goal

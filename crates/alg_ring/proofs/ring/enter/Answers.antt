@@ -13,7 +13,7 @@ use Rattle.rule_base.specs.declared.entries.Cell.{Cell}
 use Rattle.stm_rule.specs.Kinds.Lifting.{AreSpared}
 use Rattle.stm_rule.specs.Kept.{good_of}
 use Rattle.stm_rule.specs.RecordsKept.{Apart, cells_of}
-use Rattle.stm_rule.specs.StandLemmas.{tells-of}
+use Rattle.stm_rule.proofs.StandLemmas.{tells-of}
 use Rattle.alg_ring.proofs.Entering.{slotted_at, may-slot, may-enter, tells-entered}
 use Rattle.alg_ring.proofs.ring.enter.Goals as goal
 

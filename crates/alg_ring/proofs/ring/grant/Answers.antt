@@ -4,13 +4,13 @@ use Rattle.rule_base.specs.InstallSteps.{settle}
 use Rattle.stm_rule.specs.declared.local.Local.{Local}
 use Rattle.stm_rule.specs.Attempts.{own_of}
 use Rattle.stm_rule.specs.Findings.{FindsWithin}
-use Rattle.stm_rule.specs.StandLemmas.{tells-of}
+use Rattle.stm_rule.proofs.StandLemmas.{tells-of}
 use Rattle.tx_answers.specs.declared.answers.Irrev.TheVariants as irrevs
 use Rattle.tx_answers.specs.CallerState.{CallerState, known_of}
 use Rattle.stm_gate.specs.Granting.{Grants}
-use Rattle.stm_gate.specs.Standing.{who-of}
-use Rattle.alg_ring.specs.Opening.{opened, stands-after}
-use Rattle.alg_ring.specs.Opening as opening
+use Rattle.stm_gate.proofs.Standing.{who-of}
+use Rattle.alg_ring.proofs.Opening.{opened, stands-after}
+use Rattle.alg_ring.proofs.Opening as opening
 use Rattle.alg_ring.proofs.Granting.{can-grant}
 use Rattle.alg_ring.proofs.Granting as laws
 use Rattle.alg_ring.proofs.Running.{inside}

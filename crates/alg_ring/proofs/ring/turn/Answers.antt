@@ -1,7 +1,7 @@
 use Rattle.std.proofs.Common.{refl, sym, ◌∙◌, rules}
 use Rattle.rule_ring.specs.RingSteps.{ring_lock}
 use Rattle.stm_rule.specs.Findings.{FindsLock}
-use Rattle.stm_rule.specs.StandLemmas.{tells-of}
+use Rattle.stm_rule.proofs.StandLemmas.{tells-of}
 use Rattle.alg_ring.proofs.Committing as laws
 use Rattle.alg_ring.proofs.Running as attempt
 use Rattle.alg_ring.proofs.ring.turn.Goals as goal

@@ -13,10 +13,10 @@ use Rattle.tx_answers.specs.Answers.{Rolls}
 use Rattle.tx_answers.specs.CallerState.{is_irrevocable}
 use Rattle.tx_logs.specs.LogStates.{LogState}
 use Rattle.stm_gate.specs.Knowing.{known}
-use Rattle.stm_gate.specs.Standing.{runs-of}
-use Rattle.stm_gate.specs.Told.{told, stands-in, running-by}
-use Rattle.stm_gate.specs.MarkLaws.{some-by}
-use Rattle.stm_gate.specs.Irrevocable.{irrevocable-of}
+use Rattle.stm_gate.proofs.Standing.{runs-of}
+use Rattle.stm_gate.proofs.Told.{told, stands-in, running-by}
+use Rattle.stm_gate.proofs.MarkLaws.{some-by}
+use Rattle.stm_gate.proofs.Irrevocable.{irrevocable-of}
 use Rattle.alg_seq.specs.Nesting.{IsStoredBack}
 use Rattle.alg_seq.proofs.RollingLaws as rolling
 use Rattle.alg_seq.proofs.nesting.roll_in_place.Goals as goal

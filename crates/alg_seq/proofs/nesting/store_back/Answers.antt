@@ -12,8 +12,8 @@ use Rattle.rule_base.specs.Bridge.{items}
 use Rattle.rule_base.specs.Lemmas.BridgeLemmas.{items-once, item-some}
 use Rattle.rule_seq.specs.CglSteps.{HasLock}
 use Rattle.tx_answers.specs.Causes.{has_item, is_some}
-use Rattle.stm_gate.specs.Peeling.{has-touched}
-use Rattle.stm_gate.specs.RollItems.{peeled-last, take-whole, there-item}
+use Rattle.stm_gate.proofs.Peeling.{has-touched}
+use Rattle.stm_gate.proofs.RollItems.{peeled-last, take-whole, there-item}
 use Rattle.alg_seq.proofs.Undoing.{taken-step}
 use Rattle.alg_seq.proofs.nesting.store_back.Goals as goal
 

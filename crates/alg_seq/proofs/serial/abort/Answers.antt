@@ -8,8 +8,8 @@ use Rattle.rule_base.specs.declared.views.View.{View}
 use Rattle.rule_base.specs.StepKinds.{Nothing, view_after}
 use Rattle.rule_seq.specs.CglSteps.{free_lock, HasLock}
 use Rattle.stm_gate.specs.LeavingLaws.{IsUnmade}
-use Rattle.stm_gate.specs.Peeling.{no-items}
-use Rattle.stm_rule.specs.StandLemmas.{tells-of}
+use Rattle.stm_gate.proofs.Peeling.{no-items}
+use Rattle.stm_rule.proofs.StandLemmas.{tells-of}
 use Rattle.alg_seq.proofs.CountingLaws.{takes-left}
 use Rattle.alg_seq.proofs.Locked.{locked}
 use Rattle.alg_seq.proofs.RollingLaws.{has-olds, writes-few}

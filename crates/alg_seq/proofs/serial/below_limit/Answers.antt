@@ -4,7 +4,7 @@ use Rattle.rule_base.specs.declared.layout.At.TheVariants.{Clock}
 use Rattle.rule_base.specs.declared.views.Act.TheVariants.{Load}
 use Rattle.rule_base.specs.declared.views.View.{View}
 use Rattle.rule_seq.specs.CglSteps.{load_limit, LoadsLimit}
-use Rattle.stm_rule.specs.StandLemmas.{tells-of}
+use Rattle.stm_rule.proofs.StandLemmas.{tells-of}
 use Rattle.tx_answers.specs.Evidence.{Found}
 use Rattle.tx_answers.specs.CallerState.{known_of}
 use Rattle.alg_seq.specs.Storing.{IsClocked}

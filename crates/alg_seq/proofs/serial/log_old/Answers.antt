@@ -5,7 +5,7 @@ use Rattle.stm_model.specs.Algorithms.{takes_lock, irrevocable_under}
 use Rattle.rule_base.specs.StepKinds.{Nothing}
 use Rattle.rule_seq.specs.CglSteps.{load_undo}
 use Rattle.stm_rule.specs.Attempts.{IsLocked}
-use Rattle.stm_rule.specs.StandLemmas.{tells-of}
+use Rattle.stm_rule.proofs.StandLemmas.{tells-of}
 use Rattle.tx_answers.specs.Causes.{is_some}
 use Rattle.alg_seq.proofs.Locked.{locked}
 use Rattle.alg_seq.proofs.Pushing.{in-undo, pushed, fresh-undo, new-write, logs-else, logs-then}

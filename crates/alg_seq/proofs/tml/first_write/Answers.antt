@@ -6,12 +6,12 @@ use Rattle.rule_seq.specs.TmlSteps.{tml_again, tml_write, tml_store}
 use Rattle.stm_rule.specs.Attempts.{own_of}
 use Rattle.stm_rule.specs.Findings.{FindsSole, FindsAgain}
 use Rattle.stm_rule.specs.Kept.{good_of}
-use Rattle.stm_rule.specs.StandLemmas.{tells-of}
+use Rattle.stm_rule.proofs.StandLemmas.{tells-of}
 use Rattle.tx_answers.specs.declared.answers.Write.TheVariants as writes
 use Rattle.tx_answers.specs.Answers.{HasWritten}
 use Rattle.tx_answers.specs.CallerState.{CallerState}
-use Rattle.stm_gate.specs.Opening.{opened, shows, stands-after}
-use Rattle.stm_gate.specs.Told.{stands-on}
+use Rattle.stm_gate.proofs.Opening.{opened, shows, stands-after}
+use Rattle.stm_gate.proofs.Told.{stands-on}
 use Rattle.alg_seq.proofs.TmlLaws as laws
 use Rattle.alg_seq.proofs.TmlOpening.{revocable}
 use Rattle.alg_seq.proofs.tml.first_write.Goals as goal

@@ -4,13 +4,13 @@ use Rattle.stm_model.specs.declared.stop.Cause.TheVariants as causes
 use Rattle.rule_promoted.specs.PromotedSteps.{tml_grant}
 use Rattle.stm_rule.specs.Attempts.{own_of}
 use Rattle.stm_rule.specs.Findings.{FindsSole}
-use Rattle.stm_rule.specs.StandLemmas.{tells-of}
+use Rattle.stm_rule.proofs.StandLemmas.{tells-of}
 use Rattle.tx_answers.specs.declared.answers.Irrev.TheVariants as irrevs
 use Rattle.tx_answers.specs.CallerState.{CallerState}
-use Rattle.stm_gate.specs.Standing.{who-of}
+use Rattle.stm_gate.proofs.Standing.{who-of}
 use Rattle.stm_gate.specs.Granting.{IsAlone, Grants}
-use Rattle.stm_gate.specs.Told.{stands-on}
-use Rattle.stm_gate.specs.Opening.{opened, shows, of-seen, stands-after}
+use Rattle.stm_gate.proofs.Told.{stands-on}
+use Rattle.stm_gate.proofs.Opening.{opened, shows, of-seen, stands-after}
 use Rattle.alg_seq.proofs.TmlLaws as laws
 use Rattle.alg_seq.proofs.TmlOpening.{revocable}
 use Rattle.alg_seq.proofs.tml.grant.Goals as goal

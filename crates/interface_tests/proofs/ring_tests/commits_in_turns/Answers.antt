@@ -4,7 +4,7 @@ use Rattle.rule_base.specs.declared.seats.SeatView.{SeatView}
 use Rattle.stm_rule.specs.declared.local.Local.{Local}
 use Rattle.tx_answers.specs.CallerState.{is_irrevocable, wrote}
 use Rattle.alg_ring.specs.Calls.{CanFinish, TookTurn}
-use Rattle.alg_ring.specs.Opening.{opened, has-attempt, stands-after}
+use Rattle.alg_ring.proofs.Opening.{opened, has-attempt, stands-after}
 use Rattle.interface_tests.proofs.ring_tests.commits_in_turns.Goals as goal
 
 abbrev any : AnyMem → List ℕ → Type 0

@@ -1,7 +1,7 @@
 use Rattle.std.proofs.Common.{◌%◌}
 use Rattle.std.specs.Prelude.{◌==◌}
 use Rattle.mailbox.specs.Mail.{mail_in, Moves, Posted}
-use Rattle.mailbox.specs.MailLaws.{changes, posts-it}
+use Rattle.mailbox.proofs.MailLaws.{changes, posts-it}
 use Rattle.tx_jobs.specs.Jobs.{did}
 use Rattle.mail_jobs.proofs.clerks.post.Goals as goal
 

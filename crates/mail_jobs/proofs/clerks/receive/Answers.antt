@@ -1,5 +1,5 @@
 use Rattle.mailbox.specs.Mail.{mail_in, Moves, Received}
-use Rattle.mailbox.specs.MailLaws.{changes, receives-it}
+use Rattle.mailbox.proofs.MailLaws.{changes, receives-it}
 use Rattle.tx_jobs.specs.Jobs.{did}
 use Rattle.mail_jobs.proofs.clerks.receive.Goals as goal
 

@@ -1,6 +1,6 @@
 use Rattle.std.proofs.Common.{◌≡◌, ◌∙◌, true, false, length, ap, arith}
 use Rattle.std.proofs.lemmas.Grind.{common_steps}
-use Rattle.mail_jobs.specs.DayLaws.{all-received}
+use Rattle.mail_jobs.proofs.DayLaws.{all-received}
 use Rattle.mail_jobs.specs.Days.{IsThrough}
 use Rattle.mail_jobs.proofs.day.each_came_once.Goals as goal
 

@@ -1,7 +1,7 @@
 use Rattle.std.proofs.Common.{refl}
 use Rattle.tx_jobs.specs.Jobs.{in-order, conserved}
 use Rattle.mailbox.specs.Mail.{IsMailbox, mail_in, Moves, waiting, posts, receives}
-use Rattle.mailbox.specs.MailLaws.{posts-it, receives-it, changes, weighs}
+use Rattle.mailbox.proofs.MailLaws.{posts-it, receives-it, changes, weighs}
 use Rattle.mailbox.proofs.laws.messages_come_in_order.Goals as goal
 
 pub returns-clause-post : goal.returns-clause-post

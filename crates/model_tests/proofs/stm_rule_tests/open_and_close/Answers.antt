@@ -1,7 +1,7 @@
 use Rattle.std.proofs.Common.{List, subst, sym}
 use Rattle.stm_model.specs.declared.rule.AnyMem.{AnyMem}
 use Rattle.stm_rule.specs.declared.stm.Stm.{Stm}
-use Rattle.stm_rule.specs.CallerLemmas.{opened-idle}
+use Rattle.stm_rule.proofs.CallerLemmas.{opened-idle}
 use Rattle.stm_rule.specs.Callers.{Handle, IdleAt}
 use Rattle.model_tests.proofs.stm_rule_tests.open_and_close.Goals as goal
 

@@ -6,7 +6,7 @@ use Rattle.tx_answers.specs.declared.answers.Read.TheVariants.{Value}
 use Rattle.nekchhaul_c.specs.Codes.{read_code}
 use Rattle.nekchhaul_c.specs.Reads.{ReadTells}
 use Rattle.nekchhaul_c.proofs.InTurn.{kept-more, read-more, same-after, stopped, misuse-high}
-use Rattle.tx_loops.specs.AccessLaws.{read-served}
+use Rattle.tx_loops.proofs.AccessLaws.{read-served}
 use Rattle.nekchhaul_c.proofs.reading.read_each.Goals as goal
 
 pub read_by-requires : goal.read_by-requires

@@ -1,5 +1,5 @@
 use Rattle.std.proofs.Common.{arith}
-use Rattle.queue_jobs.specs.DayLaws.{taken-once, taken-sum}
+use Rattle.queue_jobs.proofs.DayLaws.{taken-once, taken-sum}
 use Rattle.queue_jobs.proofs.day.is_done.Goals as goal
 
 pub returns-clause-once : goal.returns-clause-once

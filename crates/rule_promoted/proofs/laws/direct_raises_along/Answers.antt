@@ -1,5 +1,5 @@
 use Rattle.rule_base.specs.Bridge.{of_words}
-use Rattle.rule_promoted.specs.RaisingLaws.{direct_raises_clock, direct_ups}
+use Rattle.rule_promoted.proofs.RaisingLaws.{direct_raises_clock, direct_ups}
 use Rattle.rule_promoted.proofs.laws.direct_raises_along.Goals as goal
 
 pub returns : goal.returns

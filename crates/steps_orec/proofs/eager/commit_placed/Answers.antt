@@ -5,8 +5,8 @@ use Rattle.std.specs.Prelude.{[], ◌≡◌}
 use Rattle.std.proofs.Common.{refl}
 use Rattle.stm_rule.specs.Kept.{good_of}
 use Rattle.stm_rule.specs.Product.{Invariant}
-use Rattle.steps_orec.specs.RecordFindingLaws.{commits_placed}
-use Rattle.stm_rule.specs.Kinds.Allowing.{law_of}
+use Rattle.steps_orec.proofs.RecordFindingLaws.{commits_placed}
+use Rattle.stm_rule.proofs.KindLaws.Allowing.{law_of}
 use Rattle.steps_orec.proofs.eager.commit_placed.Goals as goal
 
 pub exchange_as-requires-clause-law : goal.exchange_as-requires-clause-law

@@ -4,8 +4,8 @@ use Rattle.rule_orec.specs.OrecSteps.{OrecOwnLoads}
 use Rattle.stm_rule.specs.Kept.{good_of}
 use Rattle.stm_rule.specs.Kinds.Lifting.{IsSpared}
 use Rattle.stm_rule.specs.Product.{Invariant}
-use Rattle.stm_rule.specs.Kinds.Lifted.{orec_own_loads}
-use Rattle.stm_rule.specs.Kinds.Allowing.{law_of}
+use Rattle.stm_rule.proofs.KindLaws.Lifted.{orec_own_loads}
+use Rattle.stm_rule.proofs.KindLaws.Allowing.{law_of}
 use Rattle.steps_orec.proofs.eager.own_load.Goals as goal
 
 pub load_as-requires-clause-law : goal.load_as-requires-clause-law

@@ -2,8 +2,8 @@ use Rattle.rule_orec.specs.OrecSteps.{orec_place, CanOrecPlace}
 use Rattle.rule_base.specs.StepKinds.{Nothing}
 use Rattle.stm_rule.specs.Kept.{good_of}
 use Rattle.stm_rule.specs.Product.{Invariant}
-use Rattle.stm_rule.specs.Kinds.Lifted.{orec_places}
-use Rattle.stm_rule.specs.Kinds.Allowing.{law_of}
+use Rattle.stm_rule.proofs.KindLaws.Lifted.{orec_places}
+use Rattle.stm_rule.proofs.KindLaws.Allowing.{law_of}
 use Rattle.steps_orec.proofs.eager.place.Goals as goal
 
 pub store_as-requires-clause-law : goal.store_as-requires-clause-law

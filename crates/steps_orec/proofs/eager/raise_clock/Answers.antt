@@ -2,8 +2,8 @@ use Rattle.rule_orec.specs.OrecSteps.{orec_raise_clock, CanOrecRaiseClock}
 use Rattle.steps_orec.specs.RecordFindings.{FindsClock}
 use Rattle.stm_rule.specs.Kept.{good_of}
 use Rattle.stm_rule.specs.Product.{Invariant}
-use Rattle.steps_orec.specs.RecordFindingLaws.{raises_clock_beside}
-use Rattle.stm_rule.specs.Kinds.Allowing.{law_of}
+use Rattle.steps_orec.proofs.RecordFindingLaws.{raises_clock_beside}
+use Rattle.stm_rule.proofs.KindLaws.Allowing.{law_of}
 use Rattle.steps_orec.proofs.eager.raise_clock.Goals as goal
 
 pub raise_as-requires-clause-law : goal.raise_as-requires-clause-law

@@ -4,8 +4,8 @@ use Rattle.rule_base.specs.Ranks.{home_of}
 use Rattle.stm_rule.specs.Kept.{good_of}
 use Rattle.stm_rule.specs.Kinds.Lifting.{IsSpared}
 use Rattle.stm_rule.specs.Product.{Invariant}
-use Rattle.stm_rule.specs.Kinds.Lifted.{orec_saves}
-use Rattle.stm_rule.specs.Kinds.Allowing.{law_of}
+use Rattle.stm_rule.proofs.KindLaws.Lifted.{orec_saves}
+use Rattle.stm_rule.proofs.KindLaws.Allowing.{law_of}
 use Rattle.steps_orec.proofs.eager.save.Goals as goal
 
 pub load_as-requires-clause-law : goal.load_as-requires-clause-law

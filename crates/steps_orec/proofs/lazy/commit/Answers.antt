@@ -5,8 +5,8 @@ use Rattle.stm_rule.specs.RecordsKept.{cells_of}
 use Rattle.stm_rule.specs.Kept.{good_of}
 use Rattle.stm_rule.specs.Kinds.Lifting.{AreSpared}
 use Rattle.stm_rule.specs.Product.{Invariant}
-use Rattle.steps_orec.specs.RecordFindingLaws.{commits_beside}
-use Rattle.stm_rule.specs.Kinds.Allowing.{law_of}
+use Rattle.steps_orec.proofs.RecordFindingLaws.{commits_beside}
+use Rattle.stm_rule.proofs.KindLaws.Allowing.{law_of}
 use Rattle.steps_orec.proofs.lazy.commit.Goals as goal
 
 pub exchange_as-requires-clause-law : goal.exchange_as-requires-clause-law

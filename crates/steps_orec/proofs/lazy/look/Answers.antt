@@ -2,8 +2,8 @@ use Rattle.rule_orec.specs.OrecSteps.{orec_look, HasOrec}
 use Rattle.steps_orec.specs.RecordFindings.{FindsRecord}
 use Rattle.stm_rule.specs.Kept.{good_of}
 use Rattle.stm_rule.specs.Product.{Invariant}
-use Rattle.steps_orec.specs.RecordFindingLaws.{looks_beside}
-use Rattle.stm_rule.specs.Kinds.Allowing.{law_of}
+use Rattle.steps_orec.proofs.RecordFindingLaws.{looks_beside}
+use Rattle.stm_rule.proofs.KindLaws.Allowing.{law_of}
 use Rattle.steps_orec.proofs.lazy.look.Goals as goal
 
 pub load_as-requires-clause-law : goal.load_as-requires-clause-law

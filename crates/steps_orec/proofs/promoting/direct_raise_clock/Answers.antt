@@ -2,8 +2,8 @@ use Rattle.rule_promoted.specs.RaisingSteps.{direct_raise_clock, CanDirectRaiseC
 use Rattle.steps_orec.specs.RecordFindings.{FindsStill}
 use Rattle.stm_rule.specs.Kept.{good_of}
 use Rattle.stm_rule.specs.Product.{Invariant}
-use Rattle.steps_orec.specs.RecordFindingLaws.{direct_raises_clock_beside}
-use Rattle.stm_rule.specs.Kinds.Allowing.{law_of}
+use Rattle.steps_orec.proofs.RecordFindingLaws.{direct_raises_clock_beside}
+use Rattle.stm_rule.proofs.KindLaws.Allowing.{law_of}
 use Rattle.steps_orec.proofs.promoting.direct_raise_clock.Goals as goal
 
 pub raise_as-requires-clause-law : goal.raise_as-requires-clause-law

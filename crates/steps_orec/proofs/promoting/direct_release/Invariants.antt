@@ -1,6 +1,6 @@
 use Rattle.stm_rule.specs.Runs.CoreRuns.CoreStep.{direct_releases}
 use Rattle.rule_base.specs.StepKinds.{Nothing}
-use Rattle.steps_orec.specs.Picking.{record_of}
+use Rattle.steps_orec.proofs.Picking.{record_of}
 use Rattle.steps_orec.proofs.promoting.direct_release.Given as goal
 
 abbrev pub ghosts-store_as : goal.ghosts-store_as

@@ -1,7 +1,7 @@
 use Rattle.stm_rule.specs.Runs.CoreRuns.CoreStep.{orec_grants}
 use Rattle.steps_orec.specs.RecordFindings.{FindsGrant}
 use Rattle.stm_rule.specs.Kept.{good_of}
-use Rattle.steps_orec.specs.Picking.{record_of}
+use Rattle.steps_orec.proofs.Picking.{record_of}
 use Rattle.steps_orec.proofs.promoting.grant.Given as goal
 
 abbrev pub ghosts-load_as : goal.ghosts-load_as

@@ -3,8 +3,8 @@ use Rattle.steps_orec.specs.RecordFindings.{FindsAll}
 use Rattle.rule_base.specs.Ranks.{home_of}
 use Rattle.stm_rule.specs.Kept.{good_of}
 use Rattle.stm_rule.specs.Product.{Invariant}
-use Rattle.steps_orec.specs.RecordFindingLaws.{grants_all_beside}
-use Rattle.stm_rule.specs.Kinds.Allowing.{law_of}
+use Rattle.steps_orec.proofs.RecordFindingLaws.{grants_all_beside}
+use Rattle.stm_rule.proofs.KindLaws.Allowing.{law_of}
 use Rattle.steps_orec.proofs.promoting.grant_all.Goals as goal
 
 pub load_as-requires-clause-law : goal.load_as-requires-clause-law

@@ -5,8 +5,8 @@ use Rattle.steps_orec.specs.Validating.{to_validate}
 use Rattle.steps_orec.specs.Validating.{can-validate}
 use Rattle.stm_rule.specs.Kept.{good_of}
 use Rattle.stm_rule.specs.Product.{Invariant}
-use Rattle.steps_orec.specs.RecordFindingLaws.{clocks_beside}
-use Rattle.stm_rule.specs.Kinds.Allowing.{law_of}
+use Rattle.steps_orec.proofs.RecordFindingLaws.{clocks_beside}
+use Rattle.stm_rule.proofs.KindLaws.Allowing.{law_of}
 use Rattle.steps_orec.proofs.reading.clock.Goals as goal
 
 pub load_as-requires-clause-law : goal.load_as-requires-clause-law

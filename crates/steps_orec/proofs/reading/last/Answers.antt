@@ -3,8 +3,8 @@ use Rattle.steps_orec.specs.RecordFindings.{FindsLast}
 use Rattle.rule_base.specs.Ranks.{home_of}
 use Rattle.stm_rule.specs.Kept.{good_of}
 use Rattle.stm_rule.specs.Product.{Invariant}
-use Rattle.steps_orec.specs.RecordFindingLaws.{lasts_beside}
-use Rattle.stm_rule.specs.Kinds.Allowing.{law_of}
+use Rattle.steps_orec.proofs.RecordFindingLaws.{lasts_beside}
+use Rattle.stm_rule.proofs.KindLaws.Allowing.{law_of}
 use Rattle.steps_orec.proofs.reading.last.Goals as goal
 
 pub load_as-requires-clause-law : goal.load_as-requires-clause-law

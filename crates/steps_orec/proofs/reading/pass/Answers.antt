@@ -3,8 +3,8 @@ use Rattle.steps_orec.specs.RecordFindings.{FindsRead}
 use Rattle.rule_base.specs.Ranks.{home_of}
 use Rattle.stm_rule.specs.Kept.{good_of}
 use Rattle.stm_rule.specs.Product.{Invariant}
-use Rattle.steps_orec.specs.RecordFindingLaws.{passes_beside}
-use Rattle.stm_rule.specs.Kinds.Allowing.{law_of}
+use Rattle.steps_orec.proofs.RecordFindingLaws.{passes_beside}
+use Rattle.stm_rule.proofs.KindLaws.Allowing.{law_of}
 use Rattle.steps_orec.proofs.reading.pass.Goals as goal
 
 pub load_as-requires-clause-law : goal.load_as-requires-clause-law

@@ -1,7 +1,7 @@
 use Rattle.rule_orec.specs.OrecRuns.OrecStep.{orec_passes}
 use Rattle.stm_rule.specs.Runs.CoreRuns.CoreStep.{of_orec}
 use Rattle.steps_orec.specs.RecordFindings.{FindsRead}
-use Rattle.steps_orec.specs.Picking.{record_of}
+use Rattle.steps_orec.proofs.Picking.{record_of}
 use Rattle.steps_orec.proofs.reading.pass.Given as goal
 
 abbrev pub ghosts-load_as : goal.ghosts-load_as

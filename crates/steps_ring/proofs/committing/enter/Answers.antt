@@ -1,9 +1,9 @@
 use Rattle.rule_ring.specs.RingSteps.{ring_enter, RingEnters, CanRingEnter}
-use Rattle.stm_rule.specs.Kinds.Lifted.{ring_enters}
+use Rattle.stm_rule.proofs.KindLaws.Lifted.{ring_enters}
 use Rattle.stm_rule.specs.Kept.{good_of}
 use Rattle.stm_rule.specs.Kinds.Lifting.{AreSpared}
 use Rattle.stm_rule.specs.Product.{Invariant}
-use Rattle.stm_rule.specs.Kinds.Allowing.{law_of}
+use Rattle.stm_rule.proofs.KindLaws.Allowing.{law_of}
 use Rattle.steps_ring.proofs.committing.enter.Goals as goal
 
 pub store_as-requires-clause-law : goal.store_as-requires-clause-law

@@ -1,9 +1,9 @@
 use Rattle.rule_ring.specs.RingSteps.{ring_free, CanRingFree}
 use Rattle.rule_base.specs.StepKinds.{Nothing}
-use Rattle.stm_rule.specs.Kinds.Lifted.{ring_frees}
+use Rattle.stm_rule.proofs.KindLaws.Lifted.{ring_frees}
 use Rattle.stm_rule.specs.Kept.{good_of}
 use Rattle.stm_rule.specs.Product.{Invariant}
-use Rattle.stm_rule.specs.Kinds.Allowing.{law_of}
+use Rattle.stm_rule.proofs.KindLaws.Allowing.{law_of}
 use Rattle.steps_ring.proofs.committing.free.Goals as goal
 
 pub store_as-requires-clause-law : goal.store_as-requires-clause-law

@@ -1,9 +1,9 @@
 use Rattle.rule_ring.specs.RingSteps.{ring_lock, CanRingLock}
 use Rattle.stm_rule.specs.Findings.{FindsLock}
-use Rattle.stm_rule.specs.Kinds.Lifted.{ring_locks}
+use Rattle.stm_rule.proofs.KindLaws.Lifted.{ring_locks}
 use Rattle.stm_rule.specs.Kept.{good_of}
 use Rattle.stm_rule.specs.Product.{Invariant}
-use Rattle.stm_rule.specs.Kinds.Allowing.{law_of}
+use Rattle.stm_rule.proofs.KindLaws.Allowing.{law_of}
 use Rattle.steps_ring.proofs.committing.lock.Goals as goal
 
 pub exchange_as-requires-clause-law : goal.exchange_as-requires-clause-law

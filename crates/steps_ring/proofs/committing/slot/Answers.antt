@@ -1,13 +1,13 @@
 use Rattle.rule_ring.specs.RingSteps.{ring_slot, CanRingSlot}
 use Rattle.rule_base.specs.StepKinds.{Nothing}
-use Rattle.stm_rule.specs.Kinds.Lifted.{ring_slots}
+use Rattle.stm_rule.proofs.KindLaws.Lifted.{ring_slots}
 use Rattle.rule_ring.specs.SlotFilter.{slot_filter}
 use Rattle.stm_rule.specs.RecordsKept.{cells_of}
 use Rattle.std.proofs.Common.{arith}
 use Rattle.rule_ring.specs.Slots.{slot_place, slot_place-inside}
 use Rattle.stm_rule.specs.Kept.{good_of}
 use Rattle.stm_rule.specs.Product.{Invariant}
-use Rattle.stm_rule.specs.Kinds.Allowing.{law_of}
+use Rattle.stm_rule.proofs.KindLaws.Allowing.{law_of}
 use Rattle.steps_ring.proofs.committing.slot.Goals as goal
 
 pub store_at-requires-clause-law : goal.store_at-requires-clause-law

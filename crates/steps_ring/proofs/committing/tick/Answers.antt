@@ -1,9 +1,9 @@
 use Rattle.rule_ring.specs.RingSteps.{ring_tick, HasTurn}
 use Rattle.steps_ring.specs.RingFindings.{FindsTick}
-use Rattle.steps_ring.specs.RingFindingLaws.{ticks_beside}
+use Rattle.steps_ring.proofs.RingFindingLaws.{ticks_beside}
 use Rattle.stm_rule.specs.Kept.{good_of}
 use Rattle.stm_rule.specs.Product.{Invariant}
-use Rattle.stm_rule.specs.Kinds.Allowing.{law_of}
+use Rattle.stm_rule.proofs.KindLaws.Allowing.{law_of}
 use Rattle.steps_ring.proofs.committing.tick.Goals as goal
 
 pub load_as-requires-clause-law : goal.load_as-requires-clause-law

@@ -1,10 +1,10 @@
 use Rattle.rule_promoted.specs.PromotedSteps.{ring_move_grant, CanRingMoveGrant}
 use Rattle.steps_ring.specs.RingFindings.{FindsLevel}
-use Rattle.steps_ring.specs.RingFindingLaws.{move_grants_beside}
+use Rattle.steps_ring.proofs.RingFindingLaws.{move_grants_beside}
 use Rattle.rule_ring.specs.SlotFilter.{slot_filter}
 use Rattle.stm_rule.specs.Kept.{good_of}
 use Rattle.stm_rule.specs.Product.{Invariant}
-use Rattle.stm_rule.specs.Kinds.Allowing.{law_of}
+use Rattle.stm_rule.proofs.KindLaws.Allowing.{law_of}
 use Rattle.steps_ring.proofs.promoting.advance_grant.Goals as goal
 
 pub load_as-requires-clause-law : goal.load_as-requires-clause-law

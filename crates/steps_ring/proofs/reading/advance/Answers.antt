@@ -1,10 +1,10 @@
 use Rattle.rule_ring.specs.RingSteps.{ring_move, CanRingMove}
 use Rattle.steps_ring.specs.RingFindings.{FindsMove}
-use Rattle.steps_ring.specs.RingFindingLaws.{moves_beside}
+use Rattle.steps_ring.proofs.RingFindingLaws.{moves_beside}
 use Rattle.rule_ring.specs.SlotFilter.{slot_filter}
 use Rattle.stm_rule.specs.Kept.{good_of}
 use Rattle.stm_rule.specs.Product.{Invariant}
-use Rattle.stm_rule.specs.Kinds.Allowing.{law_of}
+use Rattle.stm_rule.proofs.KindLaws.Allowing.{law_of}
 use Rattle.steps_ring.proofs.reading.advance.Goals as goal
 
 pub load_as-requires-clause-law : goal.load_as-requires-clause-law

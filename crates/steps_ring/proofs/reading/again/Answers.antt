@@ -1,9 +1,9 @@
 use Rattle.rule_ring.specs.RingSteps.{ring_again, CanRingAgain}
 use Rattle.steps_ring.specs.RingFindings.{FindsAgain}
-use Rattle.steps_ring.specs.RingFindingLaws.{agains_beside}
+use Rattle.steps_ring.proofs.RingFindingLaws.{agains_beside}
 use Rattle.stm_rule.specs.Kept.{good_of}
 use Rattle.stm_rule.specs.Product.{Invariant}
-use Rattle.stm_rule.specs.Kinds.Allowing.{law_of}
+use Rattle.stm_rule.proofs.KindLaws.Allowing.{law_of}
 use Rattle.steps_ring.proofs.reading.again.Goals as goal
 
 pub load_as-requires-clause-law : goal.load_as-requires-clause-law

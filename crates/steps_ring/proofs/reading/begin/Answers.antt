@@ -1,9 +1,9 @@
 use Rattle.rule_ring.specs.RingSteps.{ring_begin, CanRingBegin}
 use Rattle.steps_ring.specs.RingFindings.{FindsStart}
-use Rattle.steps_ring.specs.RingFindingLaws.{begins_beside}
+use Rattle.steps_ring.proofs.RingFindingLaws.{begins_beside}
 use Rattle.stm_rule.specs.Kept.{good_of}
 use Rattle.stm_rule.specs.Product.{Invariant}
-use Rattle.stm_rule.specs.Kinds.Allowing.{law_of}
+use Rattle.stm_rule.proofs.KindLaws.Allowing.{law_of}
 use Rattle.steps_ring.proofs.reading.begin.Goals as goal
 
 pub load_as-requires-clause-law : goal.load_as-requires-clause-law

@@ -1,10 +1,10 @@
 use Rattle.rule_ring.specs.RingSteps.{ring_load, CanRingLoad}
 use Rattle.rule_base.specs.StepKinds.{Nothing}
-use Rattle.stm_rule.specs.Kinds.Lifted.{ring_loads}
+use Rattle.stm_rule.proofs.KindLaws.Lifted.{ring_loads}
 use Rattle.stm_rule.specs.Kept.{good_of}
 use Rattle.stm_rule.specs.Kinds.Lifting.{IsSpared}
 use Rattle.stm_rule.specs.Product.{Invariant}
-use Rattle.stm_rule.specs.Kinds.Allowing.{law_of}
+use Rattle.stm_rule.proofs.KindLaws.Allowing.{law_of}
 use Rattle.steps_ring.proofs.reading.load.Goals as goal
 
 pub load_as-requires-clause-law : goal.load_as-requires-clause-law

@@ -1,9 +1,9 @@
 use Rattle.rule_ring.specs.RingSteps.{ring_look, CanRingLook}
 use Rattle.steps_ring.specs.RingFindings.{FindsLook}
-use Rattle.steps_ring.specs.RingFindingLaws.{looks_beside}
+use Rattle.steps_ring.proofs.RingFindingLaws.{looks_beside}
 use Rattle.stm_rule.specs.Kept.{good_of}
 use Rattle.stm_rule.specs.Product.{Invariant}
-use Rattle.stm_rule.specs.Kinds.Allowing.{law_of}
+use Rattle.stm_rule.proofs.KindLaws.Allowing.{law_of}
 use Rattle.steps_ring.proofs.reading.look.Goals as goal
 
 pub load_as-requires-clause-law : goal.load_as-requires-clause-law

@@ -1,11 +1,11 @@
 use Rattle.rule_ring.specs.RingSteps.{ring_word, CanRingWord}
 use Rattle.rule_base.specs.StepKinds.{Nothing}
-use Rattle.stm_rule.specs.Kinds.Lifted.{ring_words}
+use Rattle.stm_rule.proofs.KindLaws.Lifted.{ring_words}
 use Rattle.std.proofs.Common.{arith}
 use Rattle.rule_ring.specs.Slots.{slot_place, slot_place-inside}
 use Rattle.stm_rule.specs.Kept.{good_of}
 use Rattle.stm_rule.specs.Product.{Invariant}
-use Rattle.stm_rule.specs.Kinds.Allowing.{law_of}
+use Rattle.stm_rule.proofs.KindLaws.Allowing.{law_of}
 use Rattle.steps_ring.proofs.reading.word.Goals as goal
 
 pub load_at-requires-clause-law : goal.load_at-requires-clause-law

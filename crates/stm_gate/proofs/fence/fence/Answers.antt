@@ -7,13 +7,13 @@ use Rattle.stm_rule.specs.Attempts.{good_by, own_of}
 use Rattle.stm_rule.specs.Callers.{Handle}
 use Rattle.stm_rule.specs.FenceFindings.{FindsPast}
 use Rattle.stm_rule.specs.Kept.{good_of}
-use Rattle.stm_rule.specs.StandLemmas.{tells-of, closing-of}
+use Rattle.stm_rule.proofs.StandLemmas.{tells-of, closing-of}
 use Rattle.tx_answers.specs.declared.answers.Fence.TheVariants.{Fenced}
 use Rattle.tx_answers.specs.Answers.{HoldsClosed}
 use Rattle.tx_answers.specs.Fences.{Fences}
 use Rattle.tx_answers.specs.CallerState.{CallerState, caller_of}
 use Rattle.stm_gate.specs.Knowing.{known}
-use Rattle.stm_gate.specs.Standing.{shown-of}
+use Rattle.stm_gate.proofs.Standing.{shown-of}
 use Rattle.stm_gate.proofs.FenceLaws.{tells-fenced}
 use Rattle.stm_gate.proofs.fence.fence.Goals as goal
 

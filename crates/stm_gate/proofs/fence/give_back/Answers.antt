@@ -11,13 +11,13 @@ use Rattle.stm_rule.specs.Attempts.{good_by, own_of, IsClosing}
 use Rattle.stm_rule.specs.Callers.{Handle, handle_of}
 use Rattle.stm_rule.specs.FenceFindings.{FindsEven}
 use Rattle.stm_rule.specs.Kept.{good_of}
-use Rattle.stm_rule.specs.StandLemmas.{tells-of, closing-of}
+use Rattle.stm_rule.proofs.StandLemmas.{tells-of, closing-of}
 use Rattle.tx_answers.specs.declared.answers.Give.TheVariants.{Committed, Unchanged, ClockFull}
 use Rattle.tx_answers.specs.Answers.{HoldsClosed, SeesQuiet}
 use Rattle.tx_answers.specs.Fences.{KeepsFenced, Gives}
 use Rattle.tx_answers.specs.CallerState.{CallerState, caller_of}
 use Rattle.stm_gate.specs.Knowing.{known, number}
-use Rattle.stm_gate.specs.Standing.{shown-of}
+use Rattle.stm_gate.proofs.Standing.{shown-of}
 use Rattle.stm_gate.specs.Logging.{wrote-some}
 use Rattle.stm_gate.proofs.FenceLaws.{can-unfence, can-commit, tells-unchanged, tells-full, tells-given}
 use Rattle.stm_gate.proofs.fence.give_back.Goals as goal

@@ -1,5 +1,5 @@
 use Rattle.stm_gate.specs.Knowing.{number}
-use Rattle.stm_gate.specs.LookingLaws.{looks-closed}
+use Rattle.stm_gate.proofs.LookingLaws.{looks-closed}
 use Rattle.stm_gate.proofs.gate.look.Goals as goal
 
 pub returns-clause-looks : goal.returns-clause-looks

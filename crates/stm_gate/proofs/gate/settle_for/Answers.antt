@@ -2,7 +2,7 @@ use Rattle.std.proofs.Common.{◌≡◌, ◌+◌, ◌∙◌, sym, arith, true, f
 use Rattle.rule_base.specs.InstallSteps.{settle, even_clock}
 use Rattle.rule_base.specs.StepKinds.{Nothing}
 use Rattle.stm_rule.specs.Findings.{FindsWithin}
-use Rattle.stm_rule.specs.StandLemmas.{tells-of}
+use Rattle.stm_rule.proofs.StandLemmas.{tells-of}
 use Rattle.stm_gate.proofs.InstallLaws.{settles-so, settles-even}
 use Rattle.stm_gate.proofs.gate.settle_for.Goals as goal
 

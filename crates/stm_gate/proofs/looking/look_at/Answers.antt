@@ -3,11 +3,11 @@ use Rattle.rule_base.specs.GateSteps.{check}
 use Rattle.rule_base.specs.StepKinds.{Nothing}
 use Rattle.stm_rule.specs.Attempts.{HasLooked}
 use Rattle.stm_rule.specs.Callers.{Handle}
-use Rattle.stm_rule.specs.StandLemmas.{tells-of}
+use Rattle.stm_rule.proofs.StandLemmas.{tells-of}
 use Rattle.tx_answers.specs.CallerState.{caller_of}
 use Rattle.stm_gate.specs.Knowing.{number}
 use Rattle.stm_gate.specs.Looking.{Finds, LooksOn}
-use Rattle.stm_gate.specs.LookingLaws.{looks-none, looks-one, finds-one}
+use Rattle.stm_gate.proofs.LookingLaws.{looks-none, looks-one, finds-one}
 use Rattle.stm_gate.proofs.looking.look_at.Goals as goal
 
 pub returns-then-other-caller-clause-looks : goal.returns-then-other-caller-clause-looks

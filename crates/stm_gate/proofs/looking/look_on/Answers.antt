@@ -2,7 +2,7 @@ use Rattle.std.proofs.Common.{arith, subst, sym, ap, ◌∙◌, ◌≡◌, ◌<�
 use Rattle.stm_rule.specs.Attempts.{HasLooked}
 use Rattle.stm_gate.specs.Knowing.{number}
 use Rattle.stm_gate.specs.Looking.{Finds}
-use Rattle.stm_gate.specs.LookingLaws.{looks-none, looks-more, looks-busy}
+use Rattle.stm_gate.proofs.LookingLaws.{looks-none, looks-more, looks-busy}
 use Rattle.tx_answers.specs.CallerState.{caller_of}
 use Rattle.stm_gate.proofs.looking.look_on.Goals as goal
 

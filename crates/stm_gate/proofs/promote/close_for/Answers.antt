@@ -8,14 +8,14 @@ use Rattle.rule_base.specs.GateSteps.{look_gate, seize}
 use Rattle.stm_rule.specs.Attempts.{own_of, good_by, Stands}
 use Rattle.stm_rule.specs.Callers.{Handle, handle_of}
 use Rattle.stm_rule.specs.Findings.{FindsGate, FindsTaken}
-use Rattle.stm_rule.specs.StandLemmas.{tells-of}
+use Rattle.stm_rule.proofs.StandLemmas.{tells-of}
 use Rattle.tx_answers.specs.Answers.{IsOpaque}
 use Rattle.tx_answers.specs.CallerState.{caller_of, is_irrevocable}
 use Rattle.stm_gate.specs.Knowing.{known, number}
 use Rattle.stm_gate.specs.Opacity.{opaque-inside}
 use Rattle.stm_gate.specs.Promoting.{ClosesFor}
-use Rattle.stm_gate.specs.PromotingLaws.{takes-refl, looks-taken, seizes-taken, seizes-won, takes-won, seized-stands}
-use Rattle.stm_gate.specs.Standing.{runs-of, who-of}
+use Rattle.stm_gate.proofs.PromotingLaws.{takes-refl, looks-taken, seizes-taken, seizes-won, takes-won, seized-stands}
+use Rattle.stm_gate.proofs.Standing.{runs-of, who-of}
 use Rattle.stm_gate.proofs.promote.close_for.Goals as goal
 
 pub returns-then-desc-clause-opaque : goal.returns-then-desc-clause-opaque

@@ -4,8 +4,8 @@ use Rattle.tx_answers.specs.declared.answers.Look.TheVariants.{Quiet, Busy}
 use Rattle.tx_answers.specs.CallerState.{caller_of}
 use Rattle.stm_gate.specs.Knowing.{number}
 use Rattle.stm_gate.specs.Looking.{LooksUntil}
-use Rattle.stm_gate.specs.PromotingLaws.{promotes-taken, promotes-alone, promotes-busy}
-use Rattle.stm_gate.specs.Standing.{in-of}
+use Rattle.stm_gate.proofs.PromotingLaws.{promotes-taken, promotes-alone, promotes-busy}
+use Rattle.stm_gate.proofs.Standing.{in-of}
 use Rattle.stm_gate.proofs.promote.promote.Goals as goal
 
 pub returns-in-Some-clause-promotes : goal.returns-in-Some-clause-promotes

@@ -2,7 +2,7 @@ use Rattle.std.proofs.Common.{◌≤◌, ◌++◌, ◌-◌, ◌∙◌, ap, sym, 
 use Rattle.std.proofs.lemmas.List.{take_rest}
 use Rattle.std.proofs.Math.Seq.{take-add}
 use Rattle.stm_io.specs.Ends.{Gained}
-use Rattle.stm_io.specs.Laws.{Gained-append}
+use Rattle.stm_io.proofs.Laws.{Gained-append}
 use Rattle.stm_io.proofs.whole.put_all.Goals as goal
 
 pub loop-done-preserved : goal.loop-done-preserved

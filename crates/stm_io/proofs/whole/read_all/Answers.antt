@@ -1,6 +1,6 @@
 use Rattle.std.proofs.Common.{◌≤◌, ◌++◌, arith, length, length-append, length-take, take}
 use Rattle.std.proofs.lemmas.Result.{err_from_is_err_and}
-use Rattle.stm_io.specs.Laws.{Took-append}
+use Rattle.stm_io.proofs.Laws.{Took-append}
 use Rattle.stm_io.proofs.whole.read_all.Goals as goal
 
 pub returns-in_err-extend_from_slice-in-Ok-clause-lost :

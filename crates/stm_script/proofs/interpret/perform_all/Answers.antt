@@ -5,7 +5,7 @@ use Rattle.std.proofs.lemmas.Result.{err_from_is_err_and}
 use Rattle.stm_script.specs.Operations.{OnlyReads}
 use Rattle.stm_script.specs.ScriptLaws.{GaveOver, GaveUpTo, gives-none}
 use Rattle.stm_script.specs.Scripts.{run}
-use Rattle.stm_script.specs.KeepingLaws.{keeps-gave, keeps-run}
+use Rattle.stm_script.proofs.KeptLogs.{keeps-gave, keeps-run}
 use Rattle.stm_script.proofs.Rooms.{room-reply}
 use Rattle.stm_script.proofs.RunLaws.{gave-more, same-explained, if-err}
 use Rattle.stm_script.specs.declared.op.Op.TheVariants.{Read}

@@ -7,7 +7,7 @@ use Rattle.stm_text.specs.Lines.{lines_of}
 use Rattle.stm_text.specs.Drafts.{opening}
 use Rattle.stm_text.specs.Grammar.{parsed}
 use Rattle.stm_text.specs.Parsed.{IsParsed}
-use Rattle.stm_text.specs.Giving.{Gives}
+use Rattle.stm_text.proofs.Giving.{Gives}
 use Rattle.stm_text.proofs.ParsedLaws.{lines-is_parsed}
 use Rattle.stm_text.proofs.laws.text_is_parsed.Goals as goal
 

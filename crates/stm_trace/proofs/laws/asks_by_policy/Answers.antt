@@ -1,4 +1,4 @@
-use Rattle.stm_trace.specs.AskingLaws.{asks-by-policy}
+use Rattle.stm_trace.proofs.AskingLaws.{asks-by-policy}
 use Rattle.stm_trace.proofs.laws.asks_by_policy.Goals as goal
 
 pub returns : goal.returns

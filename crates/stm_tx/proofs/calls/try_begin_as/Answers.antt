@@ -10,14 +10,14 @@ use Rattle.stm_rule.specs.declared.local.Local.{Local}
 use Rattle.stm_rule.specs.Attempts.{Stands, IsInside, begun, own_of, good_by}
 use Rattle.stm_rule.specs.Callers.{Handle, handle_of}
 use Rattle.stm_rule.specs.Findings.{FindsGate}
-use Rattle.stm_rule.specs.StandLemmas.{tells-of, outside-of}
-use Rattle.stm_gate.specs.Standing.{who-of, shown-of}
+use Rattle.stm_rule.proofs.StandLemmas.{tells-of, outside-of}
+use Rattle.stm_gate.proofs.Standing.{who-of, shown-of}
 use Rattle.tx_answers.specs.declared.answers.Begin.TheVariants.{Begun, Closed}
 use Rattle.tx_answers.specs.Answers.{Begins}
 use Rattle.tx_answers.specs.CallerState.{known_of, caller_of}
 use Rattle.stm_gate.specs.Starts.{CanBegin, Starts}
 use Rattle.stm_rule.specs.RecordsKept.{cells_of}
-use Rattle.stm_gate.specs.Told.{stands-in}
+use Rattle.stm_gate.proofs.Told.{stands-in}
 use Rattle.rule_base.specs.declared.views.View.{View}
 use Rattle.rule_base.specs.declared.seats.Who.{Who}
 use Rattle.stm_tx.proofs.Beginning.{begins-fresh, can-begin, tells-closed, tells-begun, tells-refused}

@@ -5,9 +5,9 @@ use Rattle.stm_model.specs.declared.alg.Alg.{Alg}
 use Rattle.stm_model.specs.declared.alg.Alg.TheVariants.{Cgl, Tml, OrecLazy, OrecEager, RingSw, Serial}
 use Rattle.rule_base.specs.declared.views.View.{View}
 use Rattle.rule_base.specs.Fence.{without_fence}
-use Rattle.stm_rule.specs.Kinds.FencedRest.{rest-of, at-rest-of}
+use Rattle.stm_rule.proofs.KindLaws.FencedRest.{rest-of, at-rest-of}
 use Rattle.stm_rule.specs.Kept.{good_of}
-use Rattle.stm_rule.specs.Kinds.RestLaws.{quiet-rests, granted-rests}
+use Rattle.stm_rule.proofs.KindLaws.RestLaws.{quiet-rests, granted-rests}
 use Rattle.tx_answers.specs.CallerState.{granted_under}
 use Rattle.stm_tx.proofs.laws.rest_is_answered.Goals as goal
 

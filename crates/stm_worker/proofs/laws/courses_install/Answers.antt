@@ -1,4 +1,4 @@
-use Rattle.stm_worker.specs.InstallLaws.{courses-install}
+use Rattle.stm_worker.proofs.InstallLaws.{courses-install}
 use Rattle.stm_worker.proofs.laws.courses_install.Goals as goal
 
 pub returns : goal.returns

@@ -1,4 +1,4 @@
-use Rattle.stm_worker.specs.RiseCoverLaws.{turned-covers, turned-covers-alone, wound-covers, finished-covers, owes-all}
+use Rattle.stm_worker.proofs.RiseCoverLaws.{turned-covers, turned-covers-alone, wound-covers, finished-covers, owes-all}
 use Rattle.stm_worker.proofs.laws.turns_cover.Goals as goal
 
 pub returns : goal.returns

@@ -1,4 +1,4 @@
-use Rattle.tx_effects.specs.KeyLaws.{keys-ascend}
+use Rattle.tx_effects.proofs.KeyLaws.{keys-ascend}
 use Rattle.tx_cells.specs.Chains.{tag}
 use Rattle.tx_cells.proofs.CounterLaws.{added-sum}
 use Rattle.tx_cells.proofs.ChainContents.{inserted-keys, removed-keys}

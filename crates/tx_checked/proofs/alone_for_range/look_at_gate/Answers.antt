@@ -6,8 +6,8 @@ use Rattle.stm_model.specs.declared.rule.AnyMem.{AnyMem}
 use Rattle.stm_rule.specs.Attempts.{own_of}
 use Rattle.stm_rule.specs.Callers.{Handle, handle_of}
 use Rattle.stm_rule.specs.Findings.{FindsGate}
-use Rattle.stm_rule.specs.StandLemmas.{tells-of, outside-of}
-use Rattle.stm_gate.specs.Standing.{shown-of}
+use Rattle.stm_rule.proofs.StandLemmas.{tells-of, outside-of}
+use Rattle.stm_gate.proofs.Standing.{shown-of}
 use Rattle.tx_answers.specs.CallerState.{caller_of}
 use Rattle.tx_checked.specs.Alone.{LooksAtGate}
 use Rattle.tx_checked.proofs.GateLooks.{can-depart, looks}

@@ -1,4 +1,4 @@
-use Rattle.tx_effects.specs.KeyLaws.{has-with, ascends-with, ascends-without, has-without, same-sets}
+use Rattle.tx_effects.proofs.KeyLaws.{has-with, ascends-with, ascends-without, has-without, same-sets}
 use Rattle.tx_effects.proofs.laws.keys_are_sets.Goals as goal
 
 pub returns : goal.returns

@@ -1,4 +1,4 @@
-use Rattle.tx_layout.specs.LayoutLaws.{hands-out-apart}
+use Rattle.tx_layout.proofs.LayoutLaws.{hands-out-apart}
 use Rattle.tx_layout.proofs.laws.layouts_hand_out_apart.Goals as goal
 
 pub returns : goal.returns

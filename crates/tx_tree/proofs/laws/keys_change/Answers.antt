@@ -1,6 +1,6 @@
-use Rattle.tx_effects.specs.KeyLaws.{keys-ascend}
+use Rattle.tx_effects.proofs.KeyLaws.{keys-ascend}
 use Rattle.std.proofs.Common.{◌<◌, subst}
-use Rattle.tx_tree.specs.ShapeOrder.{named-once}
+use Rattle.tx_tree.proofs.ShapeOrder.{named-once}
 use Rattle.tx_tree.specs.Trees.{pool, tag}
 use Rattle.tx_tree.proofs.TreeContents.{inserted-keys, removed-keys}
 use Rattle.tx_tree.proofs.TreeEffects.{inserted-keeps, removed-keeps}

@@ -1,4 +1,4 @@
-use Rattle.tx_tree.specs.ShapeSame.{zeros-shape}
+use Rattle.tx_tree.proofs.ShapeSame.{zeros-shape}
 use Rattle.tx_tree.specs.Trees.{pool}
 use Rattle.tx_tree.proofs.TreeRegions.{tree-same, inserted-outside, removed-outside}
 use Rattle.tx_tree.proofs.laws.trees_are_apart.Goals as goal

@@ -4,7 +4,7 @@ use Rattle.stm_rule.specs.Attempts.{own_of}
 use Rattle.tx_answers.specs.declared.answers.Cancel.TheVariants.{Cancelled}
 use Rattle.tx_answers.specs.Answers.{Cancels}
 use Rattle.tx_answers.specs.CallerState.{CallerState, known_of}
-use Rattle.stm_gate.specs.Opening.{Opened, opened, tells-of}
+use Rattle.stm_gate.proofs.Opening.{Opened, opened, tells-of}
 use Rattle.alg_orec.proofs.CommitOpening.{Unpromoted, unpromoted, irrevocable-known}
 use Rattle.alg_orec.proofs.Eager.EagerCommitLaws as laws
 use Rattle.alg_orec.proofs.Eager.EagerProving.{held-within}

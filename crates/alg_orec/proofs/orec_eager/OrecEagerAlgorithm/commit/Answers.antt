@@ -8,8 +8,8 @@ use Rattle.stm_rule.specs.Attempts.{own_of}
 use Rattle.tx_answers.specs.declared.answers.Commit.TheVariants.{ReadOnly}
 use Rattle.tx_answers.specs.Answers.{Commits, KeepsRule}
 use Rattle.tx_answers.specs.CallerState.{CallerState, known_of}
-use Rattle.stm_gate.specs.Opening.{Opened, opened, of-view, shows, tells-of}
-use Rattle.stm_gate.specs.Peeling.{no-items}
+use Rattle.stm_gate.proofs.Opening.{Opened, opened, of-view, shows, tells-of}
+use Rattle.stm_gate.proofs.Peeling.{no-items}
 use Rattle.alg_orec.proofs.CommitOpening.{Unpromoted, unpromoted, granted-known}
 use Rattle.alg_orec.proofs.Eager.EagerCommitLaws as laws
 use Rattle.alg_orec.proofs.Eager.EagerProving.{length-none, held-within}

@@ -5,7 +5,7 @@ use Rattle.stm_rule.specs.Attempts.{own_of}
 use Rattle.stm_rule.specs.Callers.{handle_of}
 use Rattle.tx_answers.specs.Causes.{is_some}
 use Rattle.tx_answers.specs.CallerState.{CallerState}
-use Rattle.stm_gate.specs.Opening.{is-known}
+use Rattle.stm_gate.proofs.Opening.{is-known}
 use Rattle.alg_orec.proofs.Eager.EagerOpening.{EagerOpening, opens-eager}
 use Rattle.alg_orec.proofs.Eager.EagerWriteLaws as laws
 use Rattle.alg_orec.proofs.orec_eager.OrecEagerAlgorithm.write.Goals.{After-desc}

@@ -5,7 +5,7 @@ use Rattle.stm_rule.specs.Attempts.{IsInside, own_of}
 use Rattle.tx_answers.specs.declared.answers.Cancel.TheVariants.{Cancelled}
 use Rattle.tx_answers.specs.Answers.{Cancels}
 use Rattle.tx_answers.specs.CallerState.{CallerState, known_of, is_irrevocable}
-use Rattle.stm_gate.specs.Opening.{Opened, opened, tells-of}
+use Rattle.stm_gate.proofs.Opening.{Opened, opened, tells-of}
 use Rattle.alg_orec.proofs.CommitOpening as opening
 use Rattle.alg_orec.proofs.Lazy.LazyEndingLaws as laws
 use Rattle.alg_orec.proofs.Proving.{lazy-of}

@@ -10,7 +10,7 @@ use Rattle.stm_rule.specs.Attempts.{IsInside, own_of}
 use Rattle.tx_answers.specs.declared.answers.Commit.TheVariants.{ReadOnly}
 use Rattle.tx_answers.specs.Answers.{Commits, KeepsRule}
 use Rattle.tx_answers.specs.CallerState.{CallerState, known_of}
-use Rattle.stm_gate.specs.Opening.{Opened, opened, of-view, tells-of}
+use Rattle.stm_gate.proofs.Opening.{Opened, opened, of-view, tells-of}
 use Rattle.alg_orec.proofs.CallLaws as calls
 use Rattle.alg_orec.proofs.CommitOpening as opening
 use Rattle.alg_orec.proofs.Lazy.LazyEndingLaws as laws

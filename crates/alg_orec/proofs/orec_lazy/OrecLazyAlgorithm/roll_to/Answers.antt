@@ -5,8 +5,8 @@ use Rattle.stm_rule.specs.Attempts.{own_of}
 use Rattle.tx_answers.specs.declared.answers.Roll.TheVariants.{Rolled}
 use Rattle.tx_answers.specs.Answers.{Rolls}
 use Rattle.tx_answers.specs.CallerState.{CallerState, known_of}
-use Rattle.stm_gate.specs.MarkLaws.{some-by}
-use Rattle.stm_gate.specs.Opening.{opened, tells-of}
+use Rattle.stm_gate.proofs.MarkLaws.{some-by}
+use Rattle.stm_gate.proofs.Opening.{opened, tells-of}
 use Rattle.alg_orec.proofs.Lazy.LazyNestingLaws as laws
 use Rattle.alg_orec.proofs.NestingOpening.{goes-on, goes-on-of, irrevocable-now}
 use Rattle.alg_orec.proofs.orec_lazy.OrecLazyAlgorithm.roll_to.Goals as goal

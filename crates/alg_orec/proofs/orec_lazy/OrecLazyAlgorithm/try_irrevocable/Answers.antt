@@ -1,6 +1,6 @@
 use Rattle.std.proofs.Common.{refl, rules}
 use Rattle.stm_model.specs.declared.alg.Alg.TheVariants.{OrecLazy}
-use Rattle.stm_gate.specs.Opening.{opened}
+use Rattle.stm_gate.proofs.Opening.{opened}
 use Rattle.alg_orec.proofs.GrantOpening.{already, granted-alone}
 use Rattle.alg_orec.proofs.orec_lazy.OrecLazyAlgorithm.try_irrevocable.Goals as goal
 

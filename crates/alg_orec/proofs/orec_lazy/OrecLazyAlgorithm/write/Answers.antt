@@ -9,7 +9,7 @@ use Rattle.tx_answers.specs.declared.answers.Write.TheVariants as writes
 use Rattle.tx_answers.specs.Answers.{HasWritten}
 use Rattle.tx_answers.specs.CallerState.{CallerState, known_of}
 use Rattle.tx_logs.specs.LogStates.{LogState}
-use Rattle.stm_gate.specs.Opening.{of-view, shows, tells-of}
+use Rattle.stm_gate.proofs.Opening.{of-view, shows, tells-of}
 use Rattle.alg_orec.proofs.Lazy.LazyLaws as laws
 use Rattle.alg_orec.proofs.Lazy.LazyOpening.{LazyOpening, opens-lazy}
 use Rattle.alg_orec.proofs.ReadCalls as calls

@@ -4,7 +4,7 @@ use Rattle.stm_rule.specs.Attempts.{own_of}
 use Rattle.tx_answers.specs.declared.answers.Cancel.TheVariants as cancels
 use Rattle.tx_answers.specs.Answers as answers
 use Rattle.tx_answers.specs.CallerState.{CallerState, known_of, is_irrevocable}
-use Rattle.alg_ring.specs.Opening.{opened, has-attempt, tells-of}
+use Rattle.alg_ring.proofs.Opening.{opened, has-attempt, tells-of}
 use Rattle.alg_ring.proofs.Ending as laws
 use Rattle.alg_ring.proofs.Running as attempt
 use Rattle.alg_ring.proofs.ring.RingSwAlgorithm.cancel.Goals as goal

@@ -9,7 +9,7 @@ use Rattle.tx_logs.specs.LogStates.{LogState}
 use Rattle.tx_answers.specs.declared.answers.Commit.TheVariants as commits
 use Rattle.tx_answers.specs.Answers as answers
 use Rattle.tx_answers.specs.CallerState.{CallerState, known_of}
-use Rattle.alg_ring.specs.Opening.{opened, of-view, has-attempt, tells-of, stands-after}
+use Rattle.alg_ring.proofs.Opening.{opened, of-view, has-attempt, tells-of, stands-after}
 use Rattle.alg_ring.proofs.Committing as laws
 use Rattle.alg_ring.proofs.Ending as ending
 use Rattle.alg_ring.proofs.Running as attempt

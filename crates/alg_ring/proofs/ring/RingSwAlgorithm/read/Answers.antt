@@ -8,7 +8,7 @@ use Rattle.tx_answers.specs.declared.answers.Read.TheVariants.{Value}
 use Rattle.tx_answers.specs.Answers.{HasRead}
 use Rattle.tx_answers.specs.CallerState.{caller_of}
 use Rattle.stm_gate.specs.Knowing.{known}
-use Rattle.stm_gate.specs.Standing.{runs-of}
+use Rattle.stm_gate.proofs.Standing.{runs-of}
 use Rattle.alg_ring.proofs.Ending.{plain-of, ring-of}
 use Rattle.alg_ring.proofs.Writing.{reads-own}
 use Rattle.alg_ring.proofs.ring.RingSwAlgorithm.read.Goals as goal

@@ -9,9 +9,9 @@ use Rattle.tx_answers.specs.Answers.{Rolls}
 use Rattle.tx_answers.specs.CallerState.{is_irrevocable}
 use Rattle.tx_logs.specs.LogStates.{LogState}
 use Rattle.stm_gate.specs.Knowing.{known}
-use Rattle.stm_gate.specs.MarkLaws.{some-by}
-use Rattle.stm_gate.specs.Standing.{runs-of}
-use Rattle.stm_gate.specs.Told.{told, stands-in, running-by}
+use Rattle.stm_gate.proofs.MarkLaws.{some-by}
+use Rattle.stm_gate.proofs.Standing.{runs-of}
+use Rattle.stm_gate.proofs.Told.{told, stands-in, running-by}
 use Rattle.alg_ring.proofs.Ending as ending
 use Rattle.alg_ring.proofs.NestingLaws as nesting
 use Rattle.alg_ring.proofs.ring.RingSwAlgorithm.roll_to.Goals as goal

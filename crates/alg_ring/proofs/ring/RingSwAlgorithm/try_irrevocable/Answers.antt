@@ -5,7 +5,7 @@ use Rattle.tx_answers.specs.Answers.{TriesIrrevocable}
 use Rattle.tx_answers.specs.CallerState.{CallerState, known_of, caller_of}
 use Rattle.stm_gate.specs.Granting.{Grants, irrevs-after, irrevocable-already}
 use Rattle.stm_gate.specs.Knowing.{known, number}
-use Rattle.alg_ring.specs.Opening.{opened, has-attempt}
+use Rattle.alg_ring.proofs.Opening.{opened, has-attempt}
 use Rattle.alg_ring.proofs.Running as attempt
 use Rattle.alg_ring.proofs.ring.RingSwAlgorithm.try_irrevocable.Goals as goal
 

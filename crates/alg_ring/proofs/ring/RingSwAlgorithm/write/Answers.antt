@@ -10,8 +10,8 @@ use Rattle.tx_answers.specs.declared.answers.Write.TheVariants as writes
 use Rattle.tx_answers.specs.Answers.{HasWritten}
 use Rattle.tx_answers.specs.CallerState.{CallerState, caller_of}
 use Rattle.stm_gate.specs.Knowing.{known}
-use Rattle.stm_gate.specs.Standing.{stands-of, runs-of, shown-of}
-use Rattle.stm_gate.specs.Told.{stands-on, stands-back}
+use Rattle.stm_gate.proofs.Standing.{stands-of, runs-of, shown-of}
+use Rattle.stm_gate.proofs.Told.{stands-on, stands-back}
 use Rattle.alg_ring.proofs.Ending.{plain-of, ring-of}
 use Rattle.alg_ring.proofs.Writing as laws
 use Rattle.alg_ring.proofs.ring.RingSwAlgorithm.write.Goals as goal

@@ -4,7 +4,7 @@ use Rattle.rule_base.specs.StepKinds.{Nothing}
 use Rattle.rule_seq.specs.CglSteps.{take_lock, load_start, Begins, free_lock}
 use Rattle.stm_rule.specs.Findings.{FindsLock}
 use Rattle.stm_rule.specs.Kept.{good_of}
-use Rattle.stm_rule.specs.StandLemmas.{tells-of}
+use Rattle.stm_rule.proofs.StandLemmas.{tells-of}
 use Rattle.alg_seq.proofs.Beginning.{tells-held, tells-started, tells-full}
 use Rattle.alg_seq.proofs.cgl.CglAlgorithm.begin.Goals as goal
 

@@ -5,9 +5,9 @@ use Rattle.stm_rule.specs.declared.local.Local.{Local}
 use Rattle.stm_rule.specs.Attempts.{own_of}
 use Rattle.stm_rule.specs.Callers.{Handle, handle_of}
 use Rattle.stm_rule.specs.Kept.{good_of}
-use Rattle.stm_rule.specs.StandLemmas.{tells-of}
+use Rattle.stm_rule.proofs.StandLemmas.{tells-of}
 use Rattle.stm_gate.specs.Knowing.{known}
-use Rattle.stm_gate.specs.Standing.{runs-of, who-of}
+use Rattle.stm_gate.proofs.Standing.{runs-of, who-of}
 use Rattle.rule_seq.specs.CglSteps.{free_lock, store_clock, Commits}
 use Rattle.tx_answers.specs.declared.answers.Commit.TheVariants.{Committed, ReadOnly}
 use Rattle.tx_answers.specs.Answers.{KeepsRule}
@@ -17,7 +17,7 @@ use Rattle.rule_base.specs.declared.seats.SeatView.{SeatView}
 use Rattle.rule_base.specs.declared.views.View.{View}
 use Rattle.alg_seq.proofs.CountingLaws.{takes-left}
 use Rattle.alg_seq.proofs.Locked.{locked, tells-ended, tells-committed, may-commit}
-use Rattle.stm_gate.specs.Told.{told}
+use Rattle.stm_gate.proofs.Told.{told}
 use Rattle.alg_seq.proofs.cgl.CglAlgorithm.commit.Goals as goal
 
 pub returns-then-not-desc-clause-commits : goal.returns-then-not-desc-clause-commits

@@ -4,7 +4,7 @@ use Rattle.stm_model.specs.declared.alg.Alg.{Alg}
 use Rattle.stm_rule.specs.Attempts.{own_of}
 use Rattle.stm_rule.specs.Callers.{Handle, handle_of}
 use Rattle.stm_gate.specs.Knowing.{known, number}
-use Rattle.stm_gate.specs.Standing.{runs-of}
+use Rattle.stm_gate.proofs.Standing.{runs-of}
 use Rattle.tx_answers.specs.Answers.{TriesIrrevocable}
 use Rattle.tx_answers.specs.CallerState.{caller_of, is_irrevocable, wrote}
 use Rattle.alg_seq.proofs.Locked.{stays-irrevocable}

@@ -4,18 +4,18 @@ use Rattle.stm_model.specs.Algorithms.{takes_lock, logs_writes, has_read_log}
 use Rattle.stm_model.specs.declared.alg.Alg.TheVariants.{Cgl}
 use Rattle.stm_rule.specs.Attempts.{own_of}
 use Rattle.stm_rule.specs.Callers.{Handle, handle_of}
-use Rattle.stm_rule.specs.StandLemmas.{tells-of}
+use Rattle.stm_rule.proofs.StandLemmas.{tells-of}
 use Rattle.stm_gate.specs.Knowing.{known}
-use Rattle.stm_gate.specs.Standing.{runs-of, who-of}
+use Rattle.stm_gate.proofs.Standing.{runs-of, who-of}
 use Rattle.rule_seq.specs.CglSteps.{store_heap}
 use Rattle.rule_base.specs.declared.views.View.{View}
 use Rattle.tx_answers.specs.declared.answers.Write.TheVariants.{Done}
 use Rattle.tx_answers.specs.Answers.{HasWritten}
 use Rattle.tx_answers.specs.CallerState.{known_of}
 use Rattle.stm_gate.specs.InnerLaws.{no-log-full}
-use Rattle.stm_gate.specs.KeptLaws.{kept-same, kept-unlogged}
+use Rattle.stm_gate.proofs.KeptLaws.{kept-same, kept-unlogged}
 use Rattle.alg_seq.proofs.Locked.{tells-store, still-opaque, logged-refl}
-use Rattle.stm_gate.specs.Told.{told}
+use Rattle.stm_gate.proofs.Told.{told}
 use Rattle.alg_seq.proofs.cgl.CglAlgorithm.write.Goals as goal
 
 pub returns-clause-write : goal.returns-clause-write

@@ -3,7 +3,7 @@ use Rattle.stm_model.specs.declared.alg.Alg.TheVariants.{Serial}
 use Rattle.rule_seq.specs.CglSteps.{take_lock, load_start, Begins}
 use Rattle.stm_rule.specs.Findings.{FindsLock}
 use Rattle.stm_rule.specs.Kept.{good_of}
-use Rattle.stm_rule.specs.StandLemmas.{tells-of}
+use Rattle.stm_rule.proofs.StandLemmas.{tells-of}
 use Rattle.alg_seq.proofs.Beginning.{tells-held, tells-started}
 use Rattle.alg_seq.proofs.serial.SerialAlgorithm.begin.Goals as goal
 

@@ -7,9 +7,9 @@ use Rattle.stm_rule.specs.declared.local.Local.{Local}
 use Rattle.stm_rule.specs.Attempts.{own_of}
 use Rattle.stm_rule.specs.Callers.{Handle, handle_of}
 use Rattle.stm_gate.specs.Knowing.{known}
-use Rattle.stm_gate.specs.Standing.{runs-of}
+use Rattle.stm_gate.proofs.Standing.{runs-of}
 use Rattle.tx_answers.specs.CallerState.{known_of}
-use Rattle.stm_gate.specs.Told.{told}
+use Rattle.stm_gate.proofs.Told.{told}
 use Rattle.tx_answers.specs.declared.answers.Cancel.TheVariants.{Cancelled}
 use Rattle.tx_answers.specs.Answers.{Cancels}
 use Rattle.alg_seq.proofs.Locked.{locked}

@@ -3,14 +3,14 @@ use Rattle.stm_model.specs.Algorithms.{takes_lock}
 use Rattle.stm_rule.specs.Attempts.{own_of}
 use Rattle.stm_rule.specs.Callers.{Handle}
 use Rattle.stm_rule.specs.Kept.{good_of}
-use Rattle.stm_rule.specs.StandLemmas.{tells-of}
+use Rattle.stm_rule.proofs.StandLemmas.{tells-of}
 use Rattle.stm_gate.specs.Knowing.{known}
-use Rattle.stm_gate.specs.Standing.{runs-of, who-of}
+use Rattle.stm_gate.proofs.Standing.{runs-of, who-of}
 use Rattle.rule_seq.specs.CglSteps.{load_heap, Loads}
 use Rattle.tx_answers.specs.declared.answers.Read.TheVariants.{Value}
 use Rattle.tx_answers.specs.Answers.{HasRead}
 use Rattle.alg_seq.proofs.Locked.{tells-read}
-use Rattle.stm_gate.specs.Told.{told}
+use Rattle.stm_gate.proofs.Told.{told}
 use Rattle.alg_seq.proofs.serial.SerialAlgorithm.read.Goals as goal
 
 pub returns-clause-read : goal.returns-clause-read

@@ -5,11 +5,11 @@ use Rattle.rule_base.specs.Own.{Own}
 use Rattle.stm_rule.specs.declared.local.Local.{Local}
 use Rattle.stm_rule.specs.Attempts.{own_of}
 use Rattle.stm_rule.specs.Callers.{Handle, handle_of}
-use Rattle.stm_rule.specs.StandLemmas.{tells-of}
+use Rattle.stm_rule.proofs.StandLemmas.{tells-of}
 use Rattle.stm_gate.specs.Knowing.{known, number}
-use Rattle.stm_gate.specs.Standing.{runs-of}
+use Rattle.stm_gate.proofs.Standing.{runs-of}
 use Rattle.tx_answers.specs.CallerState.{known_of}
-use Rattle.stm_gate.specs.Told.{told}
+use Rattle.stm_gate.proofs.Told.{told}
 use Rattle.stm_model.specs.Algorithms.{asks_at_grant}
 use Rattle.stm_model.specs.declared.config.TheConstants.{CLOCK_LIMIT}
 use Rattle.rule_seq.specs.CglSteps.{load_limit, LoadsLimit}

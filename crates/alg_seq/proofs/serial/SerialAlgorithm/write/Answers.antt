@@ -9,11 +9,11 @@ use Rattle.stm_rule.specs.declared.local.Local.{Local}
 use Rattle.rule_base.specs.declared.seats.Who.{Who}
 use Rattle.stm_rule.specs.Attempts.{HasRoom, own_of, good_by, IsInside}
 use Rattle.stm_rule.specs.Callers.{Handle, handle_of}
-use Rattle.stm_rule.specs.StandLemmas.{tells-of}
+use Rattle.stm_rule.proofs.StandLemmas.{tells-of}
 use Rattle.stm_gate.specs.Knowing.{known}
-use Rattle.stm_gate.specs.Standing.{runs-of}
+use Rattle.stm_gate.proofs.Standing.{runs-of}
 use Rattle.tx_answers.specs.CallerState.{CallerState, known_of}
-use Rattle.stm_gate.specs.Told.{told, running-by, stands-in}
+use Rattle.stm_gate.proofs.Told.{told, running-by, stands-in}
 use Rattle.alg_seq.proofs.Keeping.{known-kept}
 use Rattle.rule_seq.specs.CglSteps.{store_heap}
 use Rattle.tx_answers.specs.declared.answers.Write.TheVariants.{Done}

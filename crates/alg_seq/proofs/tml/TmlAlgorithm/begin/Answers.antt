@@ -2,7 +2,7 @@ use Rattle.std.proofs.Common.{arith, rules}
 use Rattle.rule_seq.specs.TmlSteps.{tml_begin}
 use Rattle.stm_rule.specs.Findings.{FindsBegin}
 use Rattle.stm_rule.specs.Kept.{good_of}
-use Rattle.stm_rule.specs.StandLemmas.{tells-of}
+use Rattle.stm_rule.proofs.StandLemmas.{tells-of}
 use Rattle.alg_seq.proofs.TmlLaws.{tells-held, tells-started}
 use Rattle.alg_seq.proofs.tml.TmlAlgorithm.begin.Goals as goal
 

@@ -3,7 +3,7 @@ use Rattle.stm_rule.specs.Attempts.{own_of}
 use Rattle.tx_answers.specs.declared.answers.Cancel.TheVariants as cancels
 use Rattle.tx_answers.specs.Answers as answers
 use Rattle.tx_answers.specs.CallerState.{CallerState, is_irrevocable}
-use Rattle.stm_gate.specs.Opening.{opened, shows}
+use Rattle.stm_gate.proofs.Opening.{opened, shows}
 use Rattle.alg_seq.proofs.TmlLaws as laws
 use Rattle.alg_seq.proofs.TmlOpening.{plain, inside, named}
 use Rattle.alg_seq.proofs.tml.TmlAlgorithm.cancel.Goals as goal

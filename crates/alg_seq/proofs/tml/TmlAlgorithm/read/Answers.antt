@@ -5,11 +5,11 @@ use Rattle.stm_rule.specs.Attempts.{own_of}
 use Rattle.stm_rule.specs.declared.local.Local.{Local}
 use Rattle.stm_rule.specs.Findings.{FindsAgain}
 use Rattle.stm_rule.specs.Kept.{good_of}
-use Rattle.stm_rule.specs.StandLemmas.{tells-of}
+use Rattle.stm_rule.proofs.StandLemmas.{tells-of}
 use Rattle.tx_answers.specs.declared.answers.Read.TheVariants as reads
 use Rattle.tx_answers.specs.Answers as answers
 use Rattle.tx_answers.specs.CallerState.{CallerState}
-use Rattle.stm_gate.specs.Opening.{opened, shows}
+use Rattle.stm_gate.proofs.Opening.{opened, shows}
 use Rattle.alg_seq.proofs.TmlLaws as laws
 use Rattle.alg_seq.proofs.TmlOpening.{plain-of}
 use Rattle.alg_seq.proofs.tml.TmlAlgorithm.read.Goals as goal

@@ -9,8 +9,8 @@ use Rattle.tx_answers.specs.CallerState.{known_of, is_irrevocable}
 use Rattle.tx_logs.specs.LogStates.{LogState}
 use Rattle.tx_answers.specs.Counting.{AddsAtMost}
 use Rattle.stm_gate.specs.Knowing.{known}
-use Rattle.stm_gate.specs.Standing.{runs-of}
-use Rattle.stm_gate.specs.Told.{told, stands-in, running-by}
+use Rattle.stm_gate.proofs.Standing.{runs-of}
+use Rattle.stm_gate.proofs.Told.{told, stands-in, running-by}
 use Rattle.alg_seq.specs.Nesting.{is_sequential}
 use Rattle.alg_seq.proofs.NestingLaws as nesting
 use Rattle.alg_seq.proofs.tml.TmlAlgorithm.roll_to.Goals as goal

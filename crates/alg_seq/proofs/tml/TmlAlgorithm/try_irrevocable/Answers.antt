@@ -4,7 +4,7 @@ use Rattle.tx_answers.specs.Answers as answers
 use Rattle.tx_answers.specs.CallerState.{CallerState, caller_of}
 use Rattle.stm_gate.specs.Knowing.{known, number}
 use Rattle.stm_gate.specs.Granting.{Grants, irrevs-after, irrevocable-already}
-use Rattle.stm_gate.specs.Opening.{opened, is-known}
+use Rattle.stm_gate.proofs.Opening.{opened, is-known}
 use Rattle.alg_seq.proofs.TmlLaws as laws
 use Rattle.alg_seq.proofs.TmlOpening.{plain, inside, named}
 use Rattle.alg_seq.proofs.tml.TmlAlgorithm.try_irrevocable.Goals as goal

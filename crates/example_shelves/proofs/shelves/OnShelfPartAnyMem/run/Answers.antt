@@ -1,6 +1,6 @@
 use Rattle.std.proofs.Common.{ℕ, subst, arith}
 use Rattle.nekchhaul.specs.Logs.{Writes}
-use Rattle.example_shelves.specs.ShelfLaws.{full-there, lands-there}
+use Rattle.example_shelves.proofs.ShelfLaws.{full-there, lands-there}
 use Rattle.example_shelves.proofs.shelves.OnShelfPartAnyMem.run.Goals as goal
 
 pub returns-then-count-self-clause-postcondition : goal.returns-then-count-self-clause-postcondition

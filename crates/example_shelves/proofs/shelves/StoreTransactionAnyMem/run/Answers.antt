@@ -2,7 +2,7 @@ use Rattle.std.proofs.Common.{ℕ, ◌<◌, List, sym, subst, arith}
 use Rattle.nekchhaul.specs.CallerState.{no_log}
 use Rattle.example_shelves.specs.declared.shelves.Stored.TheVariants.{On, Nowhere}
 use Rattle.example_shelves.specs.Shelves.{Told, IsStored}
-use Rattle.example_shelves.specs.ShelfLaws.{on-shelf, nowhere}
+use Rattle.example_shelves.proofs.ShelfLaws.{on-shelf, nowhere}
 use Rattle.example_shelves.proofs.shelves.StoreTransactionAnyMem.run.Goals as goal
 
 pub returns-in-Done-clause-postcondition : goal.returns-in-Done-clause-postcondition

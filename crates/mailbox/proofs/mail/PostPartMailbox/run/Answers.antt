@@ -1,7 +1,7 @@
 use Rattle.std.proofs.Common.{arith}
 use Rattle.tx_parts.specs.ToldLaws.{under-rule, call-keeps, call-tells}
 use Rattle.mailbox.specs.Mail.{Posts}
-use Rattle.mailbox.specs.MailLaws.{put-does}
+use Rattle.mailbox.proofs.MailLaws.{put-does}
 use Rattle.mailbox.proofs.mail.PostPartMailbox.run.Goals as goal
 
 pub put-requires-clause-well : goal.put-requires-clause-well

@@ -1,6 +1,6 @@
 use Rattle.tx_parts.specs.ToldLaws.{under-rule, call-keeps, call-tells}
 use Rattle.mailbox.specs.Mail.{Takes}
-use Rattle.mailbox.specs.MailLaws.{get-does}
+use Rattle.mailbox.proofs.MailLaws.{get-does}
 use Rattle.mailbox.proofs.mail.TakePartMailbox.run.Goals as goal
 
 pub get-requires-clause-well : goal.get-requires-clause-well

@@ -2,7 +2,7 @@ use Rattle.std.proofs.Common.{sym, ap, ◌∙◌}
 use Rattle.std.specs.Prelude.{not, ◌==◌}
 use Rattle.stm_model.specs.Memories.{is_empty}
 use Rattle.stm_model.specs.Plains.{own_writes}
-use Rattle.stm_model.specs.Settling.{any_own-writes}
+use Rattle.stm_model.proofs.Settling.{any_own-writes}
 use Rattle.stm_check.proofs.LedgerLaws.{any-owned}
 use Rattle.stm_check.proofs.ledger.Ledger.has_written.Goals as goal
 

@@ -4,7 +4,7 @@ use Rattle.std.proofs.Math.Seq.{map-set_same}
 use Rattle.stm_model.specs.declared.plain.PlainWord.{PlainWord}
 use Rattle.stm_model.specs.Plains.{openings, own_writes, settled}
 use Rattle.stm_model.specs.Memories.{overlay}
-use Rattle.stm_model.specs.Settling.{value-of, openings-small}
+use Rattle.stm_model.proofs.Settling.{value-of, openings-small}
 use Rattle.stm_check.specs.Ledgers.{AreTouched}
 use Rattle.stm_check.proofs.LedgerLaws.{AreLeft, left-one, touched-none, settled-all}
 use Rattle.stm_check.proofs.ledger.Ledger.settle.Goals as goal

@@ -1,7 +1,7 @@
 use Rattle.std.proofs.Common.{refl, sym, ap, ◌∙◌, arith, subst}
 use Rattle.stm_model.specs.Memories.{AreWords}
 use Rattle.stm_model.specs.Plains.{openings, own_writes, forgotten}
-use Rattle.stm_model.specs.Settling.{change-step, openings-forgotten, writes-changed}
+use Rattle.stm_model.proofs.Settling.{change-step, openings-forgotten, writes-changed}
 use Rattle.stm_model.proofs.plain.Plain.forget.Goals as goal
 
 pub loop-i-preserved : goal.loop-i-preserved

@@ -2,7 +2,7 @@ use Rattle.std.proofs.Common.{◌<◌, length, refl, sym, ap, ◌∙◌, arith, 
 use Rattle.std.specs.Prelude.{not, None}
 use Rattle.stm_model.specs.Memories.{overlay, is_empty}
 use Rattle.stm_model.specs.Plains.{openings, own_writes, settled}
-use Rattle.stm_model.specs.Settling.{change-step, any_own-step, any_own-end, openings-small, openings-settled, writes-changed, value-of}
+use Rattle.stm_model.proofs.Settling.{change-step, any_own-step, any_own-end, openings-small, openings-settled, writes-changed, value-of}
 use Rattle.stm_model.proofs.plain.Plain.settle.Goals as goal
 
 pub loop-i-preserved : goal.loop-i-preserved

@@ -1,9 +1,9 @@
 use Rattle.rule_promoted.specs.PromotedSteps.{direct_commit, CanDirectCommit}
 use Rattle.rule_seq.specs.CglSteps.{Commits}
 use Rattle.stm_rule.specs.Kept.{good_of}
-use Rattle.stm_rule.specs.Kinds.Lifted.{direct_commits}
+use Rattle.stm_rule.proofs.KindLaws.Lifted.{direct_commits}
 use Rattle.stm_rule.specs.Product.{Invariant}
-use Rattle.stm_rule.specs.Kinds.Allowing.{law_of}
+use Rattle.stm_rule.proofs.KindLaws.Allowing.{law_of}
 use Rattle.stm_rule.proofs.stm.Stm.direct_commit.Goals as goal
 
 pub store_as-requires-clause-law : goal.store_as-requires-clause-law

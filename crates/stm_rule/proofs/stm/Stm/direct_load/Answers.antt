@@ -1,10 +1,10 @@
 use Rattle.rule_promoted.specs.PromotedSteps.{direct_load, CanDirectLoad}
 use Rattle.rule_seq.specs.CglSteps.{Loads}
 use Rattle.stm_rule.specs.Kept.{good_of}
-use Rattle.stm_rule.specs.Kinds.Lifted.{direct_loads}
+use Rattle.stm_rule.proofs.KindLaws.Lifted.{direct_loads}
 use Rattle.stm_rule.specs.Kinds.Lifting.{IsSpared}
 use Rattle.stm_rule.specs.Product.{Invariant}
-use Rattle.stm_rule.specs.Kinds.Allowing.{law_of}
+use Rattle.stm_rule.proofs.KindLaws.Allowing.{law_of}
 use Rattle.stm_rule.proofs.stm.Stm.direct_load.Goals as goal
 
 pub load_as-requires-clause-law : goal.load_as-requires-clause-law

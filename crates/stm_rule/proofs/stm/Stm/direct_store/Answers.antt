@@ -1,10 +1,10 @@
 use Rattle.rule_promoted.specs.PromotedSteps.{direct_store, CanDirectStore}
 use Rattle.rule_base.specs.StepKinds.{Nothing}
 use Rattle.stm_rule.specs.Kept.{good_of}
-use Rattle.stm_rule.specs.Kinds.Lifted.{direct_stores}
+use Rattle.stm_rule.proofs.KindLaws.Lifted.{direct_stores}
 use Rattle.stm_rule.specs.Kinds.Lifting.{IsSpared}
 use Rattle.stm_rule.specs.Product.{Invariant}
-use Rattle.stm_rule.specs.Kinds.Allowing.{law_of}
+use Rattle.stm_rule.proofs.KindLaws.Allowing.{law_of}
 use Rattle.stm_rule.proofs.stm.Stm.direct_store.Goals as goal
 
 pub store_as-requires-clause-law : goal.store_as-requires-clause-law

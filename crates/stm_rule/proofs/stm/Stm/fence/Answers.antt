@@ -2,9 +2,9 @@ use Rattle.rule_base.specs.FenceSteps.{fence, CanFence}
 use Rattle.rule_base.specs.Encodings.{fence_number}
 use Rattle.stm_rule.specs.FenceFindings.{FindsPast}
 use Rattle.stm_rule.specs.Kept.{good_of}
-use Rattle.stm_rule.specs.Kinds.FencingLaws.{fences}
+use Rattle.stm_rule.proofs.KindLaws.FencingLaws.{fences}
 use Rattle.stm_rule.specs.Product.{Invariant}
-use Rattle.stm_rule.specs.Kinds.Allowing.{law_of}
+use Rattle.stm_rule.proofs.KindLaws.Allowing.{law_of}
 use Rattle.stm_rule.proofs.stm.Stm.fence.Goals as goal
 
 pub store_own_as-requires-clause-law : goal.store_own_as-requires-clause-law

@@ -1,8 +1,8 @@
 use Rattle.rule_base.specs.FenceSteps.{fence_commit, CanFenceCommit, FenceCommits}
 use Rattle.stm_rule.specs.Kept.{good_of}
-use Rattle.stm_rule.specs.Kinds.GivingLaws.{fence_commits}
+use Rattle.stm_rule.proofs.KindLaws.GivingLaws.{fence_commits}
 use Rattle.stm_rule.specs.Product.{Invariant}
-use Rattle.stm_rule.specs.Kinds.Allowing.{law_of}
+use Rattle.stm_rule.proofs.KindLaws.Allowing.{law_of}
 use Rattle.stm_rule.proofs.stm.Stm.fence_commit.Goals as goal
 
 pub store_own_as-requires-clause-law : goal.store_own_as-requires-clause-law

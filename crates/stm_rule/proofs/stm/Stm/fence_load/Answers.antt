@@ -1,8 +1,8 @@
 use Rattle.rule_base.specs.FenceSteps.{fence_load, CanFenceLoad, FenceLoads}
 use Rattle.stm_rule.specs.Kept.{good_of}
-use Rattle.stm_rule.specs.Kinds.FencingLaws.{fence_loads}
+use Rattle.stm_rule.proofs.KindLaws.FencingLaws.{fence_loads}
 use Rattle.stm_rule.specs.Product.{Invariant}
-use Rattle.stm_rule.specs.Kinds.Allowing.{law_of}
+use Rattle.stm_rule.proofs.KindLaws.Allowing.{law_of}
 use Rattle.stm_rule.proofs.stm.Stm.fence_load.Goals as goal
 
 pub load_as-requires-clause-law : goal.load_as-requires-clause-law

@@ -1,9 +1,9 @@
 use Rattle.rule_base.specs.FenceSteps.{fence_store, CanFenceStore}
 use Rattle.rule_base.specs.StepKinds.{Nothing}
 use Rattle.stm_rule.specs.Kept.{good_of}
-use Rattle.stm_rule.specs.Kinds.FencingLaws.{fence_stores}
+use Rattle.stm_rule.proofs.KindLaws.FencingLaws.{fence_stores}
 use Rattle.stm_rule.specs.Product.{Invariant}
-use Rattle.stm_rule.specs.Kinds.Allowing.{law_of}
+use Rattle.stm_rule.proofs.KindLaws.Allowing.{law_of}
 use Rattle.stm_rule.proofs.stm.Stm.fence_store.Goals as goal
 
 pub store_own_as-requires-clause-law : goal.store_own_as-requires-clause-law

@@ -1,11 +1,11 @@
-use Rattle.std.proofs.Common.{ℕ, subst, sym, ap, ◌∙◌}
+use Rattle.std.proofs.Common.{subst, sym, ap, ◌∙◌}
 use mathlib.Core.Option.{none}
 use Rattle.atomic_table.specs.declared.shared.Seat.{Seat}
 use Rattle.atomic_table.specs.Table.{step}
 use Rattle.rule_base.specs.declared.seats.SeatView.{SeatView}
 use Rattle.rule_base.specs.StepKinds.{word_after, answer_of, LawAt}
 use Rattle.stm_rule.specs.Runs.CoreRuns.{core_kind}
-use Rattle.stm_rule.specs.Kinds.Allowing.{allows_at, inside}
+use Rattle.stm_rule.proofs.KindLaws.Allowing.{allows_at, inside}
 use Rattle.stm_rule.specs.Kept.{Rule}
 use Rattle.stm_rule.proofs.stm.Stm.load_at.Goals as goal
 

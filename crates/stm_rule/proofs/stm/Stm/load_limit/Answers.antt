@@ -1,8 +1,8 @@
 use Rattle.rule_seq.specs.CglSteps.{load_limit, LoadsLimit, CanLoadLimit}
 use Rattle.stm_rule.specs.Kept.{good_of}
-use Rattle.stm_rule.specs.Kinds.Lifted.{loads_limit}
+use Rattle.stm_rule.proofs.KindLaws.Lifted.{loads_limit}
 use Rattle.stm_rule.specs.Product.{Invariant}
-use Rattle.stm_rule.specs.Kinds.Allowing.{law_of}
+use Rattle.stm_rule.proofs.KindLaws.Allowing.{law_of}
 use Rattle.stm_rule.proofs.stm.Stm.load_limit.Goals as goal
 
 pub load_as-requires-clause-law : goal.load_as-requires-clause-law

@@ -6,7 +6,7 @@ use Rattle.rule_base.specs.declared.seats.SeatView.{SeatView}
 use Rattle.rule_base.specs.Places.{offset, InRange}
 use Rattle.rule_base.specs.StepKinds.{word_after, answer_of, LawAt}
 use Rattle.stm_rule.specs.Runs.CoreRuns.{core_kind}
-use Rattle.stm_rule.specs.Kinds.Allowing.{allows_at, inside}
+use Rattle.stm_rule.proofs.KindLaws.Allowing.{allows_at, inside}
 use Rattle.stm_rule.specs.Kept.{Rule}
 use Rattle.stm_rule.proofs.stm.Stm.raise_as.Goals as goal
 

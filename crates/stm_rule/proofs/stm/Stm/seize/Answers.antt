@@ -2,9 +2,9 @@ use Rattle.rule_base.specs.GateSteps.{seize, CanSeize}
 use Rattle.rule_base.specs.Encodings.{gate_word}
 use Rattle.stm_rule.specs.Findings.{FindsTaken}
 use Rattle.stm_rule.specs.Kept.{good_of}
-use Rattle.stm_rule.specs.Kinds.Lifted.{seizes}
+use Rattle.stm_rule.proofs.KindLaws.Lifted.{seizes}
 use Rattle.stm_rule.specs.Product.{Invariant}
-use Rattle.stm_rule.specs.Kinds.Allowing.{law_of}
+use Rattle.stm_rule.proofs.KindLaws.Allowing.{law_of}
 use Rattle.stm_rule.proofs.stm.Stm.seize.Goals as goal
 
 pub exchange_as-requires-clause-law : goal.exchange_as-requires-clause-law

@@ -1,9 +1,9 @@
 use Rattle.rule_base.specs.InstallSteps.{settle}
 use Rattle.stm_rule.specs.FenceFindings.{FindsEven, CanSettleBack}
-use Rattle.stm_rule.specs.Kinds.GivingLaws.{settles_back}
+use Rattle.stm_rule.proofs.KindLaws.GivingLaws.{settles_back}
 use Rattle.stm_rule.specs.Kept.{good_of}
 use Rattle.stm_rule.specs.Product.{Invariant}
-use Rattle.stm_rule.specs.Kinds.Allowing.{law_of}
+use Rattle.stm_rule.proofs.KindLaws.Allowing.{law_of}
 use Rattle.stm_rule.proofs.stm.Stm.settle_back.Goals as goal
 
 pub load_as-requires-clause-law : goal.load_as-requires-clause-law

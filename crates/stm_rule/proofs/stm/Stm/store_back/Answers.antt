@@ -1,9 +1,9 @@
 use Rattle.rule_seq.specs.CglSteps.{store_back, CanStoreBack}
 use Rattle.rule_base.specs.StepKinds.{Nothing}
 use Rattle.stm_rule.specs.Kept.{good_of}
-use Rattle.stm_rule.specs.Kinds.Lifted.{stores_back}
+use Rattle.stm_rule.proofs.KindLaws.Lifted.{stores_back}
 use Rattle.stm_rule.specs.Product.{Invariant}
-use Rattle.stm_rule.specs.Kinds.Allowing.{law_of}
+use Rattle.stm_rule.proofs.KindLaws.Allowing.{law_of}
 use Rattle.stm_rule.proofs.stm.Stm.store_back.Goals as goal
 
 pub store_as-requires-clause-law : goal.store_as-requires-clause-law

@@ -3,7 +3,7 @@ use mathlib.Core.Option.{none}
 use Rattle.atomic_table.specs.Table.{step}
 use Rattle.rule_base.specs.StepKinds.{word_after, answer_of}
 use Rattle.stm_rule.specs.Runs.CoreRuns.{core_kind}
-use Rattle.stm_rule.specs.Kinds.Allowing.{allows_at, inside}
+use Rattle.stm_rule.proofs.KindLaws.Allowing.{allows_at, inside}
 use Rattle.stm_rule.proofs.stm.Stm.store_by.Goals as goal
 
 pub store-requires : goal.store-requires

@@ -1,9 +1,9 @@
 use Rattle.rule_seq.specs.TmlSteps.{tml_again, CanTmlAgain}
 use Rattle.stm_rule.specs.Kept.{good_of}
-use Rattle.stm_rule.specs.Kinds.Lifted.{agains_beside}
+use Rattle.stm_rule.proofs.KindLaws.Lifted.{agains_beside}
 use Rattle.stm_rule.specs.Findings.{FindsAgain}
 use Rattle.stm_rule.specs.Product.{Invariant}
-use Rattle.stm_rule.specs.Kinds.Allowing.{law_of}
+use Rattle.stm_rule.proofs.KindLaws.Allowing.{law_of}
 use Rattle.stm_rule.proofs.stm.Stm.tml_again.Goals as goal
 
 pub load_as-requires-clause-law : goal.load_as-requires-clause-law

@@ -1,9 +1,9 @@
 use Rattle.rule_seq.specs.TmlSteps.{tml_begin, CanTmlBegin}
 use Rattle.stm_rule.specs.Kept.{good_of}
-use Rattle.stm_rule.specs.Kinds.Lifted.{begins_beside}
+use Rattle.stm_rule.proofs.KindLaws.Lifted.{begins_beside}
 use Rattle.stm_rule.specs.Findings.{FindsBegin}
 use Rattle.stm_rule.specs.Product.{Invariant}
-use Rattle.stm_rule.specs.Kinds.Allowing.{law_of}
+use Rattle.stm_rule.proofs.KindLaws.Allowing.{law_of}
 use Rattle.stm_rule.proofs.stm.Stm.tml_begin.Goals as goal
 
 pub load_as-requires-clause-law : goal.load_as-requires-clause-law

@@ -1,9 +1,9 @@
 use Rattle.rule_promoted.specs.PromotedSteps.{tml_grant, CanTmlGrant}
 use Rattle.stm_rule.specs.Kept.{good_of}
-use Rattle.stm_rule.specs.Kinds.Lifted.{grants_beside}
+use Rattle.stm_rule.proofs.KindLaws.Lifted.{grants_beside}
 use Rattle.stm_rule.specs.Findings.{FindsSole}
 use Rattle.stm_rule.specs.Product.{Invariant}
-use Rattle.stm_rule.specs.Kinds.Allowing.{law_of}
+use Rattle.stm_rule.proofs.KindLaws.Allowing.{law_of}
 use Rattle.stm_rule.proofs.stm.Stm.tml_grant.Goals as goal
 
 pub load_as-requires-clause-law : goal.load_as-requires-clause-law

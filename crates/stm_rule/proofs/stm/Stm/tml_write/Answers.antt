@@ -1,9 +1,9 @@
 use Rattle.rule_seq.specs.TmlSteps.{tml_write, CanTmlWrite}
 use Rattle.stm_rule.specs.Kept.{good_of}
-use Rattle.stm_rule.specs.Kinds.Lifted.{writes_beside}
+use Rattle.stm_rule.proofs.KindLaws.Lifted.{writes_beside}
 use Rattle.stm_rule.specs.Findings.{FindsSole}
 use Rattle.stm_rule.specs.Product.{Invariant}
-use Rattle.stm_rule.specs.Kinds.Allowing.{law_of}
+use Rattle.stm_rule.proofs.KindLaws.Allowing.{law_of}
 use Rattle.stm_rule.proofs.stm.Stm.tml_write.Goals as goal
 
 pub exchange_as-requires-clause-law : goal.exchange_as-requires-clause-law

@@ -1,9 +1,9 @@
 use Rattle.rule_base.specs.FenceSteps.{unfence, CanUnfence}
 use Rattle.rule_base.specs.StepKinds.{Nothing}
 use Rattle.stm_rule.specs.Kept.{good_of}
-use Rattle.stm_rule.specs.Kinds.GivingLaws.{unfences}
+use Rattle.stm_rule.proofs.KindLaws.GivingLaws.{unfences}
 use Rattle.stm_rule.specs.Product.{Invariant}
-use Rattle.stm_rule.specs.Kinds.Allowing.{law_of}
+use Rattle.stm_rule.proofs.KindLaws.Allowing.{law_of}
 use Rattle.stm_rule.proofs.stm.Stm.unfence.Goals as goal
 
 pub store_own_as-requires-clause-law : goal.store_own_as-requires-clause-law

@@ -1,5 +1,5 @@
 use Rattle.std.proofs.Common.{◌∙◌, sym}
-use Rattle.stm_trace.specs.AskingLaws.{asks-other}
+use Rattle.stm_trace.proofs.AskingLaws.{asks-other}
 use Rattle.stm_worker.proofs.worker.Worker.asked.Goals as goal
 
 pub returns : goal.returns

@@ -2,7 +2,7 @@ use Rattle.std.proofs.Common.{◌≡◌, ℕ, ◌<◌, ◌≤◌, ◌≢◌, ◌
 use Rattle.stm_model.specs.Memories.{overlay}
 use Rattle.tx_effects.specs.EffectLaws.{shows-read, same-trans}
 use Rattle.tx_effects.specs.Keys.{free_from}
-use Rattle.tx_effects.specs.KeyLaws.{free-on, free-here, free-none}
+use Rattle.tx_effects.proofs.KeyLaws.{free-on, free-here, free-none}
 use Rattle.std.proofs.Math.Nat.{mul-le-mul_left}
 use Rattle.tx_effects.specs.declared.cells.Cells.{Cells}
 use Rattle.tx_effects.specs.Tags.{CellsFit, tag, tag_at}

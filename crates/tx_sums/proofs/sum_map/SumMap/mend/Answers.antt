@@ -2,7 +2,7 @@ use Rattle.std.proofs.Common.{rules, ◌≡◌, ◌<◌, ◌≤◌, ◌≢◌, �
 use Rattle.std.specs.Prelude.{not, slice_index}
 use Rattle.stm_model.specs.Memories.{is_empty}
 use Rattle.tx_effects.specs.EffectLaws.{shows-none, shows-read, shown, same-trans}
-use Rattle.tx_tree.specs.ShapeWalks.{side-inside}
+use Rattle.tx_tree.proofs.ShapeWalks.{side-inside}
 use Rattle.tx_sums.specs.Sums.{pool, LinksFrom, tag, tag_at, raised, raised_in, mended_in}
 use Rattle.tx_sums.proofs.SumWalks.{Walks, Mending, mending-over, walks-shown, walks-read, walks-does, walked, walks-end, does-wrote, mending-begins, mending-ends, mending-stops, mending-found, mending-on, word-most, mended-is, wrote-true, wrote-here}
 use Rattle.tx_sums.proofs.sum_map.SumMap.mend.Goals.{In_ok-found}

@@ -1,6 +1,6 @@
 use Rattle.std.proofs.Common.{◌≡◌, ◌<◌, ◌≤◌, ◌+◌, ◌-◌, ◌%◌, ◌^◌, ◌∙◌, refl, get_or, arith}
 use Rattle.tx_effects.specs.EffectLaws.{shows-none, shows-read, shows-then, shown, same-trans}
-use Rattle.tx_tree.specs.ShapeWalks.{cell-inside}
+use Rattle.tx_tree.proofs.ShapeWalks.{cell-inside}
 use Rattle.tx_sums.specs.Sums.{pool, IsSumMap, tag, tag_at, left_at, right_at, sum_at, sum_under, passed}
 use Rattle.tx_sums.proofs.SumBelow.{pass-left, pass-right}
 use Rattle.tx_sums.proofs.sum_map.SumMap.pass.Goals as goal

@@ -1,7 +1,7 @@
 use Rattle.std.proofs.Common.{rules, ◌≡◌, ◌<◌, ◌≤◌, ◌+◌, ◌-◌, ◌∙◌, suc, refl, sym, subst, arith}
 use Rattle.stm_model.specs.Memories.{overlay}
 use Rattle.tx_effects.specs.EffectLaws.{shows-none, shows-read, shows-then, shown, same-trans}
-use Rattle.tx_tree.specs.ShapeWalks.{word-inside}
+use Rattle.tx_tree.proofs.ShapeWalks.{word-inside}
 use Rattle.tx_sums.specs.Sums.{pool, IsSumMap, passed}
 use Rattle.tx_sums.proofs.SumBelow.{Passing, passing-begins, passing-on, passing-ends, passing-stops}
 use Rattle.tx_sums.proofs.sum_map.SumMap.sum_below.Goals as goal

@@ -3,7 +3,7 @@ use Rattle.stm_model.specs.Memories.{overlay}
 use Rattle.stm_model.specs.Overlays.{overlay-length}
 use Rattle.tx_effects.specs.Effects.{Shows, changed}
 use Rattle.tx_effects.specs.EffectLaws.{shows-read, shown, same-trans}
-use Rattle.tx_tree.specs.ShapeWalks.{cell-inside}
+use Rattle.tx_tree.proofs.ShapeWalks.{cell-inside}
 use Rattle.tx_sums.specs.Sums.{pool, IsSumMap, HasRight, IsEmptied, left_at, right_at, least_taken, taken_in}
 use Rattle.tx_sums.proofs.SumWalks.{Walks, walks-end, wrote-here}
 use Rattle.tx_sums.proofs.SumCalls.{does-then}

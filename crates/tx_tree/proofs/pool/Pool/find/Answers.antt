@@ -2,8 +2,8 @@ use Rattle.std.proofs.Common.{rules, ◌≡◌, ◌<◌, ◌≤◌, ◌≢◌, �
 use Rattle.stm_model.specs.Memories.{overlay}
 use Rattle.tx_effects.specs.EffectLaws.{shows-none, shows-read, shown, same-trans}
 use Rattle.tx_tree.specs.Shapes.{top}
-use Rattle.tx_tree.specs.ShapeOrder.{cell-end}
-use Rattle.tx_tree.specs.ShapeWalks.{find-end, find-stop, find-on, word-inside, side-is, side-inside, side-word}
+use Rattle.tx_tree.proofs.ShapeOrder.{cell-end}
+use Rattle.tx_tree.proofs.ShapeWalks.{find-end, find-stop, find-on, word-inside, side-is, side-inside, side-word}
 use Rattle.tx_tree.specs.Shapes.{IsShape, find, position_of, tag, tag_at, side_at}
 use Rattle.tx_tree.proofs.Walking.{Walked}
 use Rattle.tx_tree.proofs.pool.Pool.find.Goals as goal

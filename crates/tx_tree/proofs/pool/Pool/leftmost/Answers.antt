@@ -1,9 +1,9 @@
 use Rattle.std.proofs.Common.{rules, ◌≡◌, ◌<◌, ◌≤◌, ◌≢◌, ◌+◌, ◌-◌, ◌∙◌, suc, refl, sym, get_or, ap, arith}
 use Rattle.stm_model.specs.Memories.{overlay}
 use Rattle.tx_effects.specs.EffectLaws.{shows-read, shown, same-trans}
-use Rattle.tx_tree.specs.ShapeOrder.{cell-end}
-use Rattle.tx_tree.specs.ShapeWalks.{cell-inside}
-use Rattle.tx_tree.specs.ShapeLeast.{leftmost-end, leftmost-stop, leftmost-on}
+use Rattle.tx_tree.proofs.ShapeOrder.{cell-end}
+use Rattle.tx_tree.proofs.ShapeWalks.{cell-inside}
+use Rattle.tx_tree.proofs.ShapeLeast.{leftmost-end, leftmost-stop, leftmost-on}
 use Rattle.tx_tree.specs.Shapes.{leftmost, tag_at, left_at}
 use Rattle.tx_tree.proofs.Walking.{WalkedLeft}
 use Rattle.tx_tree.proofs.pool.Pool.leftmost.Goals as goal

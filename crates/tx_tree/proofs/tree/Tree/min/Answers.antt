@@ -5,7 +5,7 @@ use Rattle.tx_effects.specs.EffectLaws.{does-stay, shows-none, shows-read, shows
 use Rattle.tx_effects.specs.Keys.{least}
 use Rattle.tx_tree.specs.declared.tree.Tree.{Tree}
 use Rattle.tx_tree.specs.Shapes.{top, IsAt}
-use Rattle.tx_tree.specs.ShapeWalks.{word-inside}
+use Rattle.tx_tree.proofs.ShapeWalks.{word-inside}
 use Rattle.tx_tree.specs.Trees.{pool, IsTree, keys, leftmost, least_in}
 use Rattle.tx_tree.proofs.TreeTakes.{least-key}
 use Rattle.tx_tree.proofs.tree.Tree.min.Goals.{In_ok-first, In_ok-least}

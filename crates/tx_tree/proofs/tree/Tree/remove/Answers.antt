@@ -2,7 +2,7 @@ use Rattle.std.proofs.Common.{rules, ◌≡◌, ◌<◌, ◌≤◌, ◌≢◌, �
 use Rattle.stm_model.specs.Logs.{SameMemories}
 use Rattle.tx_effects.specs.Effects.{Shows}
 use Rattle.tx_effects.specs.EffectLaws.{does-stay, does-change, shows-read, shows-then, shown, same-trans, turns-write, turns-then, under-now}
-use Rattle.tx_tree.specs.ShapeWalks.{cell-inside}
+use Rattle.tx_tree.proofs.ShapeWalks.{cell-inside}
 use Rattle.tx_tree.specs.Trees.{pool, IsTree, position_of, leftmost, spliced, retagged, tag_at, left_at, right_at, removed_in}
 use Rattle.tx_tree.proofs.TreeEffects.{Opened, absent-stays, removed-right, removed-left, removed-both, removal-keeps, least-some}
 use Rattle.tx_tree.proofs.tree.Tree.remove.Goals.{In_ok-greater}

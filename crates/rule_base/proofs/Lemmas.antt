@@ -1,0 +1,8 @@
+-- Lemmas on the definitions beside this folder, a file for each.
+pub mod OpeningLemmas
+pub mod WordLemmas
+pub mod RunLemmas
+pub mod ListLemmas
+pub mod SeatLemmas
+pub mod NoteLemmas
+pub mod SeenLemmas
