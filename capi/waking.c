@@ -1,4 +1,4 @@
-/* Who commits, or reopens the gate, wakes who sleeps: the archive's calls mark whom they rang for (tx_bell), and wake nobody, since a
+/* Who commits, or reopens the gate, wakes who sleeps: the archive's calls mark whom they rang for (stm_bell), and wake nobody, since a
  * proved library may not reach the system. build.sh puts these in their places, under their names. */
 #define _GNU_SOURCE
 #include "include/nekchhaul.h"

@@ -1,4 +1,4 @@
--- What stm_waits does, by GHC's STM: `waits VALUES PAUSE`. A caller hands so many values to another, each after a pause of so many
+-- What perf_waits does, by GHC's STM: `waits VALUES PAUSE`. A caller hands so many values to another, each after a pause of so many
 -- microseconds; prints how many nanoseconds after the one's commit the other's was, where it paused.
 import Control.Concurrent
 import Control.Concurrent.STM

@@ -1,8 +1,8 @@
 -- What a commit leaves in the write log.
 use Rattle.std.specs.Prelude.{◌≡◌, ⊤}
 use Rattle.stm_rule.specs.Callers.{Handle}
-use Rattle.tx_answers.specs.declared.answers.Commit.{Commit}
-use Rattle.tx_answers.specs.declared.answers.Commit.TheVariants.{Committed, ReadOnly, Conflict, Again, ClockFull}
+use Rattle.stm_answers.specs.declared.answers.Commit.{Commit}
+use Rattle.stm_answers.specs.declared.answers.Commit.TheVariants.{Committed, ReadOnly, Conflict, Again, ClockFull}
 
 module _ {K : Type 0} where
   -- after a commit that wrote, what lay in the write log lies there still

@@ -10,15 +10,15 @@ ghost use Rattle.stm_model.specs.Algorithms.{closes_gate};
 ghost use Rattle.stm_rule.specs.Callers.{IsOf, IsSameCaller, IsSeatOf};
 ghost use Rattle.stm_rule.specs.Counting.{TakesAtMost};
 ghost use Rattle.stm_rule.specs.Kept.{MovesView, view_of};
-ghost use Rattle.tx_answers.specs.Answers.{Cancels, Commits, HasRead, HasWritten, Irrevs, KeepsRule, Rolls};
-ghost use Rattle.tx_answers.specs.Counting.{AddsAtMost};
-ghost use Rattle.tx_answers.specs.CallerState.{IsRunning};
+ghost use Rattle.stm_answers.specs.Answers.{Cancels, Commits, HasRead, HasWritten, Irrevs, KeepsRule, Rolls};
+ghost use Rattle.stm_answers.specs.Counting.{AddsAtMost};
+ghost use Rattle.stm_answers.specs.CallerState.{IsRunning};
 
+use stm_answers::answers::{Begin, Cancel, Commit, Irrev, Read, Roll, Write};
 use stm_model::alg::Alg;
 use stm_model::rule::MemRule;
 use stm_rule::desc::Desc;
 use stm_rule::stm::{Stm, Token};
-use tx_answers::answers::{Begin, Cancel, Commit, Irrev, Read, Roll, Write};
 
 /// An algorithm. What a call does, and when which answer comes, is said at the calls of stm_tx, which are these under
 /// the algorithm that the gate names. None waits, takes memory or fails to return, and none adds more steps than

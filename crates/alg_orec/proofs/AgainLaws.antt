@@ -15,12 +15,12 @@ use Rattle.rule_base.specs.declared.views.View.{View}
 use Rattle.rule_base.specs.Bridge.{public_history}
 use Rattle.rule_base.specs.Own.{Own}
 use Rattle.stm_gate.specs.LeavingLaws.{found-later}
-use Rattle.tx_answers.specs.Answers.{StartMoves, GoesOn}
-use Rattle.tx_answers.specs.Causes.{IsAgain, OwesValidation}
-use Rattle.tx_answers.specs.Causes.Asked.{ToCommit}
-use Rattle.tx_answers.specs.Evidence.{Found}
-use Rattle.tx_answers.specs.CallerState.{Grows, known_of, fenced_of, granted_under, is_in, is_closing, locked_under}
-use Rattle.tx_answers.specs.CallerStateLaws.{grows-same, grows-trans}
+use Rattle.stm_answers.specs.Answers.{StartMoves, GoesOn}
+use Rattle.stm_answers.specs.Causes.{IsAgain, OwesValidation}
+use Rattle.stm_answers.specs.Causes.Asked.{ToCommit}
+use Rattle.stm_answers.specs.Evidence.{Found}
+use Rattle.stm_answers.specs.CallerState.{Grows, known_of, fenced_of, granted_under, is_in, is_closing, locked_under}
+use Rattle.stm_answers.specs.CallerStateLaws.{grows-same, grows-trans}
 use Rattle.alg_orec.proofs.Proving.{owes-later, with_commit}
 use Rattle.alg_orec.specs.Committing.{readied}
 

@@ -8,7 +8,7 @@ use Rattle.rule_base.specs.declared.views.View.{View}
 use Rattle.rule_base.specs.Own.{Own}
 use Rattle.stm_rule.specs.declared.local.Local.{Local}
 use Rattle.stm_rule.specs.Attempts.{IsInside, Stands}
-use Rattle.tx_answers.specs.CallerState.{known_of, granted_under}
+use Rattle.stm_answers.specs.CallerState.{known_of, granted_under}
 use Rattle.stm_gate.proofs.Told.{running-by}
 use Rattle.alg_orec.specs.Committing.{CanCommit}
 

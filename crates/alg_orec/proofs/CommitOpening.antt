@@ -10,7 +10,7 @@ use Rattle.stm_rule.specs.declared.stm.Stm.{Stm}
 use Rattle.stm_rule.specs.Attempts.{IsInside, own_of}
 use Rattle.stm_rule.specs.Callers.{Handle}
 use Rattle.stm_rule.proofs.StandLemmas.{inside-of}
-use Rattle.tx_answers.specs.CallerState.{CallerState, is_irrevocable}
+use Rattle.stm_answers.specs.CallerState.{CallerState, is_irrevocable}
 use Rattle.stm_gate.specs.Knowing.{known}
 use Rattle.stm_gate.proofs.Opening.{Opened}
 use Rattle.stm_gate.proofs.Standing.{in-of}

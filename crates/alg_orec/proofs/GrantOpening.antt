@@ -21,12 +21,12 @@ use Rattle.stm_rule.specs.declared.stm.Stm.{Stm}
 use Rattle.stm_rule.specs.Attempts.{Keeps, IsInside, IsFenceOf, HasRoom, Stands, ended, own_of}
 use Rattle.stm_rule.specs.Callers.{Handle}
 use Rattle.stm_rule.proofs.StandLemmas.{inside-of}
-use Rattle.steps_orec.specs.RecordFindings.{Moves}
-use Rattle.tx_logs.specs.LogStates.{LogState}
-use Rattle.tx_answers.specs.declared.answers.Irrev.TheVariants as irrevs
-use Rattle.tx_answers.specs.Answers.{TriesIrrevocable, Irrevs, Quits, Waits}
-use Rattle.tx_answers.specs.Causes.Asked.{ToPromote}
-use Rattle.tx_answers.specs.CallerState.{CallerState, IsRunning, known_of, caller_of, granted_under, kept_under, written_under, is_irrevocable, is_in, is_closing, wrote}
+use Rattle.alg_orec.specs.RecordFindings.{Moves}
+use Rattle.stm_logs.specs.LogStates.{LogState}
+use Rattle.stm_answers.specs.declared.answers.Irrev.TheVariants as irrevs
+use Rattle.stm_answers.specs.Answers.{TriesIrrevocable, Irrevs, Quits, Waits}
+use Rattle.stm_answers.specs.Causes.Asked.{ToPromote}
+use Rattle.stm_answers.specs.CallerState.{CallerState, IsRunning, known_of, caller_of, granted_under, kept_under, written_under, is_irrevocable, is_in, is_closing, wrote}
 use Rattle.stm_gate.specs.Granting.{IsAlone, Grants, irrevs-after, irrevocable-already}
 use Rattle.stm_gate.specs.Knowing.{known, number}
 use Rattle.stm_gate.specs.LeavingLaws.{IsUnmade, found-later, finds-full}

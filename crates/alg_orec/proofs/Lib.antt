@@ -1,3 +1,6 @@
+mod Picking
+mod RecordFindingLaws
+pub mod OthersLaws
 pub mod Seats
 pub mod ReadItems
 pub mod Passing

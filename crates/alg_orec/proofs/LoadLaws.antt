@@ -26,12 +26,12 @@ use Rattle.rule_orec.specs.OrecSteps.{HasOpen, orec_sample, CanOrecSample, orec_
 use Rattle.stm_gate.specs.Logging.{item-touched}
 use Rattle.stm_rule.specs.Alone.{left_at}
 use Rattle.stm_rule.specs.declared.local.Local.{Local}
-use Rattle.steps_orec.proofs.OthersLaws.{left-found, owned-others, newer-others, moved-others}
-use Rattle.steps_orec.specs.RecordFindings.{FindsRecord, FindsAgain}
-use Rattle.tx_answers.specs.Causes.{Conflicts, IsStaleAt, has_item, is_some}
-use Rattle.tx_answers.specs.Causes.Asked.{ForWord}
-use Rattle.tx_answers.specs.Evidence.{Untouched, changes}
-use Rattle.tx_answers.specs.CallerState.{known_of}
+use Rattle.alg_orec.proofs.OthersLaws.{left-found, owned-others, newer-others, moved-others}
+use Rattle.alg_orec.specs.RecordFindings.{FindsRecord, FindsAgain}
+use Rattle.stm_answers.specs.Causes.{Conflicts, IsStaleAt, has_item, is_some}
+use Rattle.stm_answers.specs.Causes.Asked.{ForWord}
+use Rattle.stm_answers.specs.Evidence.{Untouched, changes}
+use Rattle.stm_answers.specs.CallerState.{known_of}
 use Rattle.alg_orec.proofs.Passing.{loads-append}
 use Rattle.alg_orec.proofs.RecordReads.{newer-shown}
 use Rattle.alg_orec.specs.Loading.{CanLoadValid, TellsSeen, moved, sampled_at, MayMove, MovesOwed, ShowsNewer, HasSampled, RefusesRead, HasLoaded}

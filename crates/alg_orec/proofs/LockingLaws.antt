@@ -19,16 +19,16 @@ use Rattle.rule_base.specs.Ranks.{home_of}
 use Rattle.rule_base.specs.StepKinds.{Tells, view_after}
 use Rattle.rule_orec.specs.OrecOwning.{holding}
 use Rattle.rule_orec.specs.OrecSteps.{HasOpen, orec_look, orec_lock, CanOrecLock}
-use Rattle.tx_answers.specs.Evidence.{Untouched}
-use Rattle.tx_logs.specs.declared.push.Push.{Push}
-use Rattle.tx_logs.specs.declared.push.Push.TheVariants as pushes
-use Rattle.tx_logs.specs.LogStates.{LogState, Pushes, keep}
+use Rattle.stm_answers.specs.Evidence.{Untouched}
+use Rattle.stm_logs.specs.declared.push.Push.{Push}
+use Rattle.stm_logs.specs.declared.push.Push.TheVariants as pushes
+use Rattle.stm_logs.specs.LogStates.{LogState, Pushes, keep}
 use Rattle.stm_gate.specs.Logging.{item-touched, put-new}
 use Rattle.stm_rule.specs.Alone.{left_at}
 use Rattle.stm_rule.specs.declared.local.Local.{Local}
 use Rattle.stm_rule.specs.RecordsKept.{cells_of}
-use Rattle.steps_orec.proofs.OthersLaws.{left-found, owned-others, moved-others}
-use Rattle.steps_orec.specs.RecordFindings.{FindsRecord}
+use Rattle.alg_orec.proofs.OthersLaws.{left-found, owned-others, moved-others}
+use Rattle.alg_orec.specs.RecordFindings.{FindsRecord}
 use Rattle.stm_gate.proofs.Cells.{cells-at}
 use Rattle.alg_orec.specs.Validating.{load_of}
 use Rattle.alg_orec.specs.Locking.{holding_still, lock_item, CanLock, CanLockAll, WasFree, HasLocked, IsRefused, LocksOne, Locks, StopsLocking}

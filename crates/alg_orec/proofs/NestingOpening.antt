@@ -13,11 +13,11 @@ use Rattle.stm_rule.specs.declared.stm.Stm.{Stm}
 use Rattle.stm_rule.specs.Attempts.{Keeps, Stands, good_by, own_of, IsInside}
 use Rattle.stm_rule.specs.Callers.{Handle}
 use Rattle.stm_rule.proofs.StandLemmas.{inside-of}
-use Rattle.tx_answers.specs.declared.answers.Roll.TheVariants.{Rolled}
-use Rattle.tx_answers.specs.Answers.{Rolls, kept_rolled}
-use Rattle.tx_answers.specs.CallerState.{CallerState, IsRunning, known_of, written_under, is_irrevocable, is_in, is_closing}
-use Rattle.tx_answers.specs.CallerStateLaws.{grows-same}
-use Rattle.tx_logs.specs.LogStates.{LogState, rolled}
+use Rattle.stm_answers.specs.declared.answers.Roll.TheVariants.{Rolled}
+use Rattle.stm_answers.specs.Answers.{Rolls, kept_rolled}
+use Rattle.stm_answers.specs.CallerState.{CallerState, IsRunning, known_of, written_under, is_irrevocable, is_in, is_closing}
+use Rattle.stm_answers.specs.CallerStateLaws.{grows-same}
+use Rattle.stm_logs.specs.LogStates.{LogState, rolled}
 use Rattle.stm_gate.specs.Knowing.{known}
 use Rattle.stm_gate.specs.Opacity.{opaque-inside}
 use Rattle.stm_gate.proofs.Opening.{Opened}

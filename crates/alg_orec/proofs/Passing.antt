@@ -24,9 +24,9 @@ use Rattle.rule_orec.specs.OrecSteps.{HasOpen, passes, orec_pass}
 use Rattle.stm_gate.specs.Logging.{item-touched}
 use Rattle.stm_rule.specs.declared.local.Local.{Local}
 use Rattle.stm_rule.specs.Findings.{OrecFails}
-use Rattle.steps_orec.proofs.OthersLaws.{owned-others, newer-others}
-use Rattle.steps_orec.specs.RecordFindings.{FindsRecord, FindsRead}
-use Rattle.steps_orec.specs.Validating.{is_vouched}
+use Rattle.alg_orec.proofs.OthersLaws.{owned-others, newer-others}
+use Rattle.alg_orec.specs.RecordFindings.{FindsRecord, FindsRead}
+use Rattle.alg_orec.specs.Vouching.{is_vouched}
 use Rattle.alg_orec.proofs.ReadItems.{touched-at}
 use Rattle.alg_orec.specs.Validating.{load_of, OnlyLoads, read_at, is_old, vouches, CanValidate, IsFoundStale, IsHeldNewer, Refuses, Judges, HasPassed, Passes}
 

@@ -30,12 +30,12 @@ use Rattle.stm_gate.proofs.Peeling.{has-touched}
 use Rattle.stm_rule.specs.declared.local.Local.{Local}
 use Rattle.stm_rule.specs.Attempts.{own_of}
 use Rattle.stm_rule.specs.Findings.{FindsWithin, OrecFails}
-use Rattle.steps_orec.specs.RecordFindings.{FindsRecord, FindsClock, FindsAll, FindsGrant, Moves}
-use Rattle.steps_orec.specs.Validating.{to_validate}
-use Rattle.tx_answers.specs.declared.answers.Irrev.TheVariants as irrevs
-use Rattle.tx_answers.specs.Causes.{Conflicts, IsStaleAt, has_item}
-use Rattle.tx_answers.specs.Causes.Asked.{ToPromote}
-use Rattle.tx_answers.specs.CallerState.{known_of}
+use Rattle.alg_orec.specs.RecordFindings.{FindsRecord, FindsClock, FindsAll, FindsGrant, Moves}
+use Rattle.alg_orec.specs.Vouching.{to_validate}
+use Rattle.stm_answers.specs.declared.answers.Irrev.TheVariants as irrevs
+use Rattle.stm_answers.specs.Causes.{Conflicts, IsStaleAt, has_item}
+use Rattle.stm_answers.specs.Causes.Asked.{ToPromote}
+use Rattle.stm_answers.specs.CallerState.{known_of}
 use Rattle.alg_orec.specs.EagerEnding.{AllBelow}
 use Rattle.alg_orec.specs.Granting.{CanPromote, loaded_at, IsPromoted, IsNotPromoted}
 use Rattle.alg_orec.specs.Validating.{load_of, OnlyLoads, read_at, is_old, vouches, IsLast, CanValidate, Refuses, IsFoundStale, IsHeldNewer, IsStale, HasPassed}

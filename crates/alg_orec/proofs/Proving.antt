@@ -12,12 +12,12 @@ use Rattle.rule_base.specs.declared.layout.At.{At}
 use Rattle.rule_base.specs.declared.views.TracedStep.{TracedStep}
 use Rattle.rule_base.specs.declared.views.View.{View}
 use Rattle.rule_base.specs.Own.{Own}
-use Rattle.tx_answers.specs.Answers.{Quits, Ends, CommitsAt, entry}
-use Rattle.tx_answers.specs.Causes.{Asked, Conflicts, FindsFull, FindsNewer, IsInTheWay, OwesValidation}
-use Rattle.tx_answers.specs.Causes.Asked.{ForWord, ToCommit, ToPromote}
-use Rattle.tx_answers.specs.Evidence.{FoundAsWas, FoundMoved}
-use Rattle.tx_answers.specs.CallerState.{CallerState, Grows, known_of, granted_under, is_none, wrote, has_written}
-use Rattle.tx_answers.specs.CallerStateLaws.{grows-trans}
+use Rattle.stm_answers.specs.Answers.{Quits, Ends, CommitsAt, entry}
+use Rattle.stm_answers.specs.Causes.{Asked, Conflicts, FindsFull, FindsNewer, IsInTheWay, OwesValidation}
+use Rattle.stm_answers.specs.Causes.Asked.{ForWord, ToCommit, ToPromote}
+use Rattle.stm_answers.specs.Evidence.{FoundAsWas, FoundMoved}
+use Rattle.stm_answers.specs.CallerState.{CallerState, Grows, known_of, granted_under, is_none, wrote, has_written}
+use Rattle.stm_answers.specs.CallerStateLaws.{grows-trans}
 use Rattle.stm_rule.specs.declared.local.Local.{Local}
 use Rattle.stm_rule.specs.Attempts.{Keeps, IsInside, own_of}
 use Rattle.stm_rule.specs.RecordsKept.{IsLazy}

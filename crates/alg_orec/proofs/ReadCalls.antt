@@ -8,8 +8,8 @@ use Rattle.rule_base.specs.declared.views.View.{View}
 use Rattle.rule_base.specs.Own.{Own}
 use Rattle.stm_rule.specs.declared.local.Local.{Local}
 use Rattle.stm_rule.specs.Attempts.{IsInside, own_of, ended}
-use Rattle.tx_answers.specs.CallerState.{known_of, granted_under}
-use Rattle.tx_logs.specs.LogStates.{LogState}
+use Rattle.stm_answers.specs.CallerState.{known_of, granted_under}
+use Rattle.stm_logs.specs.LogStates.{LogState}
 
 -- by what contracts see of it, an attempt was promoted or not
 module _ (good : List ℕ → Type 0) (c : Config) (n : ℕ) (l : Local) (v : View) (i : IsInside good c n l v) (lazy : v.gate.algorithm ≡ OrecLazy) (o : Own) where

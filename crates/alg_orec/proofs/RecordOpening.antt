@@ -9,11 +9,11 @@ use Rattle.stm_rule.specs.declared.local.Local.{Local}
 use Rattle.stm_rule.specs.declared.stm.Stm.{Stm}
 use Rattle.stm_rule.specs.Attempts.{HasRoom, IsInside, Stands, ended, good_by, own_of}
 use Rattle.stm_rule.specs.Callers.{Handle, IsTied}
-use Rattle.tx_answers.specs.CallerState.{CallerState, known_of}
+use Rattle.stm_answers.specs.CallerState.{CallerState, known_of}
 use Rattle.stm_gate.specs.Knowing.{known, number}
 use Rattle.stm_gate.proofs.Opening.{Opened, is-known, of-view, shows, stands-after}
 use Rattle.stm_gate.proofs.Told.{stands-on}
-use Rattle.tx_logs.specs.Probing.{IsPlace}
+use Rattle.stm_logs.specs.Probing.{IsPlace}
 use Rattle.alg_orec.specs.Loading.{HasPlace}
 use Rattle.alg_orec.proofs.RecordReads.{IsReading, written-here}
 use Rattle.alg_orec.proofs.ReadCalls.{ended-moved, ended-own}

@@ -31,15 +31,15 @@ use Rattle.stm_rule.specs.declared.local.Local.{Local}
 use Rattle.stm_rule.specs.Attempts.{begun, own_of, IsInside}
 use Rattle.stm_rule.specs.Attempts as attempts
 use Rattle.stm_rule.specs.RecordsKept.{IsOptimistic}
-use Rattle.steps_orec.specs.RecordFindings.{FindsStart}
-use Rattle.tx_answers.specs.declared.answers.Read.TheVariants as reads
-use Rattle.tx_answers.specs.Answers.{HasRead, Quits, GoesOn, StartMoves, start_word}
-use Rattle.tx_answers.specs.Causes.{Asked, FindsNewer, OwesValidation, has_item, is_some, reads_full}
-use Rattle.tx_answers.specs.Causes.Asked.{ForWord}
-use Rattle.tx_answers.specs.Evidence.{Found}
-use Rattle.tx_answers.specs.CallerState.{CallerState, Grows, known_of, granted_under, kept_under, written_under, is_irrevocable, is_in, is_closing, is_none, has_written}
-use Rattle.tx_answers.specs.CallerStateLaws.{grows-same, grows-trans}
-use Rattle.tx_logs.specs.LogStates.{LogState}
+use Rattle.alg_orec.specs.RecordFindings.{FindsStart}
+use Rattle.stm_answers.specs.declared.answers.Read.TheVariants as reads
+use Rattle.stm_answers.specs.Answers.{HasRead, Quits, GoesOn, StartMoves, start_word}
+use Rattle.stm_answers.specs.Causes.{Asked, FindsNewer, OwesValidation, has_item, is_some, reads_full}
+use Rattle.stm_answers.specs.Causes.Asked.{ForWord}
+use Rattle.stm_answers.specs.Evidence.{Found}
+use Rattle.stm_answers.specs.CallerState.{CallerState, Grows, known_of, granted_under, kept_under, written_under, is_irrevocable, is_in, is_closing, is_none, has_written}
+use Rattle.stm_answers.specs.CallerStateLaws.{grows-same, grows-trans}
+use Rattle.stm_logs.specs.LogStates.{LogState}
 use Rattle.stm_gate.specs.InnerLaws.{goes-inner, unlocked-of}
 use Rattle.stm_gate.specs.Leaving.{left}
 use Rattle.stm_gate.specs.LeavingLaws.{IsUnmade, quits-left, step_trace-left}

@@ -21,8 +21,8 @@ use Rattle.rule_orec.specs.OrecReading.{no_check, checks}
 use Rattle.rule_orec.specs.OrecSteps.{passes, orec_clock, orec_clock_all, CanOrecClock, orec_last, CanOrecLast}
 use Rattle.stm_rule.specs.declared.local.Local.{Local}
 use Rattle.stm_rule.specs.Findings.{OrecFails}
-use Rattle.steps_orec.specs.RecordFindings.{FindsRecord, FindsClock, FindsAll, FindsLast}
-use Rattle.steps_orec.specs.Validating.{is_vouched, to_validate, touches-unvouched}
+use Rattle.alg_orec.specs.RecordFindings.{FindsRecord, FindsClock, FindsAll, FindsLast}
+use Rattle.alg_orec.specs.Vouching.{is_vouched, to_validate, touches-unvouched}
 use Rattle.alg_orec.proofs.Passing as passing
 use Rattle.alg_orec.proofs.Passing.{loads-append}
 use Rattle.alg_orec.proofs.ReadItems.{place-of}

@@ -17,10 +17,10 @@ use Rattle.stm_rule.specs.declared.local.Local.{Local}
 use Rattle.stm_rule.specs.Attempts.{IsInside, HasRoom}
 use Rattle.stm_rule.specs.RecordsKept.{cells_of}
 use Rattle.stm_gate.specs.LeavingLaws.{IsUnmade}
-use Rattle.tx_answers.specs.Causes.{Conflicts, OwesValidation}
-use Rattle.tx_answers.specs.Causes.Asked.{ToCommit}
-use Rattle.tx_answers.specs.Evidence.{Found}
-use Rattle.tx_answers.specs.CallerState.{Grows, known_of}
+use Rattle.stm_answers.specs.Causes.{Conflicts, OwesValidation}
+use Rattle.stm_answers.specs.Causes.Asked.{ToCommit}
+use Rattle.stm_answers.specs.Evidence.{Found}
+use Rattle.stm_answers.specs.CallerState.{Grows, known_of}
 use Rattle.alg_orec.specs.Ending.{CanAbortLazy}
 
 -- an attempt of OrecLazy that wrote, and was not promoted

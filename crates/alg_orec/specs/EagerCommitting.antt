@@ -16,10 +16,10 @@ use Rattle.rule_base.specs.History.{Inside}
 use Rattle.rule_base.specs.Own.{Own}
 use Rattle.stm_rule.specs.declared.local.Local.{Local}
 use Rattle.stm_rule.specs.Attempts.{IsInside, HasRoom}
-use Rattle.tx_answers.specs.Causes.{Conflicts}
-use Rattle.tx_answers.specs.Causes.Asked.{ToCommit}
-use Rattle.tx_answers.specs.Evidence.{Found}
-use Rattle.tx_answers.specs.CallerState.{Grows, known_of}
+use Rattle.stm_answers.specs.Causes.{Conflicts}
+use Rattle.stm_answers.specs.Causes.Asked.{ToCommit}
+use Rattle.stm_answers.specs.Evidence.{Found}
+use Rattle.stm_answers.specs.CallerState.{Grows, known_of}
 use Rattle.alg_orec.specs.Committing.{readied}
 use Rattle.alg_orec.specs.EagerEnding.{AllBelow}
 

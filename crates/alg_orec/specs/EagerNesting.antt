@@ -5,7 +5,7 @@ use Rattle.rule_base.specs.declared.views.View.{View}
 use Rattle.rule_base.specs.Bridge.{addresses, items}
 use Rattle.rule_base.specs.History.{touches, Inside, Small}
 use Rattle.rule_orec.specs.OrecSteps.{HasOrec, HasOpen}
-use Rattle.tx_answers.specs.Causes.{has_item}
+use Rattle.stm_answers.specs.Causes.{has_item}
 use Rattle.alg_orec.specs.EagerEnding.{restoring, Undoable}
 
 -- these are the old values of the words that the attempt has stored, now or before they were taken back, and these the

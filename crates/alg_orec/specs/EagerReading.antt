@@ -13,12 +13,12 @@ use Rattle.rule_base.specs.Ranks.{home_of}
 use Rattle.stm_gate.specs.Knowing.{known}
 use Rattle.stm_rule.specs.Alone.{left_at}
 use Rattle.stm_rule.specs.Callers.{Handle}
-use Rattle.tx_answers.specs.declared.answers.Read.{Read}
-use Rattle.tx_answers.specs.declared.answers.Read.TheVariants as reads
-use Rattle.tx_answers.specs.Answers.{HasOthers, HasRead, GoesOn, IsOpaque, Quits}
-use Rattle.tx_answers.specs.Causes.{reads_full}
-use Rattle.tx_answers.specs.Causes.Asked.{ForWord}
-use Rattle.tx_answers.specs.CallerState.{CallerState}
+use Rattle.stm_answers.specs.declared.answers.Read.{Read}
+use Rattle.stm_answers.specs.declared.answers.Read.TheVariants as reads
+use Rattle.stm_answers.specs.Answers.{HasOthers, HasRead, GoesOn, IsOpaque, Quits}
+use Rattle.stm_answers.specs.Causes.{reads_full}
+use Rattle.stm_answers.specs.Causes.Asked.{ForWord}
+use Rattle.stm_answers.specs.CallerState.{CallerState}
 use Rattle.alg_orec.specs.Validating.{load_of, OnlyLoads}
 
 -- the attempt has neither written nor read a, and its read log has room for it

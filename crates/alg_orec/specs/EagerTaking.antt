@@ -16,8 +16,8 @@ use Rattle.rule_base.specs.History.{over, touches, Inside}
 use Rattle.rule_base.specs.Ranks.{home_of}
 use Rattle.rule_orec.specs.OrecSteps.{HasOpen}
 use Rattle.stm_rule.specs.declared.local.Local.{Local}
-use Rattle.tx_answers.specs.declared.answers.Write.{Write}
-use Rattle.tx_answers.specs.declared.answers.Write.TheVariants as writes
+use Rattle.stm_answers.specs.declared.answers.Write.{Write}
+use Rattle.stm_answers.specs.declared.answers.Write.TheVariants as writes
 use Rattle.alg_orec.specs.EagerEnding.{AllBelow}
 use Rattle.alg_orec.specs.Loading.{MayMove, MovesOwed, RefusesRead, moved}
 use Rattle.alg_orec.specs.Validating.{CanValidate, load_of}

@@ -14,14 +14,14 @@ use Rattle.rule_orec.specs.OrecReading.{no_sample, no_check}
 use Rattle.rule_orec.specs.OrecSteps.{direct_attempt, direct_owned, HasStores}
 use Rattle.stm_rule.specs.declared.local.Local.{Local}
 use Rattle.stm_rule.specs.RecordsKept.{Apart, cells_of}
-use Rattle.steps_orec.specs.RecordFindings.{Moves}
+use Rattle.alg_orec.specs.RecordFindings.{Moves}
 use Rattle.stm_gate.specs.Granting.{IsAlone}
-use Rattle.tx_answers.specs.declared.answers.Irrev.{Irrev}
-use Rattle.tx_answers.specs.declared.answers.Irrev.TheVariants as irrevs
-use Rattle.tx_answers.specs.Causes.{Conflicts}
-use Rattle.tx_answers.specs.Causes.Asked.{ToPromote}
-use Rattle.tx_answers.specs.Evidence.{Found}
-use Rattle.tx_answers.specs.CallerState.{known_of}
+use Rattle.stm_answers.specs.declared.answers.Irrev.{Irrev}
+use Rattle.stm_answers.specs.declared.answers.Irrev.TheVariants as irrevs
+use Rattle.stm_answers.specs.Causes.{Conflicts}
+use Rattle.stm_answers.specs.Causes.Asked.{ToPromote}
+use Rattle.stm_answers.specs.Evidence.{Found}
+use Rattle.stm_answers.specs.CallerState.{known_of}
 use Rattle.alg_orec.specs.EagerEnding.{AllBelow}
 use Rattle.alg_orec.specs.Validating.{load_of, CanValidate}
 

@@ -1,3 +1,5 @@
+pub mod Vouching
+pub mod RecordFindings
 pub mod Validating
 pub mod Ending
 pub mod Locking

@@ -15,11 +15,11 @@ use Rattle.rule_base.specs.Own.{Own}
 use Rattle.rule_base.specs.Ranks.{home_of}
 use Rattle.rule_orec.specs.OrecReading.{no_check, no_sample}
 use Rattle.stm_rule.specs.declared.local.Local.{Local}
-use Rattle.steps_orec.specs.RecordFindings.{Moves}
-use Rattle.tx_answers.specs.Causes.{Conflicts}
-use Rattle.tx_answers.specs.Causes.Asked.{ForWord}
-use Rattle.tx_answers.specs.CallerState.{CallerState, known_of}
-use Rattle.tx_logs.specs.Probing.{IsPlace}
+use Rattle.alg_orec.specs.RecordFindings.{Moves}
+use Rattle.stm_answers.specs.Causes.{Conflicts}
+use Rattle.stm_answers.specs.Causes.Asked.{ForWord}
+use Rattle.stm_answers.specs.CallerState.{CallerState, known_of}
+use Rattle.stm_logs.specs.Probing.{IsPlace}
 use Rattle.alg_orec.specs.Validating.{CanValidate, OnlyLoads, load_of}
 
 -- where the index of what the attempt has read has a, or would have it

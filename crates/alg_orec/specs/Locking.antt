@@ -16,8 +16,8 @@ use Rattle.rule_base.specs.Ranks.{home_of}
 use Rattle.rule_orec.specs.OrecSteps.{HasOrec, HasOpen}
 use Rattle.stm_rule.specs.declared.local.Local.{Local}
 use Rattle.stm_rule.specs.RecordsKept.{cells_of}
-use Rattle.tx_answers.specs.Causes.{NamesOther}
-use Rattle.tx_answers.specs.Evidence.{Untouched}
+use Rattle.stm_answers.specs.Causes.{NamesOther}
+use Rattle.stm_answers.specs.Evidence.{Untouched}
 use Rattle.alg_orec.specs.Validating.{load_of}
 
 -- the view with these records held, and with these steps added

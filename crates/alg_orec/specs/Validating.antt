@@ -18,8 +18,8 @@ use Rattle.rule_base.specs.Ranks.{home_of}
 use Rattle.rule_orec.specs.OrecReading.{no_check}
 use Rattle.rule_orec.specs.OrecSteps.{HasOpen}
 use Rattle.stm_rule.specs.declared.local.Local.{Local}
-use Rattle.steps_orec.specs.RecordFindings.{Moves}
-use Rattle.tx_answers.specs.Causes.{NamesOther}
+use Rattle.alg_orec.specs.RecordFindings.{Moves}
+use Rattle.stm_answers.specs.Causes.{NamesOther}
 
 -- a load that found x
 abbrev pub load_of : At → ℕ → TracedStep

@@ -1,22 +1,23 @@
 //! How an attempt of OrecEager commits that wrote, or was promoted.
 ghost use Rattle.stm_rule.specs.Counting.{TakesAtMost};
-ghost use Rattle.tx_answers.specs.Counting.{AddsAtMost};
+ghost use Rattle.stm_answers.specs.Counting.{AddsAtMost};
 ghost use Rattle.std.specs.Prelude.{length, ◌≡◌, ℕ, ◌<◌, ◌≤◌, true, false, ◌+◌};
 ghost use Rattle.stm_model.specs.declared.alg.Alg.TheVariants.{OrecEager};
 ghost use Rattle.stm_rule.specs.Attempts.{own_of, Stands};
 ghost use Rattle.stm_rule.specs.Callers.{IsOf, IsSameCaller, IsSeatOf};
 ghost use Rattle.stm_gate.specs.Knowing.{known, number};
 ghost use Rattle.stm_rule.specs.Kept.{MovesView, view_of};
-ghost use Rattle.tx_answers.specs.Answers.{KeepsRule, Commits};
-ghost use Rattle.tx_answers.specs.CallerState.{known_of};
+ghost use Rattle.stm_answers.specs.Answers.{KeepsRule, Commits};
+ghost use Rattle.stm_answers.specs.CallerState.{known_of};
 ghost use Rattle.alg_orec.specs.EagerCommitting.{CanCommitPlaced, Revalidates, CanGiveDirect, CanGiveAbove, GivesAbove};
 ghost use Rattle.alg_orec.specs.Locking.{ReleasesAll};
 
 use crate::eager_ending::{abort, newest};
 use crate::locking::release_all;
+use crate::promoting_steps::{direct_raise_clock, direct_release, direct_release_above};
 use crate::validate::validate;
-use steps_orec::promoting::{direct_raise_clock, direct_release, direct_release_above};
-use steps_orec::{eager, lazy};
+use crate::{eager_steps, lazy_steps};
+use stm_answers::answers::Commit;
 use stm_gate::leave::leave;
 use stm_model::config::CLOCK_LIMIT;
 use stm_model::rule::MemRule;
@@ -24,7 +25,6 @@ use stm_model::stop::Cause;
 use stm_rule::desc::Desc;
 use stm_rule::local::Local;
 use stm_rule::stm::{Stm, Token};
-use tx_answers::answers::Commit;
 
 /// Commits what lies in place, or goes on with a commit that answered Again: those of a validation then, one step for
 /// the entry and one for each record. What was written stays in its log, whatever the answer.
@@ -58,11 +58,11 @@ pub(crate) fn commit_placed<K: MemRule>(
     }
     let start = local.start;
     if start >= CLOCK_LIMIT {
-        let clock = lazy::limit(stm, seat, caller);
+        let clock = lazy_steps::limit(stm, seat, caller);
         abort(seat, local, stm, caller);
         return Commit::ClockFull { clock };
     }
-    let now = eager::commit_placed(stm, seat, caller, start);
+    let now = eager_steps::commit_placed(stm, seat, caller, start);
     if now != start {
         local.committing = true;
         return Commit::Again {

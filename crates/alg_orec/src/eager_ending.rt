@@ -7,7 +7,7 @@ ghost use Rattle.stm_rule.specs.Kept.{MovesView, view_of};
 ghost use Rattle.alg_orec.specs.EagerEnding.{CanRestoreAll, RestoresAll, IsNewest, CanReleaseAbove, CanGiveBack, GivesBack, CanAbortEager, AbortsEager};
 ghost use Rattle.alg_orec.specs.Locking.{ReleasesAll};
 
-use steps_orec::eager::{raise_clock, release_above, restore};
+use crate::eager_steps::{raise_clock, release_above, restore};
 use stm_gate::leave::leave;
 use stm_model::rule::MemRule;
 use stm_rule::local::Local;

@@ -8,19 +8,19 @@ ghost use Rattle.std.specs.Prelude.{◌≡◌, ℕ, ◌≤◌, ◌-◌, false, l
 ghost use Rattle.stm_model.specs.declared.alg.Alg.TheVariants.{OrecEager};
 ghost use Rattle.stm_rule.specs.Callers.{IsOf, IsSameCaller, IsSeatOf};
 ghost use Rattle.stm_rule.specs.Kept.{MovesView, view_of};
-ghost use Rattle.tx_answers.specs.Answers.{Rolls};
-ghost use Rattle.tx_answers.specs.Counting.{AddsAtMost};
-ghost use Rattle.tx_answers.specs.CallerState.{IsRunning};
+ghost use Rattle.stm_answers.specs.Answers.{Rolls};
+ghost use Rattle.stm_answers.specs.Counting.{AddsAtMost};
+ghost use Rattle.stm_answers.specs.CallerState.{IsRunning};
 ghost use Rattle.stm_gate.specs.Knowing.{known, number};
 ghost use Rattle.alg_orec.specs.EagerNesting.{CanRestoreAfter, RestoresAfter, CanPlaceAgain, PlacesAgain};
 
-use steps_orec::eager::{place, restore};
+use crate::eager_steps::{place, restore};
+use stm_answers::answers::Roll;
+use stm_logs::undo_log::UndoLog;
+use stm_logs::write_log::WriteLog;
 use stm_model::rule::MemRule;
 use stm_rule::desc::Desc;
 use stm_rule::stm::{Stm, Token};
-use tx_answers::answers::Roll;
-use tx_logs::undo_log::UndoLog;
-use tx_logs::write_log::WriteLog;
 
 /// Rolls an attempt back that was not promoted: the words that it stored since the mark have the values again that they
 /// had there, and their records stay held. One step for each word that it had stored.

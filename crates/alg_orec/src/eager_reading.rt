@@ -1,13 +1,13 @@
 //! A read of OrecEager in its parts, between which other callers may step: its record is sampled, the word is loaded,
 //! and the record is confirmed.
-ghost use Rattle.tx_answers.specs.Counting.{AddsAtMost};
+ghost use Rattle.stm_answers.specs.Counting.{AddsAtMost};
 ghost use Rattle.std.specs.Prelude.{◌≡◌, ℕ, ◌<◌, None, false, [], ◌∷◌, ◌+◌, ◌*◌, ◌%◌, MatchResult};
 ghost use Rattle.rule_base.specs.declared.layout.At.TheVariants.{Heap, Record};
 ghost use Rattle.rule_base.specs.Places.{offset};
 ghost use Rattle.stm_model.specs.Memories.{item_at};
 ghost use Rattle.stm_model.specs.declared.alg.Alg.TheVariants.{OrecEager};
 ghost use Rattle.stm_rule.specs.Callers.{IsOf, IsSameCaller};
-ghost use Rattle.tx_answers.specs.CallerState.{IsRunning};
+ghost use Rattle.stm_answers.specs.CallerState.{IsRunning};
 ghost use Rattle.rule_base.specs.Encodings.{fenced};
 ghost use Rattle.stm_gate.specs.Knowing.{known, number};
 ghost use Rattle.alg_orec.specs.EagerReading.{IsNew, HasSample, IsLoaded, LoadsSampled, GoesOnReading, Samples, Confirms};
@@ -15,14 +15,13 @@ ghost use Rattle.alg_orec.specs.Loading.{HasPlace};
 ghost use Rattle.alg_orec.specs.Validating.{load_of};
 
 use crate::eager_ending::abort;
-use crate::records;
 use crate::sampling::sample_valid;
-use steps_orec::reading;
+use crate::{reading_steps, records};
+use stm_answers::answers::Read;
 use stm_model::rule::MemRule;
 use stm_model::stop::Cause;
 use stm_rule::desc::Desc;
 use stm_rule::stm::Stm;
-use tx_answers::answers::Read;
 
 /// Where the index of what the attempt has read has the word, or would have it, while nothing else is read. No step.
 #[inline(always)]
@@ -103,7 +102,7 @@ pub fn load<K: MemRule>(desc: &mut Desc<K>, stm: &Stm<K>, a: usize) -> u64
     ensures loads { LoadsSampled stm.now.config a result desc.old.view desc.new.view }
     ensures steps { AddsAtMost 1 (known desc.old) (known desc.new) }
 {
-    reading::load(stm, &mut desc.seat, desc.number, a)
+    reading_steps::load(stm, &mut desc.seat, desc.number, a)
 }
 
 /// Loads record `r` again, which `sample` found as `word`, after the word, which `load` found as `x`. Where the record

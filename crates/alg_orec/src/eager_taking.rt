@@ -5,17 +5,17 @@ ghost use Rattle.stm_rule.specs.Callers.{IsSeatOf};
 ghost use Rattle.stm_rule.specs.Kept.{MovesView, good_of, view_of};
 ghost use Rattle.alg_orec.specs.EagerTaking.{CanTake, Takes, CanStoreFirst, StoresFirst};
 
+use crate::eager_steps::{place, save};
+use crate::lazy_steps::{limit, lock};
 use crate::records::record_of;
 use crate::sampling::sample_valid;
 use rule_base::words::version_of;
-use steps_orec::eager::{place, save};
-use steps_orec::lazy::{limit, lock};
+use stm_answers::answers::Write;
 use stm_model::config::CLOCK_LIMIT;
 use stm_model::rule::MemRule;
 use stm_model::stop::Cause;
 use stm_rule::local::Local;
 use stm_rule::stm::{Stm, Token};
-use tx_answers::answers::Write;
 
 /// Takes the record of the word where the attempt doesn't hold it yet, at a version that its start has seen, which is
 /// below the clock's limit: so it can be given back one later. Three steps, and those of a validation.

@@ -6,15 +6,15 @@ ghost use Rattle.stm_rule.specs.Counting.{TakesAtMost};
 ghost use Rattle.alg_orec.specs.Granting.{CanPromote, Promotes};
 ghost use Rattle.alg_orec.specs.Validating.{IsLast};
 
+use crate::promoting_steps;
+use crate::promoting_steps::grant_all;
+use crate::reading_steps::clock;
 use crate::validate::{judge, last_to_validate, pass_before};
-use steps_orec::promoting;
-use steps_orec::promoting::grant_all;
-use steps_orec::reading::clock;
+use stm_answers::answers::Irrev;
 use stm_model::config::CLOCK_LIMIT;
 use stm_model::rule::MemRule;
 use stm_rule::local::Local;
 use stm_rule::stm::{Stm, Token};
-use tx_answers::answers::Irrev;
 
 /// Promotes an attempt that is alone to the clock, where all its reads are valid there and the clock is below its
 /// limit. One step where its own records vouch for all that it read, or two, and one for each read.
@@ -89,7 +89,7 @@ fn grant_valid<K: MemRule>(
     }
     let (b, _) = local.reads.item(i);
     let r = b % stm.config.records;
-    let word = promoting::grant(stm, seat, caller, r, b);
+    let word = promoting_steps::grant(stm, seat, caller, r, b);
     if let Err(cause) = judge(r, word, local.start) {
         return Err(Irrev::Conflict(cause));
     }

@@ -4,22 +4,22 @@ ghost use Rattle.std.specs.Prelude.{◌≡◌, ℕ, ◌<◌, ◌≤◌, false, �
 ghost use Rattle.stm_rule.specs.Attempts.{IsFenceOf, own_of, Stands, ended};
 ghost use Rattle.stm_rule.specs.Callers.{IsSeatOf};
 ghost use Rattle.stm_rule.specs.Kept.{MovesView, view_of};
-ghost use Rattle.tx_answers.specs.Answers.{KeepsRule, Commits};
-ghost use Rattle.tx_answers.specs.CallerState.{known_of};
+ghost use Rattle.stm_answers.specs.Answers.{KeepsRule, Commits};
+ghost use Rattle.stm_answers.specs.CallerState.{known_of};
 ghost use Rattle.alg_orec.specs.Committing.{CanCommit, Prepares, CanFinish};
 ghost use Rattle.alg_orec.specs.Ending.{GivesUp};
 
 use crate::lazy_ending::abort;
+use crate::lazy_steps;
 use crate::locking::{lock_all, release_all, write_back_all};
 use crate::validate::validate;
-use steps_orec::lazy;
+use stm_answers::answers::Commit;
 use stm_gate::leave::leave;
 use stm_model::config::CLOCK_LIMIT;
 use stm_model::rule::MemRule;
 use stm_model::stop::Cause;
 use stm_rule::local::Local;
 use stm_rule::stm::{Stm, Token};
-use tx_answers::answers::Commit;
 
 /// Commits what the attempt wrote, or goes on with a commit that answered Again. The steps of `prepare`, one for the
 /// entry, and one for each word and each record. What was written stays in its log, whatever the answer.
@@ -52,11 +52,11 @@ pub(crate) fn commit_writes<K: MemRule>(
     }
     let start = local.start;
     if start >= CLOCK_LIMIT {
-        let clock = lazy::limit(stm, seat, caller);
+        let clock = lazy_steps::limit(stm, seat, caller);
         abort(seat, local, stm, caller);
         return Commit::ClockFull { clock };
     }
-    let now = lazy::commit(stm, seat, caller, start, &local.writes);
+    let now = lazy_steps::commit(stm, seat, caller, start, &local.writes);
     if now != start {
         local.committing = true;
         return Commit::Again {

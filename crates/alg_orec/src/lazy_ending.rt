@@ -6,7 +6,7 @@ ghost use Rattle.stm_rule.specs.Callers.{IsSeatOf};
 ghost use Rattle.stm_rule.specs.Kept.{MovesView, view_of};
 ghost use Rattle.alg_orec.specs.Ending.{CanAbortLazy, GivesUp};
 
-use steps_orec::lazy::release_old;
+use crate::lazy_steps::release_old;
 use stm_gate::leave::leave;
 use stm_model::rule::MemRule;
 use stm_rule::local::Local;

@@ -4,19 +4,19 @@ ghost use Rattle.stm_model.specs.declared.alg.Alg.TheVariants.{OrecLazy};
 ghost use Rattle.stm_rule.specs.Callers.{IsOf, IsSameCaller, IsSeatOf};
 ghost use Rattle.stm_rule.specs.Kept.{MovesView, view_of};
 ghost use Rattle.stm_rule.specs.Counting.{TakesAtMost};
-ghost use Rattle.tx_answers.specs.Counting.{AddsAtMost};
-ghost use Rattle.tx_answers.specs.CallerState.{IsRunning, is_irrevocable};
+ghost use Rattle.stm_answers.specs.Counting.{AddsAtMost};
+ghost use Rattle.stm_answers.specs.CallerState.{IsRunning, is_irrevocable};
 ghost use Rattle.stm_gate.specs.Knowing.{known, number};
 ghost use Rattle.stm_gate.specs.Granting.{IsAlone, Grants};
 ghost use Rattle.alg_orec.specs.Granting.{CanStoreAll, StoresAll};
 
 use crate::granting::grant_reads;
 use crate::lazy_ending::abort;
+use stm_answers::answers::Irrev;
 use stm_model::rule::MemRule;
 use stm_rule::desc::Desc;
 use stm_rule::local::Local;
 use stm_rule::stm::{Stm, Token};
-use tx_answers::answers::Irrev;
 
 /// Validates for an attempt that is alone, and stores what it wrote.
 pub(crate) fn grant<K: MemRule>(desc: &mut Desc<K>, stm: &Stm<K>) -> Irrev

@@ -6,9 +6,9 @@ ghost use Rattle.stm_rule.specs.Callers.{IsSeatOf};
 ghost use Rattle.stm_rule.specs.Kept.{MovesView, view_of};
 ghost use Rattle.alg_orec.specs.Locking.{CanLock, CanLockAll, LocksOne, LocksAll, Owes, OwesNothing, Pays, ReleasesAll};
 
+use crate::lazy_steps::{lock, look, release, write_back};
 use crate::records::record_of;
 use rule_base::words::{is_owned, version_of};
-use steps_orec::lazy::{lock, look, release, write_back};
 use stm_model::config::CLOCK_LIMIT;
 use stm_model::rule::MemRule;
 use stm_model::stop::Cause;

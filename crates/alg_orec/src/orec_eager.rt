@@ -6,13 +6,13 @@
 //! than its start when it took them. The undo log has the memory's value of each word that it stored, also of those
 //! that were rolled back to a mark since; it holds no more records than that log has items.
 //! The rest is as under OrecLazy.
-ghost use Rattle.tx_answers.specs.Counting.{AddsAtMost};
+ghost use Rattle.stm_answers.specs.Counting.{AddsAtMost};
 ghost use Rattle.std.specs.Prelude.{◌≡◌, ℕ, ◌<◌, None, true, false, ◌+◌, ◌*◌};
 ghost use Rattle.stm_model.specs.Memories.{item_at};
 ghost use Rattle.stm_rule.specs.Callers.{IsOf, IsSameCaller};
-ghost use Rattle.tx_answers.specs.Answers.{HasRead, HasWritten};
-ghost use Rattle.tx_answers.specs.declared.answers.Write.TheVariants.{Done};
-ghost use Rattle.tx_answers.specs.CallerState.{IsRunning};
+ghost use Rattle.stm_answers.specs.Answers.{HasRead, HasWritten};
+ghost use Rattle.stm_answers.specs.declared.answers.Write.TheVariants.{Done};
+ghost use Rattle.stm_answers.specs.CallerState.{IsRunning};
 ghost use Rattle.rule_base.specs.Encodings.{fenced};
 ghost use Rattle.rule_base.specs.History.{member};
 ghost use Rattle.stm_gate.specs.Knowing.{known, number};
@@ -24,18 +24,18 @@ use crate::eager_ending::abort;
 use crate::eager_granting::grant;
 use crate::eager_nesting::roll_in_place;
 use crate::eager_reading::{confirm, load, read_place, sample};
+use crate::eager_steps::{own_load, place};
 use crate::eager_taking::{store_first, take_record};
+use crate::reading_steps;
 use crate::records::record_of;
 use alg_calls::algorithm::Algorithm;
-use steps_orec::eager::{own_load, place};
-use steps_orec::reading;
+use stm_answers::answers::{Begin, Cancel, Commit, Irrev, Read, Roll, Write};
 use stm_gate::leave::leave;
 use stm_gate::promote::{Promotion, promote};
 use stm_model::alg::Alg;
 use stm_model::rule::MemRule;
 use stm_rule::desc::Desc;
 use stm_rule::stm::{Stm, Token};
-use tx_answers::answers::{Begin, Cancel, Commit, Irrev, Read, Roll, Write};
 
 /// OrecEager.
 pub struct OrecEager;
@@ -51,7 +51,7 @@ impl Algorithm for OrecEager {
 
     /// Loads the clock as the start, which it answers. One step.
     fn begin<K: MemRule>(seat: &mut Token<K>, stm: &Stm<K>, caller: usize) -> Result<u64, Begin> {
-        Ok(reading::begin(stm, seat, caller))
+        Ok(reading_steps::begin(stm, seat, caller))
     }
 
     /// Answers what it wrote or has read at the word, with no step; else loads it: one step where the attempt holds the

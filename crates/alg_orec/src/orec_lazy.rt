@@ -9,12 +9,12 @@
 //! and then those of all words that it wrote.
 ghost use Rattle.std.specs.Prelude.{◌≡◌, ℕ, ◌<◌, ◌+◌, None, false};
 ghost use Rattle.stm_rule.specs.Counting.{TakesAtMost};
-ghost use Rattle.tx_answers.specs.Counting.{AddsAtMost};
+ghost use Rattle.stm_answers.specs.Counting.{AddsAtMost};
 ghost use Rattle.stm_model.specs.Memories.{item_at};
 ghost use Rattle.stm_rule.specs.Callers.{IsOf, IsSameCaller, IsSeatOf};
 ghost use Rattle.stm_rule.specs.Kept.{MovesView, good_of, view_of};
-ghost use Rattle.tx_answers.specs.Answers.{HasRead};
-ghost use Rattle.tx_answers.specs.CallerState.{IsRunning};
+ghost use Rattle.stm_answers.specs.Answers.{HasRead};
+ghost use Rattle.stm_answers.specs.CallerState.{IsRunning};
 ghost use Rattle.rule_base.specs.Encodings.{fenced};
 ghost use Rattle.stm_gate.specs.Knowing.{known, number};
 ghost use Rattle.alg_orec.specs.Loading.{CanLoadValid, HasPlace, LoadsValid};
@@ -22,22 +22,22 @@ ghost use Rattle.alg_orec.specs.Loading.{CanLoadValid, HasPlace, LoadsValid};
 use crate::lazy_committing::commit_writes;
 use crate::lazy_ending::abort;
 use crate::lazy_granting::grant;
+use crate::reading_steps;
+use crate::reading_steps::load;
 use crate::records::record_of;
 use crate::sampling::sample_valid;
 use alg_calls::algorithm::Algorithm;
-use steps_orec::reading;
-use steps_orec::reading::load;
+use stm_answers::answers::{Begin, Cancel, Commit, Irrev, Read, Roll, Write};
 use stm_gate::direct::direct_commit;
 use stm_gate::leave::leave;
 use stm_gate::promote::{Promotion, promote};
+use stm_logs::push::Push;
 use stm_model::alg::Alg;
 use stm_model::rule::MemRule;
 use stm_model::stop::Cause;
 use stm_rule::desc::Desc;
 use stm_rule::local::Local;
 use stm_rule::stm::{Stm, Token};
-use tx_answers::answers::{Begin, Cancel, Commit, Irrev, Read, Roll, Write};
-use tx_logs::push::Push;
 
 /// OrecLazy.
 pub struct OrecLazy;
@@ -53,7 +53,7 @@ impl Algorithm for OrecLazy {
 
     /// Loads the clock as the start, which it answers. One step.
     fn begin<K: MemRule>(seat: &mut Token<K>, stm: &Stm<K>, caller: usize) -> Result<u64, Begin> {
-        Ok(reading::begin(stm, seat, caller))
+        Ok(reading_steps::begin(stm, seat, caller))
     }
 
     /// Answers what it wrote or has read at the word, with no step; else loads it. Three steps, and those of a
@@ -198,7 +198,7 @@ fn load_valid<K: MemRule>(
     let at = stm.record_place(r);
     let word = sample_valid(seat, local, stm, caller, a, r, at)?;
     let x = load(stm, seat, caller, a);
-    let after = reading::confirm(stm, seat, caller, r, at);
+    let after = reading_steps::confirm(stm, seat, caller, r, at);
     if after != word {
         return Err(Cause::Moved {
             index: r,

@@ -5,12 +5,12 @@ ghost use Rattle.rule_base.specs.declared.layout.At.TheVariants.{Record};
 ghost use Rattle.rule_base.specs.Places.{offset};
 ghost use Rattle.rule_base.specs.Ranks.{home_of};
 ghost use Rattle.rule_orec.specs.OrecSteps.{orec_sample, CanOrecSample, orec_confirm, CanOrecConfirm, orec_pass, CanOrecPass, orec_last, CanOrecLast};
-ghost use Rattle.steps_orec.specs.RecordFindings.{FindsRecord, FindsAgain, FindsRead, FindsLast};
+ghost use Rattle.alg_orec.specs.RecordFindings.{FindsRecord, FindsAgain, FindsRead, FindsLast};
 ghost use Rattle.stm_rule.specs.Callers.{IsSeatOf};
 ghost use Rattle.stm_rule.specs.Kept.{good_of, SeatTells, IsSameSeat, view_of};
 ghost use Rattle.alg_orec.specs.Loading.{TellsSeen};
 
-use steps_orec::reading;
+use crate::reading_steps;
 use stm_model::config::CLOCK_LIMIT;
 use stm_model::rule::MemRule;
 use stm_rule::local::Local;
@@ -69,7 +69,7 @@ pub(crate) fn sample<K: MemRule>(
         (FindsRecord stm.now.config caller (a % stm.now.config.records)) seat.old.me.0 result
         seat.new.me.0 }
 {
-    reading::sample(stm, seat, caller, r, at, a)
+    reading_steps::sample(stm, seat, caller, r, at, a)
 }
 
 /// Loads record `r`, that of the word at `a`, again, after the word: where it is as sampled, the word is read. Answers
@@ -94,7 +94,7 @@ pub(crate) fn confirm<K: MemRule>(
         (FindsAgain (good_of K.good stm.now.config stm.now.rule) stm.now.config caller
         (a % stm.now.config.records)) seat.old.me.0 result seat.new.me.0 }
 {
-    reading::confirm(stm, seat, caller, r, at)
+    reading_steps::confirm(stm, seat, caller, r, at)
 }
 
 /// Loads the record of a read at `b`, to validate it: it passes where it is free at a version of at most the start.
@@ -111,5 +111,5 @@ pub(crate) fn pass<K: MemRule>(stm: &Stm<K>, seat: &mut Token<K>, caller: usize,
         seat.new.me.0 }
 {
     let r = record_of(stm.config.records, b);
-    reading::pass(stm, seat, caller, r, b)
+    reading_steps::pass(stm, seat, caller, r, b)
 }

@@ -6,9 +6,9 @@ ghost use Rattle.stm_rule.specs.Kept.{MovesView, good_of, view_of};
 ghost use Rattle.stm_rule.specs.Counting.{TakesAtMost};
 ghost use Rattle.alg_orec.specs.Validating.{HasVersions, MustLoad, IsLast, CanValidate, Judges, Passes, Validates};
 
+use crate::reading_steps::{clock, clock_all, last};
 use crate::records::{held, pass};
 use rule_base::words::{free_record, is_owned, version_of};
-use steps_orec::reading::{clock, clock_all, last};
 use stm_model::rule::MemRule;
 use stm_model::stop::Cause;
 use stm_rule::local::Local;

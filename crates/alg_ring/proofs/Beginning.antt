@@ -16,8 +16,8 @@ use Rattle.rule_base.specs.StepKinds.{Tells, view_after}
 use Rattle.rule_ring.specs.RingSteps.{ring_begin, CanRingBegin, RingBegins}
 use Rattle.rule_ring.specs.SlotFilter.{slot_filter}
 use Rattle.stm_rule.specs.Attempts.{no_filter}
-use Rattle.steps_ring.specs.RingFindings.{FindsStart}
-use Rattle.tx_answers.specs.CallerState.{granted_under, written_under, kept_under}
+use Rattle.alg_ring.specs.RingFindings.{FindsStart}
+use Rattle.stm_answers.specs.CallerState.{granted_under, written_under, kept_under}
 use Rattle.rule_base.specs.declared.entries.Cell.{Cell}
 use Rattle.stm_gate.specs.Opacity.{opaque-at, later-seen}
 use Rattle.stm_gate.specs.Starts.{CanBegin, StartsAt}

@@ -9,7 +9,7 @@ use Rattle.rule_base.specs.History.{upto}
 use Rattle.alg_ring.proofs.Seen.{upto-upto}
 use Rattle.rule_base.specs.Own.{Own}
 use Rattle.rule_ring.specs.RingSteps.{RingBegins}
-use Rattle.tx_answers.specs.CallerState.{Grows, known_of}
+use Rattle.stm_answers.specs.CallerState.{Grows, known_of}
 use Rattle.stm_gate.specs.Opacity.{later-seen}
 use Rattle.alg_ring.specs.Checking.{Passes}
 

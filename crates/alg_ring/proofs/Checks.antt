@@ -19,8 +19,8 @@ use Rattle.rule_base.specs.World.{World}
 use Rattle.rule_promoted.specs.PromotedSteps.{ring_look_grant, ring_move_grant}
 use Rattle.rule_ring.specs.RingSteps.{HasRing, ring_look, ring_again, ring_move, CanRingMove, AllClear, RingSees, RingMoves, read_in, passed, moved}
 use Rattle.rule_ring.specs.SlotFilter.{slot_filter}
-use Rattle.steps_ring.specs.RingFindings.{FindsLook, FindsAgain, FindsMove, FindsLevel}
-use Rattle.tx_answers.specs.SlotEvidence.{InStepTrace}
+use Rattle.alg_ring.specs.RingFindings.{FindsLook, FindsAgain, FindsMove, FindsLevel}
+use Rattle.stm_answers.specs.SlotEvidence.{InStepTrace}
 use Rattle.alg_ring.specs.Checking.{with_words, CanScan, MeetsOne, OneMeets, Refutes, scanned, Scans, CanCheck, CanCheckToGrant, Passes, Fails, Checks, ChecksToGrant}
 use Rattle.alg_ring.proofs.Words.{step_trace-right}
 

@@ -20,11 +20,11 @@ use Rattle.stm_rule.specs.Attempts.{IsInside, own_of}
 use Rattle.stm_rule.specs.Attempts as attempts
 use Rattle.stm_rule.specs.Findings.{FindsLock}
 use Rattle.stm_rule.specs.RingKept.{IsRing}
-use Rattle.tx_answers.specs.declared.answers.Commit.TheVariants as commits
-use Rattle.tx_answers.specs.Answers.{Commits, StartMoves}
-use Rattle.tx_answers.specs.Causes.Asked.{ToCommit}
-use Rattle.tx_answers.specs.CallerState.{known_of, written_under, is_in, is_closing, wrote}
-use Rattle.tx_answers.specs.CallerStateLaws.{grows-same}
+use Rattle.stm_answers.specs.declared.answers.Commit.TheVariants as commits
+use Rattle.stm_answers.specs.Answers.{Commits, StartMoves}
+use Rattle.stm_answers.specs.Causes.Asked.{ToCommit}
+use Rattle.stm_answers.specs.CallerState.{known_of, written_under, is_in, is_closing, wrote}
+use Rattle.stm_answers.specs.CallerStateLaws.{grows-same}
 use Rattle.stm_gate.proofs.KeptLaws.{kept-same}
 use Rattle.stm_gate.specs.Leaving.{left}
 use Rattle.stm_gate.specs.LeavingLaws.{unmade-refl, ended-left}

@@ -8,8 +8,8 @@ use Rattle.stm_model.specs.Memories.{put}
 use Rattle.rule_base.specs.declared.entries.Cell.{Cell}
 use Rattle.rule_ring.specs.SlotFilter.{slot_filter}
 use Rattle.rule_ring.specs.SlotFilter as ring
-use Rattle.tx_logs.specs.Filters.{address_word, filter_word, word_meets, part_meets, meets, lowest_from, lowest_common}
-use Rattle.tx_logs.specs.Filters as logs
+use Rattle.stm_logs.specs.Filters.{address_word, filter_word, word_meets, part_meets, meets, lowest_from, lowest_common}
+use Rattle.stm_logs.specs.Filters as logs
 use Rattle.stm_rule.specs.RecordsKept.{cells_of}
 
 -- bits that are set stay so, in whatever order

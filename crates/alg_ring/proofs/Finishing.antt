@@ -31,13 +31,13 @@ use Rattle.stm_rule.specs.Attempts.{IsInside, IsOutside, HasRoom, ended, own_of}
 use Rattle.stm_rule.specs.Kept.{SeatTells}
 use Rattle.stm_rule.specs.RecordsKept.{cells_of}
 use Rattle.stm_rule.specs.RingKept.{IsRing}
-use Rattle.steps_ring.specs.RingFindings.{FindsTick}
-use Rattle.tx_answers.specs.declared.answers.Commit.{Commit}
-use Rattle.tx_answers.specs.declared.answers.Commit.TheVariants as commits
-use Rattle.tx_answers.specs.Answers.{Commits, CommitsAt, Quits, entry}
-use Rattle.tx_answers.specs.Causes.Asked.{ToCommit}
-use Rattle.tx_answers.specs.CallerState.{Grows, known_of}
-use Rattle.tx_answers.specs.CallerStateLaws.{grows-same, grows-trans, ascending-append, within-append}
+use Rattle.alg_ring.specs.RingFindings.{FindsTick}
+use Rattle.stm_answers.specs.declared.answers.Commit.{Commit}
+use Rattle.stm_answers.specs.declared.answers.Commit.TheVariants as commits
+use Rattle.stm_answers.specs.Answers.{Commits, CommitsAt, Quits, entry}
+use Rattle.stm_answers.specs.Causes.Asked.{ToCommit}
+use Rattle.stm_answers.specs.CallerState.{Grows, known_of}
+use Rattle.stm_answers.specs.CallerStateLaws.{grows-same, grows-trans, ascending-append, within-append}
 use Rattle.stm_gate.specs.Leaving.{left, last_steps}
 use Rattle.stm_gate.specs.LeavingLaws.{quits-left, finds-full, found-left}
 use Rattle.stm_model.specs.Logs as logs

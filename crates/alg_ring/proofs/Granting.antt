@@ -31,12 +31,12 @@ use Rattle.stm_rule.specs.Callers.{Handle}
 use Rattle.stm_rule.specs.Findings.{FindsWithin}
 use Rattle.stm_rule.specs.RecordsKept.{Apart, Buffers, cells_of}
 use Rattle.stm_rule.specs.RingKept.{IsRing}
-use Rattle.tx_answers.specs.declared.answers.Irrev.TheVariants as irrevs
-use Rattle.tx_answers.specs.Answers.{Quits, IsOpaque}
-use Rattle.tx_answers.specs.Causes.Asked.{ToPromote}
-use Rattle.tx_answers.specs.Evidence.{Found}
-use Rattle.tx_answers.specs.CallerState.{CallerState, Grows, IsRunning, known_of, fenced_of, granted_under, written_under, is_irrevocable, is_in, is_closing, wrote, locked_under}
-use Rattle.tx_answers.specs.CallerStateLaws.{grows-same, grows-trans}
+use Rattle.stm_answers.specs.declared.answers.Irrev.TheVariants as irrevs
+use Rattle.stm_answers.specs.Answers.{Quits, IsOpaque}
+use Rattle.stm_answers.specs.Causes.Asked.{ToPromote}
+use Rattle.stm_answers.specs.Evidence.{Found}
+use Rattle.stm_answers.specs.CallerState.{CallerState, Grows, IsRunning, known_of, fenced_of, granted_under, written_under, is_irrevocable, is_in, is_closing, wrote, locked_under}
+use Rattle.stm_answers.specs.CallerStateLaws.{grows-same, grows-trans}
 use Rattle.stm_gate.proofs.KeptLaws.{kept-same}
 use Rattle.stm_gate.specs.Granting.{IsAlone, Grants}
 use Rattle.stm_gate.specs.Knowing.{known, number}

@@ -1,3 +1,4 @@
+mod RingFindingLaws
 pub mod Seats
 pub mod Seen
 pub mod Words

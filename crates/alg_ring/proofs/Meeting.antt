@@ -7,7 +7,7 @@ use Rattle.std.proofs.lemmas.Nat.{and_comm}
 use Rattle.rule_base.specs.declared.layout.TheConstants.{SLOT_WORDS}
 use Rattle.rule_ring.specs.SlotFilter.{slot_filter}
 use Rattle.rule_ring.specs.SlotFilter as ring
-use Rattle.tx_logs.specs.Filters.{word_meets, part_meets, meets, lowest_from}
+use Rattle.stm_logs.specs.Filters.{word_meets, part_meets, meets, lowest_from}
 
 module _ (f g : ℕ → ℕ) where
   word-yes : (i : ℕ) → bit_and (f i) (g i) ≢ 0 → word_meets f g i ≡ true

@@ -17,11 +17,11 @@ use Rattle.stm_rule.specs.Attempts as attempts
 use Rattle.rule_ring.specs.SlotFilter.{slot_filter}
 use Rattle.stm_rule.specs.RecordsKept.{cells_of, IsWriteSet, HasMarks}
 use Rattle.stm_rule.specs.RingKept.{IsRing}
-use Rattle.tx_answers.specs.Answers.{IsRolled, kept_rolled}
-use Rattle.tx_answers.specs.CallerState.{known_of, granted_under, kept_under, written_under, is_irrevocable, is_in, is_closing}
-use Rattle.tx_answers.specs.CallerStateLaws.{grows-same}
-use Rattle.tx_logs.specs.Filters.{address_word, filter_word}
-use Rattle.tx_logs.specs.LogStates.{LogState, rolled}
+use Rattle.stm_answers.specs.Answers.{IsRolled, kept_rolled}
+use Rattle.stm_answers.specs.CallerState.{known_of, granted_under, kept_under, written_under, is_irrevocable, is_in, is_closing}
+use Rattle.stm_answers.specs.CallerStateLaws.{grows-same}
+use Rattle.stm_logs.specs.Filters.{address_word, filter_word}
+use Rattle.stm_logs.specs.LogStates.{LogState, rolled}
 use Rattle.stm_gate.proofs.MarkLaws.{marks-take}
 use Rattle.stm_gate.specs.Opacity.{opaque-inside}
 use Rattle.alg_ring.specs.Filtering.{IsFilterOf}

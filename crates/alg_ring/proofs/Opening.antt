@@ -6,7 +6,7 @@ use Rattle.rule_base.specs.declared.views.View.{View}
 use Rattle.stm_rule.specs.declared.local.Local.{Local}
 use Rattle.stm_rule.specs.declared.stm.Stm.{Stm}
 use Rattle.stm_rule.specs.Callers.{Handle}
-use Rattle.tx_answers.specs.CallerState.{CallerState}
+use Rattle.stm_answers.specs.CallerState.{CallerState}
 use Rattle.stm_gate.specs.Knowing.{known}
 use Rattle.alg_ring.specs.Calls.{HasAttempt}
 pub use Rattle.stm_gate.proofs.Opening.{Opened, opened, of-view, tells-of, stands-after}

@@ -23,16 +23,16 @@ use Rattle.rule_base.specs.Own.{Own}
 use Rattle.rule_base.specs.StepKinds.{Nothing, Tells, view_after}
 use Rattle.rule_ring.specs.RingSteps.{ring_load}
 use Rattle.rule_ring.specs.SlotFilter.{slot_filter}
-use Rattle.tx_logs.specs.Filters.{address_word}
+use Rattle.stm_logs.specs.Filters.{address_word}
 use Rattle.stm_rule.specs.declared.local.Local.{Local}
 use Rattle.stm_rule.specs.Attempts.{Keeps, IsFenceOf, IsInside, IsOutside, ended}
 use Rattle.stm_rule.specs.RecordsKept.{cells_of}
 use Rattle.stm_rule.specs.RingKept.{IsRing}
-use Rattle.tx_answers.specs.declared.answers.Read.TheVariants.{Value, Conflict}
-use Rattle.tx_answers.specs.Answers.{HasRead, GoesOn, Quits, StartMoves}
-use Rattle.tx_answers.specs.Causes.{Conflicts, has_item, reads_full}
-use Rattle.tx_answers.specs.Causes.Asked.{ForWord}
-use Rattle.tx_answers.specs.CallerState.{Grows, known_of, written_under, is_irrevocable, is_in, is_closing}
+use Rattle.stm_answers.specs.declared.answers.Read.TheVariants.{Value, Conflict}
+use Rattle.stm_answers.specs.Answers.{HasRead, GoesOn, Quits, StartMoves}
+use Rattle.stm_answers.specs.Causes.{Conflicts, has_item, reads_full}
+use Rattle.stm_answers.specs.Causes.Asked.{ForWord}
+use Rattle.stm_answers.specs.CallerState.{Grows, known_of, written_under, is_irrevocable, is_in, is_closing}
 use Rattle.stm_gate.proofs.KeptLaws.{kept-same}
 use Rattle.stm_gate.specs.Leaving.{CanLeave, left, last_steps}
 use Rattle.stm_gate.specs.LeavingLaws.{quits-left}

@@ -10,10 +10,10 @@ use Rattle.rule_base.specs.declared.layout.At.TheVariants.{Clock}
 use Rattle.rule_base.specs.declared.layout.TheConstants.{SLOT_WORDS}
 use Rattle.rule_base.specs.declared.views.Act.TheVariants.{Load}
 use Rattle.rule_base.specs.declared.views.TracedStep.{TracedStep}
-use Rattle.tx_answers.specs.Causes.{Asked, Conflicts, read_filter}
-use Rattle.tx_answers.specs.Evidence.{Found}
-use Rattle.tx_answers.specs.SlotEvidence.{InStepTrace, FirstMet, FindsFirst, clock_load}
-use Rattle.tx_answers.specs.CallerState.{CallerState}
+use Rattle.stm_answers.specs.Causes.{Asked, Conflicts, read_filter}
+use Rattle.stm_answers.specs.Evidence.{Found}
+use Rattle.stm_answers.specs.SlotEvidence.{InStepTrace, FirstMet, FindsFirst, clock_load}
+use Rattle.stm_answers.specs.CallerState.{CallerState}
 use Rattle.alg_ring.specs.Checking.{Refutes}
 use Rattle.alg_ring.proofs.FilterWords.{part-by, meets-same, lowest-same}
 use Rattle.alg_ring.proofs.Words.{step_trace-right, step_trace-left}

@@ -13,7 +13,7 @@ use Rattle.stm_rule.specs.Attempts.{IsInside, own_of}
 use Rattle.stm_rule.specs.RecordsKept.{cells_of}
 use Rattle.stm_rule.specs.RingKept.{IsRing}
 use Rattle.stm_rule.proofs.StandLemmas.{inside-of}
-use Rattle.tx_answers.specs.CallerState.{known_of, granted_under, written_under, is_irrevocable, wrote}
+use Rattle.stm_answers.specs.CallerState.{known_of, granted_under, written_under, is_irrevocable, wrote}
 use Rattle.stm_gate.proofs.Standing.{in-of}
 use Rattle.alg_ring.specs.Calls.{HasAttempt}
 use Rattle.stm_gate.proofs.Cells.{items-cells}

@@ -14,8 +14,8 @@ use Rattle.rule_base.specs.StepKinds.{Nothing, Tells, view_after}
 use Rattle.rule_ring.specs.RingSteps.{CanRingWord, ring_word, AllClear}
 use Rattle.rule_ring.specs.SlotFilter.{slot_filter}
 use Rattle.rule_ring.specs.Slots.{slot_place, has_word, loaded_word}
-use Rattle.tx_logs.specs.Filters.{meets, part_meets}
-use Rattle.tx_answers.specs.SlotEvidence.{InStepTrace, LoadsWord, Misses}
+use Rattle.stm_logs.specs.Filters.{meets, part_meets}
+use Rattle.stm_answers.specs.SlotEvidence.{InStepTrace, LoadsWord, Misses}
 use Rattle.alg_ring.specs.Checking.{with_words, CanLoadSlot, NoCommon, FirstCommon, LoadsPart, MeetsSlot, CanScan, MeetsOne}
 use Rattle.alg_ring.proofs.Meeting.{part-yes, part-no, meets-yes, meets-no, part-same, lowest-at, ring-meets}
 use Rattle.alg_ring.proofs.Words.{front-has, back-has, loaded-some, last-here, last-else, last-of, step_trace-right, step_trace-left}

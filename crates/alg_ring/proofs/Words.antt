@@ -8,8 +8,8 @@ use Rattle.rule_base.specs.declared.layout.At.{At}
 use Rattle.rule_base.specs.declared.views.SlotWord.{SlotWord}
 use Rattle.rule_base.specs.declared.views.TracedStep.{TracedStep}
 use Rattle.rule_ring.specs.Slots.{has_word, loaded_word}
-use Rattle.tx_answers.specs.Evidence.{ClocksAre}
-use Rattle.tx_answers.specs.SlotEvidence.{InStepTrace}
+use Rattle.stm_answers.specs.Evidence.{ClocksAre}
+use Rattle.stm_answers.specs.SlotEvidence.{InStepTrace}
 
 pub has-append : (xs ys : List SlotWord) (e i : ℕ) → has_word (xs ++ ys) e i ≡ (if has_word xs e i then true else has_word ys e i)
 has-append [] ys e i = refl

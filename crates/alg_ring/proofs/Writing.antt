@@ -13,20 +13,20 @@ use Rattle.rule_base.specs.Bridge.{items, addresses}
 use Rattle.rule_base.specs.History.{Inside, Small, member}
 use Rattle.rule_base.specs.Own.{Own}
 use Rattle.rule_ring.specs.SlotFilter.{slot_filter}
-use Rattle.tx_logs.specs.declared.push.Push.TheVariants as pushes
-use Rattle.tx_logs.specs.Filters.{address_word}
-use Rattle.tx_logs.specs.LogStates.{LogState, Pushes}
+use Rattle.stm_logs.specs.declared.push.Push.TheVariants as pushes
+use Rattle.stm_logs.specs.Filters.{address_word}
+use Rattle.stm_logs.specs.LogStates.{LogState, Pushes}
 use Rattle.stm_rule.specs.declared.local.Local.{Local}
 use Rattle.stm_rule.specs.Attempts.{Keeps, IsInside, own_of}
 use Rattle.stm_rule.specs.RecordsKept.{Apart, HasMarks, cells_of}
 use Rattle.stm_rule.specs.RingKept.{IsRing}
-use Rattle.tx_answers.specs.declared.answers.Read.TheVariants as reads
-use Rattle.tx_answers.specs.declared.answers.Write.TheVariants as writes
-use Rattle.tx_answers.specs.Answers.{HasRead, HasWritten, Quits, StartMoves}
-use Rattle.tx_answers.specs.Causes.{has_item, is_some, reads_full, writes_full}
-use Rattle.tx_answers.specs.Causes.Asked.{ForWord}
-use Rattle.tx_answers.specs.CallerState.{known_of, written_under, is_irrevocable, is_in, is_closing, kept_under}
-use Rattle.tx_answers.specs.CallerStateLaws.{grows-same}
+use Rattle.stm_answers.specs.declared.answers.Read.TheVariants as reads
+use Rattle.stm_answers.specs.declared.answers.Write.TheVariants as writes
+use Rattle.stm_answers.specs.Answers.{HasRead, HasWritten, Quits, StartMoves}
+use Rattle.stm_answers.specs.Causes.{has_item, is_some, reads_full, writes_full}
+use Rattle.stm_answers.specs.Causes.Asked.{ForWord}
+use Rattle.stm_answers.specs.CallerState.{known_of, written_under, is_irrevocable, is_in, is_closing, kept_under}
+use Rattle.stm_answers.specs.CallerStateLaws.{grows-same}
 use Rattle.stm_gate.proofs.KeptLaws.{kept-put, member-item, length-addresses}
 use Rattle.stm_gate.specs.InnerLaws.{goes-inner}
 use Rattle.stm_gate.specs.Leaving.{left}

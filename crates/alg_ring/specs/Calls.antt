@@ -15,15 +15,15 @@ use Rattle.rule_base.specs.Own.{Own}
 use Rattle.rule_base.specs.World.{World}
 use Rattle.rule_ring.specs.RingSteps.{RingEnters, CanRingFree, HasTurn, HasEntered, ring_entry, no_read, no_turn}
 use Rattle.rule_seq.specs.CglSteps.{fresh_lock, no_lock}
-use Rattle.tx_logs.specs.LogStates.{LogState}
+use Rattle.stm_logs.specs.LogStates.{LogState}
 use Rattle.stm_rule.specs.declared.local.Local.{Local}
 use Rattle.stm_rule.specs.Attempts.{IsInside, IsOutside, Stands, ended, own_of}
 use Rattle.stm_rule.specs.RecordsKept.{Apart, Buffers, cells_of}
-use Rattle.tx_answers.specs.declared.answers.Commit.{Commit}
-use Rattle.tx_answers.specs.declared.answers.Read.{Read}
-use Rattle.tx_answers.specs.declared.answers.Read.TheVariants.{Value, Conflict, Full}
-use Rattle.tx_answers.specs.Answers.{HasRead, KeepsRule, Commits}
-use Rattle.tx_answers.specs.CallerState.{CallerState, known_of, is_irrevocable, wrote}
+use Rattle.stm_answers.specs.declared.answers.Commit.{Commit}
+use Rattle.stm_answers.specs.declared.answers.Read.{Read}
+use Rattle.stm_answers.specs.declared.answers.Read.TheVariants.{Value, Conflict, Full}
+use Rattle.stm_answers.specs.Answers.{HasRead, KeepsRule, Commits}
+use Rattle.stm_answers.specs.CallerState.{CallerState, known_of, is_irrevocable, wrote}
 use Rattle.stm_gate.specs.Leaving.{CanLeave, left}
 use Rattle.alg_ring.specs.Checking.{IsFilterOf}
 

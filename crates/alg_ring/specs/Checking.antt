@@ -20,10 +20,10 @@ use Rattle.rule_promoted.specs.PromotedSteps.{CanRingGrant}
 use Rattle.rule_ring.specs.RingSteps.{HasRing, AllClear, CanRingMove, RingSees, read_in, ring_look}
 use Rattle.rule_ring.specs.SlotFilter.{slot_filter}
 use Rattle.rule_ring.specs.Slots.{slot_place, has_word, loaded_word}
-use Rattle.steps_ring.specs.RingFindings.{FindsLook}
-use Rattle.tx_logs.specs.Filters.{meets, lowest_common}
-use Rattle.tx_answers.specs.Evidence.{ClocksAre}
-use Rattle.tx_answers.specs.SlotEvidence.{InStepTrace, FirstMet, clock_load}
+use Rattle.alg_ring.specs.RingFindings.{FindsLook}
+use Rattle.stm_logs.specs.Filters.{meets, lowest_common}
+use Rattle.stm_answers.specs.Evidence.{ClocksAre}
+use Rattle.stm_answers.specs.SlotEvidence.{InStepTrace, FirstMet, clock_load}
 
 -- the filter has the addresses of these cells
 abbrev pub IsFilterOf : List ℕ → List Cell → Type 0

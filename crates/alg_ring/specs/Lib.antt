@@ -1,3 +1,4 @@
+pub mod RingFindings
 pub mod Checking
 pub mod Calls
 pub mod Filtering

@@ -5,12 +5,12 @@ ghost use Rattle.alg_ring.specs.Checking.{CanScan, CanLoadSlot, LoadsPart, Meets
 ghost use Rattle.stm_rule.specs.Callers.{IsSeatOf};
 ghost use Rattle.stm_rule.specs.Kept.{MovesView, view_of};
 
-use steps_ring::promoting::{advance_grant, look_grant};
-use steps_ring::reading::{advance, again, first_word, look, word};
+use crate::promoting_steps::{advance_grant, look_grant};
+use crate::reading_steps::{advance, again, first_word, look, word};
+use stm_logs::filter::Filter;
 use stm_model::rule::MemRule;
 use stm_model::stop::Cause;
 use stm_rule::stm::{Stm, Token};
-use tx_logs::filter::Filter;
 
 /// Checks the entries since the start against the filter of what was read, and answers the start from then on. One
 /// step where the clock is the start; else three, and one for each slot word that is needed.

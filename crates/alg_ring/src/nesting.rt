@@ -1,8 +1,8 @@
 //! The filter of what an attempt is to store, which a roll back to a mark makes anew.
 ghost use Rattle.alg_ring.specs.Filtering.{IsFilterOf};
 
-use tx_logs::filter::Filter;
-use tx_logs::write_log::WriteLog;
+use stm_logs::filter::Filter;
+use stm_logs::write_log::WriteLog;
 
 /// The filter of the addresses that the log has.
 pub(crate) fn filter_of(writes: &WriteLog) -> Filter

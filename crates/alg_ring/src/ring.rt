@@ -6,7 +6,7 @@
 //! less than e + ring - 1. The heap is the memory at DONE, under what the holder of the lock has written back. The read
 //! filter has each address that the attempt loaded, and what it read is the memory at its start.
 ghost use Rattle.stm_rule.specs.Counting.{TakesAtMost};
-ghost use Rattle.tx_answers.specs.Counting.{AddsAtMost};
+ghost use Rattle.stm_answers.specs.Counting.{AddsAtMost};
 ghost use Rattle.std.specs.Prelude.{◌≡◌, ℕ, ◌<◌, true, false, None, ◌+◌, ◌*◌, ◌-◌};
 ghost use Rattle.rule_base.specs.History.{Inside};
 ghost use Rattle.stm_model.specs.Memories.{item_at};
@@ -14,8 +14,8 @@ ghost use Rattle.stm_rule.specs.Attempts.{IsInside};
 ghost use Rattle.stm_rule.specs.Callers.{IsOf, IsSameCaller, IsSeatOf};
 ghost use Rattle.stm_rule.specs.Kept.{MovesView, view_of};
 ghost use Rattle.stm_rule.specs.RecordsKept.{Apart, cells_of};
-ghost use Rattle.tx_answers.specs.Answers.{Commits};
-ghost use Rattle.tx_answers.specs.CallerState.{IsRunning, is_irrevocable};
+ghost use Rattle.stm_answers.specs.Answers.{Commits};
+ghost use Rattle.stm_answers.specs.CallerState.{IsRunning, is_irrevocable};
 ghost use Rattle.stm_gate.specs.Granting.{IsAlone, Grants};
 ghost use Rattle.rule_base.specs.Encodings.{fenced};
 ghost use Rattle.stm_gate.specs.Knowing.{known, number};
@@ -23,21 +23,21 @@ ghost use Rattle.alg_ring.specs.Calls.{LoadsNew, HasWrites, StandsTold, Turns, C
 
 use crate::check::{catch_up, check, check_to_grant};
 use crate::nesting::filter_of;
+use crate::{committing_steps as steps, reading_steps as loads};
 use alg_calls::algorithm::Algorithm;
 use rule_base::layout::SLOT_WORDS;
-use steps_ring::{committing as steps, reading as loads};
+use stm_answers::answers::{Begin, Cancel, Commit, Irrev, Read, Roll, Write};
 use stm_gate::direct::direct_commit;
 use stm_gate::leave::leave;
 use stm_gate::promote::{Promotion, promote};
+use stm_logs::push::Push;
+use stm_logs::write_log::WriteLog;
 use stm_model::alg::Alg;
 use stm_model::config::CLOCK_LIMIT;
 use stm_model::rule::MemRule;
 use stm_rule::desc::Desc;
 use stm_rule::local::Local;
 use stm_rule::stm::{Stm, Token};
-use tx_answers::answers::{Begin, Cancel, Commit, Irrev, Read, Roll, Write};
-use tx_logs::push::Push;
-use tx_logs::write_log::WriteLog;
 
 /// RingSW.
 pub struct RingSw;

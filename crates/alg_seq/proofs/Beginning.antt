@@ -23,12 +23,12 @@ use Rattle.rule_base.specs.World.{World}
 use Rattle.rule_seq.specs.CglSteps.{no_attempt, take_lock, load_start, Begins, free_lock, fresh_lock}
 use Rattle.stm_rule.specs.Attempts.{begun}
 use Rattle.stm_rule.specs.Findings.{FindsLock}
-use Rattle.tx_answers.specs.declared.answers.Begin.TheVariants.{Held, ClockFull}
-use Rattle.tx_answers.specs.Answers.{IsHeld, start_word}
-use Rattle.tx_answers.specs.Causes.{NamesOther}
-use Rattle.tx_answers.specs.Evidence.{Found}
-use Rattle.tx_answers.specs.CallerState.{CallerState, Grows, known_of, granted_under, kept_under, locked_under}
-use Rattle.tx_answers.specs.CallerStateLaws.{grows-same}
+use Rattle.stm_answers.specs.declared.answers.Begin.TheVariants.{Held, ClockFull}
+use Rattle.stm_answers.specs.Answers.{IsHeld, start_word}
+use Rattle.stm_answers.specs.Causes.{NamesOther}
+use Rattle.stm_answers.specs.Evidence.{Found}
+use Rattle.stm_answers.specs.CallerState.{CallerState, Grows, known_of, granted_under, kept_under, locked_under}
+use Rattle.stm_answers.specs.CallerStateLaws.{grows-same}
 use Rattle.stm_gate.specs.Opacity.{opaque-at, later-seen}
 use Rattle.stm_gate.specs.LeavingLaws.{finds-full}
 use Rattle.stm_gate.specs.Starts.{CanBegin, StartsAt, Refuses}

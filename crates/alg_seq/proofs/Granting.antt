@@ -15,10 +15,10 @@ use Rattle.rule_base.specs.StepKinds.{Tells}
 use Rattle.rule_seq.specs.CglSteps.{load_limit, LoadsLimit, fixed_lock}
 use Rattle.stm_rule.specs.declared.local.Local.{Local}
 use Rattle.stm_rule.specs.Attempts.{IsInside}
-use Rattle.tx_answers.specs.Answers.{TriesIrrevocable}
-use Rattle.tx_answers.specs.Evidence.{Found}
-use Rattle.tx_answers.specs.CallerState.{known_of, kept_under, is_in, is_closing, granted_under, is_irrevocable, wrote}
-use Rattle.tx_answers.specs.CallerStateLaws.{grows-same}
+use Rattle.stm_answers.specs.Answers.{TriesIrrevocable}
+use Rattle.stm_answers.specs.Evidence.{Found}
+use Rattle.stm_answers.specs.CallerState.{known_of, kept_under, is_in, is_closing, granted_under, is_irrevocable, wrote}
+use Rattle.stm_answers.specs.CallerStateLaws.{grows-same}
 use Rattle.alg_seq.specs.Storing.{IsClocked}
 use Rattle.alg_seq.proofs.Locked.{written-plain, still-opaque}
 use Rattle.alg_seq.proofs.Keeping.{named, locks, irrevocable-by, revocable-by}

@@ -8,7 +8,7 @@ use Rattle.stm_model.specs.declared.alg.Alg.TheVariants.{Serial}
 use Rattle.stm_model.specs.declared.config.Config.{Config}
 use Rattle.stm_model.specs.declared.config.TheConstants.{CLOCK_LIMIT}
 use Rattle.stm_model.specs.Memories.{item_at, put}
-use Rattle.tx_logs.specs.LogStates.{LogState}
+use Rattle.stm_logs.specs.LogStates.{LogState}
 use Rattle.rule_base.specs.declared.entries.Cell.{Cell}
 use Rattle.rule_base.specs.declared.views.LockView.{LockView}
 use Rattle.rule_base.specs.declared.views.TracedStep.{TracedStep}
@@ -23,11 +23,11 @@ use Rattle.rule_seq.specs.CglSteps.{store_heap, HasLock}
 use Rattle.stm_rule.specs.declared.local.Local.{Local}
 use Rattle.stm_rule.specs.Attempts.{IsInside, own_of}
 use Rattle.stm_rule.specs.RecordsKept.{Apart}
-use Rattle.tx_answers.specs.Answers.{Quits, EndsAt}
+use Rattle.stm_answers.specs.Answers.{Quits, EndsAt}
 use Rattle.rule_base.specs.declared.layout.At.TheVariants.{Clock}
-use Rattle.tx_answers.specs.Causes.{has_item, is_some, writes_full, FindsFull}
-use Rattle.tx_answers.specs.Evidence.{Found}
-use Rattle.tx_answers.specs.CallerState.{known_of, granted_under, kept_under, written_under, is_irrevocable, wrote}
+use Rattle.stm_answers.specs.Causes.{has_item, is_some, writes_full, FindsFull}
+use Rattle.stm_answers.specs.Evidence.{Found}
+use Rattle.stm_answers.specs.CallerState.{known_of, granted_under, kept_under, written_under, is_irrevocable, wrote}
 use Rattle.stm_gate.specs.InnerLaws.{never-full}
 use Rattle.stm_gate.proofs.KeptLaws.{member-item, length-addresses, kept-same, kept-irrevocable, kept-plain, cells-longer}
 use Rattle.stm_gate.specs.LeavingLaws.{IsUnmade, quits-left, ended-left, step_trace-left, found-later, finds-full}

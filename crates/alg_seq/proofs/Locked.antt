@@ -27,13 +27,13 @@ use Rattle.rule_base.specs.World.{World}
 use Rattle.rule_seq.specs.CglSteps.{load_heap, Loads, store_heap, store_clock, CanStoreClock, Commits, free_lock}
 use Rattle.stm_rule.specs.declared.local.Local.{Local}
 use Rattle.stm_rule.specs.Attempts.{IsInside, IsLocked, Keeps}
-use Rattle.tx_answers.specs.declared.answers.Read.TheVariants.{Value}
-use Rattle.tx_answers.specs.declared.answers.Write.TheVariants.{Done}
-use Rattle.tx_answers.specs.Answers as answers
-use Rattle.tx_answers.specs.Answers.{kept_with, GoesOn, HasRead, HasWritten, KeepsRule, CommitsAt, EndsAt, RisesWithout}
-use Rattle.tx_answers.specs.Causes.{Asked, has_item, reads_full, writes_full}
-use Rattle.tx_answers.specs.CallerState.{CallerState, known_of, fenced_of, granted_under, locked_under, written_under, kept_under, is_in, is_closing, is_irrevocable, wrote}
-use Rattle.tx_answers.specs.CallerStateLaws.{grows-same}
+use Rattle.stm_answers.specs.declared.answers.Read.TheVariants.{Value}
+use Rattle.stm_answers.specs.declared.answers.Write.TheVariants.{Done}
+use Rattle.stm_answers.specs.Answers as answers
+use Rattle.stm_answers.specs.Answers.{kept_with, GoesOn, HasRead, HasWritten, KeepsRule, CommitsAt, EndsAt, RisesWithout}
+use Rattle.stm_answers.specs.Causes.{Asked, has_item, reads_full, writes_full}
+use Rattle.stm_answers.specs.CallerState.{CallerState, known_of, fenced_of, granted_under, locked_under, written_under, kept_under, is_in, is_closing, is_irrevocable, wrote}
+use Rattle.stm_answers.specs.CallerStateLaws.{grows-same}
 use Rattle.stm_gate.specs.InnerLaws.{start-stays}
 use Rattle.stm_gate.proofs.KeptLaws.{kept-same}
 use Rattle.stm_gate.specs.Leaving.{left}

@@ -14,10 +14,10 @@ use Rattle.rule_base.specs.Own.{Own}
 use Rattle.stm_rule.specs.declared.local.Local.{Local}
 use Rattle.stm_rule.specs.Attempts.{own_of, IsInside, IsLocked}
 use Rattle.stm_rule.specs.Attempts as attempts
-use Rattle.tx_answers.specs.Answers.{kept_rolled, IsRolled}
-use Rattle.tx_answers.specs.CallerState.{known_of, kept_under, written_under, is_irrevocable, is_in, is_closing}
-use Rattle.tx_answers.specs.CallerStateLaws.{grows-same}
-use Rattle.tx_logs.specs.LogStates.{LogState, rolled}
+use Rattle.stm_answers.specs.Answers.{kept_rolled, IsRolled}
+use Rattle.stm_answers.specs.CallerState.{known_of, kept_under, written_under, is_irrevocable, is_in, is_closing}
+use Rattle.stm_answers.specs.CallerStateLaws.{grows-same}
+use Rattle.stm_logs.specs.LogStates.{LogState, rolled}
 use Rattle.stm_gate.specs.Opacity.{opaque-inside}
 use Rattle.stm_gate.proofs.Irrevocable.{irrevocable-of}
 use Rattle.alg_seq.specs.Nesting.{is_sequential}

@@ -4,9 +4,9 @@ use Rattle.std.specs.Prelude.{Option, Some, None, ◌==◌, if◌then◌else◌}
 use Rattle.std.proofs.lemmas.Bool.Decides.{nat_tests}
 use Rattle.stm_model.specs.Memories.{item_at, put}
 use Rattle.stm_model.specs.declared.config.Config.{Config}
-use Rattle.tx_logs.specs.LogStates.{LogState, Pushes, keep}
-use Rattle.tx_logs.specs.declared.push.Push.{Push}
-use Rattle.tx_logs.specs.declared.push.Push.TheVariants as pushes
+use Rattle.stm_logs.specs.LogStates.{LogState, Pushes, keep}
+use Rattle.stm_logs.specs.declared.push.Push.{Push}
+use Rattle.stm_logs.specs.declared.push.Push.TheVariants as pushes
 use Rattle.rule_base.specs.declared.layout.At.TheVariants.{Heap}
 use Rattle.rule_base.specs.declared.views.Act.TheVariants.{Load}
 use Rattle.rule_base.specs.declared.views.View.{View}
@@ -17,7 +17,7 @@ use Rattle.rule_base.specs.StepKinds.{Nothing, Tells}
 use Rattle.rule_seq.specs.CglSteps.{load_undo}
 use Rattle.stm_rule.specs.declared.local.Local.{Local}
 use Rattle.stm_rule.specs.Attempts.{IsLocked}
-use Rattle.tx_answers.specs.Causes.{has_item, is_some}
+use Rattle.stm_answers.specs.Causes.{has_item, is_some}
 use Rattle.stm_gate.specs.Logging.{put-new}
 use Rattle.stm_gate.proofs.KeptLaws.{addresses-put, cells-shorter, member-touched}
 use Rattle.alg_seq.specs.Storing.{HasLogged, HasPlace}

@@ -15,10 +15,10 @@ use Rattle.rule_base.specs.History.{touches, Inside}
 use Rattle.rule_seq.specs.CglSteps.{HasLock}
 use Rattle.stm_rule.specs.declared.local.Local.{Local}
 use Rattle.stm_rule.specs.Attempts.{own_of, IsInside, IsLocked}
-use Rattle.tx_answers.specs.Answers.{IsRolled}
-use Rattle.tx_answers.specs.Causes.{has_item}
-use Rattle.tx_answers.specs.CallerState.{known_of}
-use Rattle.tx_logs.specs.LogStates.{LogState, rolled, firsts}
+use Rattle.stm_answers.specs.Answers.{IsRolled}
+use Rattle.stm_answers.specs.Causes.{has_item}
+use Rattle.stm_answers.specs.CallerState.{known_of}
+use Rattle.stm_logs.specs.LogStates.{LogState, rolled, firsts}
 use Rattle.stm_gate.proofs.Peeling.{has-touched, no-items}
 use Rattle.stm_gate.proofs.RollItems.{has-by, has-take, first-addresses, first-fewer}
 use Rattle.alg_seq.specs.Nesting.{is_sequential, HasOlds, IsStoredBack, CanStoreAgain, IsStoredAgain}

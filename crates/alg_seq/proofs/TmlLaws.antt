@@ -34,17 +34,17 @@ use Rattle.stm_rule.specs.declared.local.Local.{Local}
 use Rattle.stm_rule.specs.Attempts.{good_by, IsInside, IsTml, StandsBy, Stands}
 use Rattle.stm_rule.specs.Attempts as Rules
 use Rattle.stm_rule.specs.Findings.{FindsSole, FindsBegin, FindsAgain}
-use Rattle.tx_answers.specs.declared.answers.Cancel.TheVariants.{Cancelled}
-use Rattle.tx_answers.specs.declared.answers.Commit.TheVariants.{ReadOnly}
-use Rattle.tx_answers.specs.declared.answers.Irrev.TheVariants as irrevs
-use Rattle.tx_answers.specs.declared.answers.Read.TheVariants as reads
-use Rattle.tx_answers.specs.declared.answers.Write.TheVariants as writes
-use Rattle.tx_answers.specs.Answers.{write_rise, kept_with, HasRead, HasWritten, KeepsRule, Commits, CommitsAt, Cancels, Quits, TriesIrrevocable}
-use Rattle.tx_answers.specs.Evidence.{Found}
-use Rattle.tx_answers.specs.Causes.{reads_full, writes_full}
-use Rattle.tx_answers.specs.Causes.Asked.{ForWord}
-use Rattle.tx_answers.specs.CallerState.{known_of, kept_under, granted_under, locked_under, written_under, is_irrevocable, wrote, is_in, is_closing}
-use Rattle.tx_answers.specs.CallerStateLaws.{grows-same}
+use Rattle.stm_answers.specs.declared.answers.Cancel.TheVariants.{Cancelled}
+use Rattle.stm_answers.specs.declared.answers.Commit.TheVariants.{ReadOnly}
+use Rattle.stm_answers.specs.declared.answers.Irrev.TheVariants as irrevs
+use Rattle.stm_answers.specs.declared.answers.Read.TheVariants as reads
+use Rattle.stm_answers.specs.declared.answers.Write.TheVariants as writes
+use Rattle.stm_answers.specs.Answers.{write_rise, kept_with, HasRead, HasWritten, KeepsRule, Commits, CommitsAt, Cancels, Quits, TriesIrrevocable}
+use Rattle.stm_answers.specs.Evidence.{Found}
+use Rattle.stm_answers.specs.Causes.{reads_full, writes_full}
+use Rattle.stm_answers.specs.Causes.Asked.{ForWord}
+use Rattle.stm_answers.specs.CallerState.{known_of, kept_under, granted_under, locked_under, written_under, is_irrevocable, wrote, is_in, is_closing}
+use Rattle.stm_answers.specs.CallerStateLaws.{grows-same}
 use Rattle.stm_gate.specs.InnerLaws.{goes-inner, start-stays, no-log-full}
 use Rattle.stm_gate.proofs.KeptLaws.{kept-same, kept-unlogged}
 use Rattle.stm_gate.specs.Leaving.{CanLeave, left}
@@ -52,7 +52,7 @@ use Rattle.stm_gate.specs.LeavingLaws.{IsUnmade, unmade-refl, ended-left, quits-
 use Rattle.stm_gate.specs.Logging.{reads-logged, inside-logged, wrote-some}
 use Rattle.stm_gate.specs.Starts.{CanBegin}
 use Rattle.stm_gate.specs.Starts as Starts
-use Rattle.tx_answers.specs.declared.answers.Begin.TheVariants as begins
+use Rattle.stm_answers.specs.declared.answers.Begin.TheVariants as begins
 use Rattle.stm_gate.specs.Granting.{IsAlone, Grants}
 use Rattle.stm_gate.specs.Opacity.{opaque-at, opaque-inside, later-seen}
 

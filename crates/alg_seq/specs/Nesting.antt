@@ -8,7 +8,7 @@ use Rattle.rule_base.specs.Bridge.{addresses, items}
 use Rattle.rule_base.specs.Encodings.{fenced}
 use Rattle.rule_base.specs.History.{touches, Inside}
 use Rattle.rule_seq.specs.CglSteps.{HasLock}
-use Rattle.tx_answers.specs.Causes.{has_item}
+use Rattle.stm_answers.specs.Causes.{has_item}
 
 -- the algorithms of one lock or one clock word
 abbrev pub is_sequential : Alg → Bool

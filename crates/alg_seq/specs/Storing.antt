@@ -5,8 +5,8 @@ use Rattle.stm_model.specs.Memories.{item_at, put}
 use Rattle.rule_base.specs.declared.layout.At.TheVariants.{Clock}
 use Rattle.rule_base.specs.declared.views.TracedStep.{TracedStep}
 use Rattle.rule_base.specs.Bridge.{addresses, items}
-use Rattle.tx_logs.specs.LogStates.{LogState}
-use Rattle.tx_answers.specs.Evidence.{Found}
+use Rattle.stm_logs.specs.LogStates.{LogState}
+use Rattle.stm_answers.specs.Evidence.{Found}
 use Rattle.stm_model.specs.declared.config.Config.{Config}
 use Rattle.rule_base.specs.declared.views.View.{View}
 use Rattle.rule_base.specs.History.{member, touches, Inside}
@@ -18,10 +18,10 @@ use Rattle.stm_rule.specs.declared.local.Local.{Local}
 use Rattle.stm_rule.specs.Attempts.{IsInside, IsOutside, ended}
 use Rattle.stm_gate.specs.Leaving.{left}
 use Rattle.stm_gate.specs.LeavingLaws.{IsUnmade}
-use Rattle.tx_answers.specs.declared.answers.Write.{Write}
-use Rattle.tx_answers.specs.declared.answers.Write.TheVariants.{Done}
-use Rattle.tx_answers.specs.Answers.{HasWritten}
-use Rattle.tx_answers.specs.CallerState.{known_of}
+use Rattle.stm_answers.specs.declared.answers.Write.{Write}
+use Rattle.stm_answers.specs.declared.answers.Write.TheVariants.{Done}
+use Rattle.stm_answers.specs.Answers.{HasWritten}
+use Rattle.stm_answers.specs.CallerState.{known_of}
 
 -- caller n ended the attempt and left no trace but its steps
 pub record GivesUp (n : ℕ) (v w : View) : Type 0 where

@@ -5,13 +5,13 @@
 //! the clock. Its start is the clock, and the heap is the memory at that time under its own stores.
 
 use alg_calls::algorithm::Algorithm;
+use stm_answers::answers::{Begin, Cancel, Commit, Irrev, Read, Roll, Write};
 use stm_gate::leave::leave;
 use stm_model::alg::Alg;
 use stm_model::config::CLOCK_LIMIT;
 use stm_model::rule::MemRule;
 use stm_rule::desc::Desc;
 use stm_rule::stm::{Stm, Token};
-use tx_answers::answers::{Begin, Cancel, Commit, Irrev, Read, Roll, Write};
 
 /// CGL.
 pub struct Cgl;

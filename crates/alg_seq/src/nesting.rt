@@ -2,22 +2,22 @@
 //! the values again that they had there. It stores every word that is left, also those not written since: no more than
 //! a cancel takes, where telling them apart would cost a second journal.
 ghost use Rattle.stm_rule.specs.Counting.{TakesAtMost};
-ghost use Rattle.tx_answers.specs.Counting.{AddsAtMost};
+ghost use Rattle.stm_answers.specs.Counting.{AddsAtMost};
 ghost use Rattle.std.specs.Prelude.{◌≡◌, ℕ, ◌≤◌, ◌-◌, false, length};
 ghost use Rattle.stm_model.specs.declared.alg.Alg.TheVariants.{Serial};
 ghost use Rattle.stm_rule.specs.Callers.{IsOf, IsSameCaller, IsSeatOf};
 ghost use Rattle.stm_rule.specs.Kept.{MovesView, view_of};
-ghost use Rattle.tx_answers.specs.Answers.{Rolls};
-ghost use Rattle.tx_answers.specs.CallerState.{IsRunning, is_irrevocable};
+ghost use Rattle.stm_answers.specs.Answers.{Rolls};
+ghost use Rattle.stm_answers.specs.CallerState.{IsRunning, is_irrevocable};
 ghost use Rattle.stm_gate.specs.Knowing.{known, number};
 ghost use Rattle.alg_seq.specs.Nesting.{HasOlds, IsStoredBack, CanStoreAgain, IsStoredAgain};
 
+use stm_answers::answers::Roll;
+use stm_logs::undo_log::UndoLog;
+use stm_logs::write_log::WriteLog;
 use stm_model::rule::MemRule;
 use stm_rule::desc::Desc;
 use stm_rule::stm::{Stm, Token};
-use tx_answers::answers::Roll;
-use tx_logs::undo_log::UndoLog;
-use tx_logs::write_log::WriteLog;
 
 /// Rolls an attempt of Serial back: the words that it stored since the mark have the values again that they had there.
 pub(crate) fn roll_in_place<K: MemRule>(desc: &mut Desc<K>, stm: &Stm<K>, depth: usize) -> Roll

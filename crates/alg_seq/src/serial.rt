@@ -13,15 +13,15 @@ ghost use Rattle.alg_seq.specs.Storing.{GivesUp, KeepsOld, HasClock, HasLogged, 
 
 use crate::nesting::{roll_in_place, store_back};
 use alg_calls::algorithm::Algorithm;
+use stm_answers::answers::{Begin, Cancel, Commit, Irrev, Read, Roll, Write};
 use stm_gate::leave::leave;
+use stm_logs::undo_log::UndoLog;
 use stm_model::alg::Alg;
 use stm_model::config::CLOCK_LIMIT;
 use stm_model::rule::MemRule;
 use stm_rule::desc::Desc;
 use stm_rule::local::Local;
 use stm_rule::stm::{Stm, Token};
-use tx_answers::answers::{Begin, Cancel, Commit, Irrev, Read, Roll, Write};
-use tx_logs::undo_log::UndoLog;
 
 /// Serial.
 pub struct Serial;

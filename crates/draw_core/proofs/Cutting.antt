@@ -2,9 +2,9 @@
 use Rattle.std.proofs.Common.{ℕ, zero, suc, ◌≡◌, List, [], ◌∷◌, take, drop, true, false, refl, ap, ◌∙◌, arith}
 use Rattle.std.specs.Prelude.{◌==◌, Option, Some, None}
 use Rattle.std.proofs.lemmas.Bool.Decides.{nat_tests}
-use Rattle.stm_text.specs.Lines.{with_letter, Lacks}
-use Rattle.stm_check.specs.Grammar.{◌>>=◌}
-use Rattle.draw_core.specs.declared.part.Callers.{Callers}
+use Rattle.work_text.specs.Lines.{with_letter, Lacks}
+use Rattle.work_check.specs.Grammar.{◌>>=◌}
+use Rattle.draw_pictures.specs.declared.part.Callers.{Callers}
 use Rattle.draw_core.specs.Chosen.{cut_at, dotted, lines_in, parted_by, with_first, with_word, with_words}
 
 cut-none : (mark : ℕ) (s : List ℕ) → Lacks mark s → cut_at mark s ≡ None

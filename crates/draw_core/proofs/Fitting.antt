@@ -2,22 +2,22 @@
 use Rattle.std.proofs.Common.{ℕ, zero, suc, ◌≡◌, ◌≤◌, List, [], ◌∷◌, ◌++◌, length, length-set, inl, inr, refl, sym, ap, subst, ◌∙◌, arith}
 use Rattle.std.specs.Prelude.{◌⊎◌, map, Some}
 use Rattle.std.proofs.lemmas.List.{get_or-replicate}
-use Rattle.stm_trace.specs.declared.said.Phase.{Phase}
-use Rattle.stm_trace.specs.declared.said.Phase.TheVariants.{Between}
+use Rattle.work_trace.specs.declared.said.Phase.{Phase}
+use Rattle.work_trace.specs.declared.said.Phase.TheVariants.{Between}
 use Rattle.stm_model.specs.declared.config.TheConstants.{MAX_CALLERS}
-use Rattle.stm_check.specs.Texts.{ReportIsRead}
-use Rattle.stm_script.specs.declared.report.Row.{Row}
-use Rattle.stm_script.specs.declared.workload.Go.{Go}
-use Rattle.stm_script.specs.declared.workload.Header.{Header}
-use Rattle.stm_script.specs.declared.workload.Workload.{Workload}
-use Rattle.stm_script.specs.Reports.{counted}
-use Rattle.stm_trace.specs.declared.line.Line.{Line}
-use Rattle.stm_trace.specs.declared.line.Line.TheVariants.{Of, Finish}
-use Rattle.stm_trace.specs.declared.said.Said.{Said}
-use Rattle.stm_trace.specs.declared.said.Said.TheVariants.{TryBegin, Reply, Stopped, TryCancel, TryIrrevocable, TryCommit, TryClose, Looked, Installed, Reserved, Idle, Dropped, Reopened}
-use Rattle.stm_trace.specs.Fits.{Path, Scheduled, Winding, Finishing, IsWhole, IsCut, AreOverBelow, first_place, first_places, place_of, says}
-use Rattle.stm_trace.specs.Places.{CallerProgress, after}
-use Rattle.stm_trace.specs.Turns.{MaySay, MayWind, MayFinish}
+use Rattle.work_check.specs.Texts.{ReportIsRead}
+use Rattle.work_script.specs.declared.report.Row.{Row}
+use Rattle.work_script.specs.declared.workload.Go.{Go}
+use Rattle.work_script.specs.declared.workload.Header.{Header}
+use Rattle.work_script.specs.declared.workload.Workload.{Workload}
+use Rattle.work_script.specs.Reports.{counted}
+use Rattle.work_trace.specs.declared.line.Line.{Line}
+use Rattle.work_trace.specs.declared.line.Line.TheVariants.{Of, Finish}
+use Rattle.work_trace.specs.declared.said.Said.{Said}
+use Rattle.work_trace.specs.declared.said.Said.TheVariants.{TryBegin, Reply, Stopped, TryCancel, TryIrrevocable, TryCommit, TryClose, Looked, Installed, Reserved, Idle, Dropped, Reopened}
+use Rattle.work_trace.specs.Fits.{Path, Scheduled, Winding, Finishing, IsWhole, IsCut, AreOverBelow, first_place, first_places, place_of, says}
+use Rattle.work_trace.specs.Places.{CallerProgress, after}
+use Rattle.work_trace.specs.Turns.{MaySay, MayWind, MayFinish}
 use Rattle.draw_core.specs.Statements.{IsOfMemory, LinesFit, IsTraceOf, StepIsDrawn}
 use Rattle.draw_core.specs.Phases.{first_phases, passed_all}
 use Rattle.draw_core.proofs.Passing.{Agree, Passing, finish-comes, passes-both, path-passes, say-comes, wind-comes}

@@ -2,7 +2,7 @@
 use Rattle.std.proofs.Common.{ℕ, ◌≡◌, ◌<◌, ◌≤◌, List, length, true, false, refl, sym, ap, ◌∙◌, arith}
 use Rattle.std.specs.Prelude.{ltb}
 use Rattle.std.proofs.lemmas.Bool.Decides.{nat_tests}
-use Rattle.stm_script.specs.declared.workload.Version.{Version}
+use Rattle.work_script.specs.declared.workload.Version.{Version}
 use Rattle.draw_core.specs.declared.misfit.Misfit.TheVariants.{NoCaller}
 use Rattle.draw_core.specs.Misfits.{misfit_at, misfit_in}
 use Rattle.draw_core.specs.Turns.{Stand}

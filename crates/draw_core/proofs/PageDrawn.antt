@@ -3,18 +3,18 @@ use Rattle.std.proofs.Common.{ℕ, ◌≡◌, List, ◌++◌, map, true, refl, a
 use Rattle.std.specs.Prelude.{Option, Some, None, leb}
 use Rattle.std.specs.List.{filter}
 use Rattle.std.proofs.lemmas.Bool.Decides.{nat_tests}
-use Rattle.draw_core.specs.declared.page.Page.{Page}
-use Rattle.draw_core.specs.declared.part.Lines.{Lines}
-use Rattle.draw_core.specs.declared.part.TheConstants.{MOST_BOXES}
-use Rattle.draw_core.specs.declared.picture.Leaf.{Leaf}
-use Rattle.draw_core.specs.declared.row.Row.{Row}
-use Rattle.draw_core.specs.declared.step.Step.{Step}
-use Rattle.draw_core.specs.Markup.{IsMarkup}
-use Rattle.draw_core.specs.Outcomes.{IsDrawn, boxes_in, leaf_by, leaf_of, page_boxes, rows_in}
-use Rattle.draw_core.specs.Parts.{is_shown, keeps, rows_above, IsFew, IsSettled}
-use Rattle.draw_core.specs.Shapes.{boxes_of}
-use Rattle.draw_core.specs.Standing.{standing_of, standing_rows}
-use Rattle.draw_core.specs.Texts.{svg_of}
+use Rattle.draw_pictures.specs.declared.page.Page.{Page}
+use Rattle.draw_pictures.specs.declared.part.Lines.{Lines}
+use Rattle.draw_pictures.specs.declared.part.TheConstants.{MOST_BOXES}
+use Rattle.draw_pictures.specs.declared.picture.Leaf.{Leaf}
+use Rattle.draw_pictures.specs.declared.row.Row.{Row}
+use Rattle.draw_pictures.specs.declared.step.Step.{Step}
+use Rattle.draw_pictures.specs.Markup.{IsMarkup}
+use Rattle.draw_core.specs.Outcomes.{IsDrawn, boxes_in, leaf_of, page_boxes, rows_in}
+use Rattle.draw_pictures.specs.Parts.{is_shown, keeps, leaf_by, rows_above, IsFew, IsSettled}
+use Rattle.draw_pictures.specs.Shapes.{boxes_of}
+use Rattle.draw_pictures.specs.Standing.{standing_of, standing_rows}
+use Rattle.draw_pictures.specs.Texts.{svg_of}
 
 -- what may be drawn is kept
 few-kept : (r : Option Lines) (n : ℕ) → IsFew r n → keeps r n ≡ true

@@ -5,26 +5,26 @@ use Rattle.std.proofs.lemmas.Bool.Decides.{nat_tests}
 use Rattle.std.proofs.lemmas.List.{get_or-set_same, get_or-set_other}
 use Rattle.stm_model.specs.declared.alg.Alg.{Alg}
 use Rattle.stm_model.specs.declared.stop.Stop.TheVariants.{Conflict as Stopping, Full, ClockFull as Filled}
-use Rattle.stm_check.specs.Grammar.{◌>>=◌}
-use Rattle.tx_answers.specs.declared.answers.Begin.TheVariants.{Begun, Closed, Held, ClockFull}
-use Rattle.tx_answers.specs.declared.answers.Cancel.TheVariants.{Cancelled, Irrevocable}
-use Rattle.tx_answers.specs.declared.answers.CloseGate.TheVariants.{Closed, Taken}
-use Rattle.tx_answers.specs.declared.answers.Commit.TheVariants.{Committed, ReadOnly, Conflict, Again, ClockFull}
-use Rattle.tx_answers.specs.declared.answers.Irrev.TheVariants as irrevs
-use Rattle.tx_answers.specs.declared.answers.Look.TheVariants as looks
-use Rattle.stm_script.specs.declared.workload.Header.{Header}
-use Rattle.stm_trace.specs.declared.line.Line.{Line}
-use Rattle.stm_trace.specs.declared.line.Line.TheVariants.{Of, Finish}
-use Rattle.stm_trace.specs.declared.said.Phase.{Phase}
-use Rattle.stm_trace.specs.declared.said.Phase.TheVariants.{Between, Inside, Closing, Quiet}
-use Rattle.stm_trace.specs.declared.said.Said.{Said}
-use Rattle.stm_trace.specs.declared.said.Said.TheVariants.{TryBegin, Reply, Stopped, TryCancel, TryIrrevocable, TryCommit, TryClose, Looked, Installed, Reserved, Idle, Dropped, Reopened}
-use Rattle.stm_trace.specs.Fits.{Path, place_of, says}
-use Rattle.stm_trace.specs.Places.{CallerProgress, after, granted_at, is_forced, switched}
-use Rattle.stm_trace.specs.Turns.{MaySay, MayWind, MayFinish}
-use Rattle.draw_core.specs.declared.step.Step.{Step}
+use Rattle.work_check.specs.Grammar.{◌>>=◌}
+use Rattle.stm_answers.specs.declared.answers.Begin.TheVariants.{Begun, Closed, Held, ClockFull}
+use Rattle.stm_answers.specs.declared.answers.Cancel.TheVariants.{Cancelled, Irrevocable}
+use Rattle.stm_answers.specs.declared.answers.CloseGate.TheVariants.{Closed, Taken}
+use Rattle.stm_answers.specs.declared.answers.Commit.TheVariants.{Committed, ReadOnly, Conflict, Again, ClockFull}
+use Rattle.stm_answers.specs.declared.answers.Irrev.TheVariants as irrevs
+use Rattle.stm_answers.specs.declared.answers.Look.TheVariants as looks
+use Rattle.work_script.specs.declared.workload.Header.{Header}
+use Rattle.work_trace.specs.declared.line.Line.{Line}
+use Rattle.work_trace.specs.declared.line.Line.TheVariants.{Of, Finish}
+use Rattle.work_trace.specs.declared.said.Phase.{Phase}
+use Rattle.work_trace.specs.declared.said.Phase.TheVariants.{Between, Inside, Closing, Quiet}
+use Rattle.work_trace.specs.declared.said.Said.{Said}
+use Rattle.work_trace.specs.declared.said.Said.TheVariants.{TryBegin, Reply, Stopped, TryCancel, TryIrrevocable, TryCommit, TryClose, Looked, Installed, Reserved, Idle, Dropped, Reopened}
+use Rattle.work_trace.specs.Fits.{Path, place_of, says}
+use Rattle.work_trace.specs.Places.{CallerProgress, after, granted_at, is_forced, switched}
+use Rattle.work_trace.specs.Turns.{MaySay, MayWind, MayFinish}
+use Rattle.draw_pictures.specs.declared.step.Step.{Step}
 use Rattle.draw_core.specs.Phases.{may_come, passed, passed_all, phase_after, phase_at}
-use Rattle.draw_core.specs.Steps.{bare, bare_of}
+use Rattle.draw_pictures.specs.Steps.{bare, bare_of}
 use Rattle.draw_core.specs.Walks.{go_on, walked, with_phases, Along}
 
 -- alone, lines that may come are walked to the end

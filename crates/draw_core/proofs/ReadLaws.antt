@@ -1,14 +1,14 @@
 -- How a text is read, line by line.
 use Rattle.std.proofs.Common.{ℕ, ◌≡◌, ◌+◌, List, [], ◌∷◌, ◌++◌, length, take, drop, Bool, true, false, refl, sym, ap, ◌∙◌}
 use Rattle.std.specs.Prelude.{◌==◌, if◌then◌else◌, Some, None, Result, Ok, Err, OnOk, IfErr}
-use Rattle.stm_text.specs.LineLaws.{cut-at, lines_of-first, lines_of-last}
-use Rattle.stm_text.specs.Lines.{Line as TextLine, with_byte, lines_of, words_of, Lacks}
-use Rattle.stm_text.specs.WordLaws.{unlines, unlines-lines_of}
-use Rattle.stm_check.specs.Grammar.{report_of}
-use Rattle.stm_trace.specs.declared.line.Line.{Line}
-use Rattle.draw_core.proofs.Boxes.{some-left}
+use Rattle.work_text.specs.LineLaws.{cut-at, lines_of-first, lines_of-last, words_of-some}
+use Rattle.work_text.specs.Lines.{Line as TextLine, with_byte, lines_of, words_of, Lacks}
+use Rattle.work_text.specs.WordLaws.{unlines, unlines-lines_of}
+use Rattle.work_check.specs.Grammar.{report_of, words_left}
+use Rattle.work_trace.specs.declared.line.Line.{Line}
+use Rattle.draw_pictures.proofs.Boxes.{some-left}
 use Rattle.draw_core.specs.declared.walk.Walk.{Walk}
-use Rattle.draw_core.specs.Grammar.{line_of, is_full_clock, is_title, reported, closed, read}
+use Rattle.draw_core.specs.Grammar.{is_nil, line_of, is_full_clock, is_title, reported, closed, read}
 use Rattle.draw_core.specs.Walks.{IsWalk}
 
 abbrev whole_line : List ℕ → TextLine
@@ -46,6 +46,11 @@ module _ (told : List Line) (k : ℕ) (s : List ℕ) (i : ℕ) (r : List ℕ) (l
 
   pub read-more : (m : Line) → is_title (take i s) ≡ false → is_full_clock (words_of (take i s)) ≡ false → line_of (words_of (take i s)) ≡ Some m → read told k (lines_of s) ≡ read (told ++ m ∷ []) (k + 1) (lines_of r)
   read-more m title full is = ap (read told k) lines-are ∙ more-by told k (take i s) m (lines_of r) title full is
+
+-- no word is left
+pub no-words : (rest : List ℕ) (b : Bool) → b ≡ (length rest == 0) → b ≡ is_nil (words_left rest)
+no-words [] b e = e
+no-words (x ∷ xs) b e = let w = words_of-some xs in e ∙ (some-left (length xs) ∙ sym (ap is_nil w.2))
 
 -- the last line, where no LF ends it
 pub read-last : (told : List Line) (k : ℕ) (s : List ℕ) → Lacks 10 s → read told k (lines_of s) ≡ Err k

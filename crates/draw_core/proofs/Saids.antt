@@ -4,7 +4,7 @@ use Rattle.std.specs.Prelude.{Option, Some, None, Result, Ok, Err, IfOk}
 use Rattle.draw_core.specs.declared.draw.Saying.{Saying}
 use Rattle.draw_core.specs.declared.status.Status.{Status}
 use Rattle.draw_core.specs.declared.status.Status.TheVariants.{Ok as Done, Help, Usage, Refused, ReadFault, WriteFault, Memory, NoPicture}
-use Rattle.draw_core.specs.declared.part.Part.{Part}
+use Rattle.draw_pictures.specs.declared.part.Part.{Part}
 use Rattle.draw_core.specs.Asking.{Asked, asked, help_of}
 use Rattle.draw_core.specs.Outcomes.{Says, SaysOf}
 

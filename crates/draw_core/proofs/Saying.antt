@@ -9,26 +9,26 @@ use Rattle.stm_model.specs.declared.stop.Cause.{Cause}
 use Rattle.stm_model.specs.declared.stop.Cause.TheVariants.{Clock, Record, Moved, Filter, Overrun}
 use Rattle.stm_model.specs.declared.stop.Stop.{Stop}
 use Rattle.stm_model.specs.declared.stop.Stop.TheVariants.{Conflict, Full, ClockFull}
-use Rattle.stm_script.specs.declared.op.Op.{Op}
-use Rattle.stm_script.specs.declared.op.Op.TheVariants.{Read, Write, Add, Move, Cancel, Irrev, Emit, Count, Total, ListInsert, ListRemove, ListContains, ListLength, HashInsert, HashRemove, HashContains, TreeInsert, TreeRemove, TreeContains, TreeLeast, QueuePut, QueueGet, MapPut, MapRemove, MapGet, MapSum}
-use Rattle.stm_script.specs.Operations.{op_name}
-use Rattle.stm_text.specs.Lines.{number_of}
-use Rattle.stm_text.proofs.Numbers.{number_of-decimal}
-use Rattle.stm_text.specs.WordLaws.{Visible, AllVisible, seen, visible-decimal}
-use Rattle.tx_answers.specs.declared.answers.Begin.TheVariants.{Begun, Closed, Held, ClockFull}
-use Rattle.tx_answers.specs.declared.answers.Cancel.TheVariants.{Cancelled, Irrevocable}
-use Rattle.tx_answers.specs.declared.answers.CloseGate.TheVariants.{Closed, Taken}
-use Rattle.tx_answers.specs.declared.answers.Commit.TheVariants.{Committed, ReadOnly, Conflict, Again, ClockFull}
-use Rattle.tx_answers.specs.declared.answers.Irrev.TheVariants as irrevs
-use Rattle.tx_answers.specs.declared.answers.Look.TheVariants.{Quiet, Busy}
-use Rattle.stm_trace.specs.declared.said.Phase.{Phase}
-use Rattle.stm_trace.specs.declared.said.Phase.TheVariants.{Between, Inside, Closing, Quiet as Quietly}
-use Rattle.stm_trace.specs.declared.said.Said.{Said}
-use Rattle.stm_trace.specs.declared.said.Said.TheVariants.{TryBegin, Reply, Stopped, TryCancel, TryIrrevocable, TryCommit, TryClose, Looked, Installed, Reserved, Idle, Dropped, Reopened}
-use Rattle.stm_trace.specs.Texts.{cause_bytes, stop_bytes, said_bytes}
-use Rattle.stm_trace.specs.Turns.{is_call}
+use Rattle.work_script.specs.declared.op.Op.{Op}
+use Rattle.work_script.specs.declared.op.Op.TheVariants.{Read, Write, Add, Move, Cancel, Irrev, Emit, Count, Total, ListInsert, ListRemove, ListContains, ListLength, HashInsert, HashRemove, HashContains, TreeInsert, TreeRemove, TreeContains, TreeLeast, QueuePut, QueueGet, MapPut, MapRemove, MapGet, MapSum}
+use Rattle.work_script.specs.Operations.{op_name}
+use Rattle.work_text.specs.Lines.{number_of}
+use Rattle.work_text.proofs.Numbers.{number_of-decimal}
+use Rattle.work_text.specs.WordLaws.{Visible, AllVisible, seen, visible-decimal}
+use Rattle.stm_answers.specs.declared.answers.Begin.TheVariants.{Begun, Closed, Held, ClockFull}
+use Rattle.stm_answers.specs.declared.answers.Cancel.TheVariants.{Cancelled, Irrevocable}
+use Rattle.stm_answers.specs.declared.answers.CloseGate.TheVariants.{Closed, Taken}
+use Rattle.stm_answers.specs.declared.answers.Commit.TheVariants.{Committed, ReadOnly, Conflict, Again, ClockFull}
+use Rattle.stm_answers.specs.declared.answers.Irrev.TheVariants as irrevs
+use Rattle.stm_answers.specs.declared.answers.Look.TheVariants.{Quiet, Busy}
+use Rattle.work_trace.specs.declared.said.Phase.{Phase}
+use Rattle.work_trace.specs.declared.said.Phase.TheVariants.{Between, Inside, Closing, Quiet as Quietly}
+use Rattle.work_trace.specs.declared.said.Said.{Said}
+use Rattle.work_trace.specs.declared.said.Said.TheVariants.{TryBegin, Reply, Stopped, TryCancel, TryIrrevocable, TryCommit, TryClose, Looked, Installed, Reserved, Idle, Dropped, Reopened}
+use Rattle.work_trace.specs.Texts.{cause_bytes, stop_bytes, said_bytes}
+use Rattle.work_trace.specs.Turns.{is_call}
 use Rattle.draw_core.specs.Grammar.{cause_of, operation_of, said_of}
-use Rattle.draw_core.specs.Kinds.{said_kind}
+use Rattle.draw_pictures.specs.Kinds.{said_kind}
 use Rattle.draw_core.specs.Phases.{may_come, phase_after}
 use Rattle.draw_core.specs.Statements.{CauseHasWords, StopHasWords, SaidHasWords, IsOfMemory}
 

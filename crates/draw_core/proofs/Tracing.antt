@@ -4,28 +4,28 @@ use Rattle.std.specs.Prelude.{◌==◌, leb, ltb, if◌then◌else◌, slice_set
 use Rattle.std.specs.Fmt.{decimal}
 use Rattle.std.proofs.lemmas.Bool.Decides.{nat_tests}
 use Rattle.stm_model.specs.declared.config.TheConstants.{MAX_CALLERS}
-use Rattle.stm_script.specs.declared.report.Report.{Report}
-use Rattle.stm_text.specs.Decimals.{StartsDigit, digits-decimal}
-use Rattle.stm_text.specs.LineLaws.{lines_of-first}
-use Rattle.stm_text.specs.Lines.{Line as TextLine, lines_of, words_of, number_of}
-use Rattle.stm_text.proofs.Numbers.{number_of-decimal}
-use Rattle.stm_text.specs.Reports.{report_bytes, row_lines, memory_lines, IsWord}
-use Rattle.stm_text.specs.Texts.{joined}
-use Rattle.stm_text.specs.WordLaws.{AllVisible, seen, visible-decimal, joined-lacks, words_of-joined, unlines, unlines-lines_of}
-use Rattle.stm_check.specs.Grammar.{◌>>=◌, report_of}
-use Rattle.stm_check.specs.Texts.{IsReadable, ReportIsRead}
-use Rattle.stm_check.specs.declared.reading.TheConstants.{MAX_REPORT}
-use Rattle.stm_trace.specs.declared.line.Line.{Line}
-use Rattle.stm_trace.specs.declared.line.Line.TheVariants.{Of, Finish}
-use Rattle.stm_trace.specs.declared.said.Phase.{Phase}
-use Rattle.stm_trace.specs.declared.said.Said.{Said}
-use Rattle.stm_trace.specs.Texts.{said_bytes, line_bytes, trace_bytes}
+use Rattle.work_script.specs.declared.report.Report.{Report}
+use Rattle.work_text.specs.Decimals.{StartsDigit, digits-decimal}
+use Rattle.work_text.specs.LineLaws.{lines_of-first}
+use Rattle.work_text.specs.Lines.{Line as TextLine, lines_of, words_of, number_of}
+use Rattle.work_text.proofs.Numbers.{number_of-decimal}
+use Rattle.work_text.specs.Reports.{report_bytes, row_lines, memory_lines, IsWord}
+use Rattle.work_text.specs.Texts.{joined}
+use Rattle.work_text.specs.WordLaws.{AllVisible, seen, visible-decimal, joined-lacks, words_of-joined, unlines, unlines-lines_of}
+use Rattle.work_check.specs.Grammar.{◌>>=◌, report_of}
+use Rattle.work_check.specs.Texts.{IsReadable, ReportIsRead}
+use Rattle.work_check.specs.declared.reading.TheConstants.{MAX_REPORT}
+use Rattle.work_trace.specs.declared.line.Line.{Line}
+use Rattle.work_trace.specs.declared.line.Line.TheVariants.{Of, Finish}
+use Rattle.work_trace.specs.declared.said.Phase.{Phase}
+use Rattle.work_trace.specs.declared.said.Said.{Said}
+use Rattle.work_trace.specs.Texts.{said_bytes, line_bytes, trace_bytes}
 use Rattle.draw_core.specs.declared.reading.TheConstants.{MOST_DRAWN}
 use Rattle.draw_core.specs.Grammar.{said_of, line_of, is_full_clock, is_title, reported, read, trace_of}
-use Rattle.draw_core.specs.declared.kind.Kind.{Kind}
-use Rattle.draw_core.specs.Kinds.{said_kind}
-use Rattle.draw_core.specs.Shapes.{Box, line_box, line_boxes}
-use Rattle.draw_core.specs.Steps.{bare, bare_of}
+use Rattle.draw_pictures.specs.declared.kind.Kind.{Kind}
+use Rattle.draw_pictures.specs.Kinds.{said_kind}
+use Rattle.draw_pictures.specs.Shapes.{Box, line_box, line_boxes}
+use Rattle.draw_pictures.specs.Steps.{bare, bare_of}
 use Rattle.draw_core.specs.Phases.{first_phases, passed, passed_all, phase_at}
 use Rattle.draw_core.specs.Statements.{LinesFit, LinesHaveWords, IsDrawnAlone, IsTail, TraceIsDrawn}
 use Rattle.draw_core.proofs.Passing.{walks-alone}

@@ -1,16 +1,16 @@
 -- A walk, line by line.
 use Rattle.std.proofs.Common.{ℕ, suc, ◌≡◌, ◌+◌, List, [], ◌∷◌, ◌++◌, length, false, refl, sym, ap, subst, ◌∙◌, arith, append_assoc, append-nil, length-append}
 use Rattle.std.specs.Prelude.{Option, Some, None, is_some, option_map, Result, Ok, Err}
-use Rattle.stm_script.specs.declared.workload.Item.{Item}
-use Rattle.stm_script.specs.declared.workload.Workload.{Workload}
-use Rattle.stm_trace.specs.declared.line.Line.{Line}
+use Rattle.work_script.specs.declared.workload.Item.{Item}
+use Rattle.work_script.specs.declared.workload.Workload.{Workload}
+use Rattle.work_trace.specs.declared.line.Line.{Line}
 use Rattle.draw_core.specs.declared.cursor.Cursor.{Cursor}
 use Rattle.draw_core.specs.declared.misfit.Unfit.{Unfit}
-use Rattle.draw_core.specs.declared.step.Step.{Step}
+use Rattle.draw_pictures.specs.declared.step.Step.{Step}
 use Rattle.draw_core.specs.declared.walk.Walk.{Walk}
-use Rattle.draw_core.specs.Shapes.{Box, line_box, line_boxes}
-use Rattle.stm_trace.specs.declared.said.Phase.{Phase}
-use Rattle.draw_core.specs.Parts.{IsPageOf}
+use Rattle.draw_pictures.specs.Shapes.{Box, line_box, line_boxes}
+use Rattle.work_trace.specs.declared.said.Phase.{Phase}
+use Rattle.draw_pictures.specs.Parts.{IsPageOf}
 use Rattle.draw_core.specs.Phases.{first_phases}
 use Rattle.draw_core.specs.Walks.{along_of, callers_in, first_in, first_stands, go_on, goes_along, next_step, version_in, Along, AreWithin, AreWithinOf, stands_in, stands_of, told_steps, walked, workload_in, HasWalked, IsWalkBy}
 
@@ -41,6 +41,10 @@ line-boxes-more k (t ∷ steps) s =
     (line-boxes-more (k + 1) steps s ∙ ap (λ n. line_boxes (k + 1) steps ++ line_box n s ∷ []) (let e : k + 1 + length steps ≡ k + suc (length steps) = omega arith in e))
 
 -- by whether a line didn't fit
+
+pub none-by : (o : Option Unfit) → ((u : Unfit) → o ≡ Some u → ⊥) → o ≡ None
+none-by None h = refl
+none-by (Some u) h = absurd (h u refl)
 
 pub walked-so-far : (m : Option Unfit) (walk : Walk) (lines : List Line) → is_some m ≡ false → IsWalkBy m walk lines → HasWalked walk lines
 walked-so-far None walk lines e h = h

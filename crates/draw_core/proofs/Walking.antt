@@ -2,15 +2,15 @@
 use Rattle.std.proofs.Common.{ℕ, zero, suc, ◌≡◌, ◌<◌, ◌≤◌, ◌+◌, List, [], ◌∷◌, length, drop, replicate, refl, sym, ap, ◌∙◌, arith, subst}
 use Rattle.std.specs.Prelude.{Option, Some, None, MatchOption, true, false, ltb, slice_index_or, slice_set}
 use Rattle.std.proofs.lemmas.Bool.Decides.{nat_tests}
-use Rattle.stm_script.specs.declared.op.Op.{Op}
-use Rattle.stm_script.specs.declared.workload.Item.{Item}
-use Rattle.stm_script.specs.declared.workload.Version.{Version}
-use Rattle.stm_trace.specs.declared.line.Line.{Line}
-use Rattle.stm_trace.specs.declared.line.Line.TheVariants.{Of}
-use Rattle.stm_trace.specs.declared.said.Said.{Said}
+use Rattle.work_script.specs.declared.op.Op.{Op}
+use Rattle.work_script.specs.declared.workload.Item.{Item}
+use Rattle.work_script.specs.declared.workload.Version.{Version}
+use Rattle.work_trace.specs.declared.line.Line.{Line}
+use Rattle.work_trace.specs.declared.line.Line.TheVariants.{Of}
+use Rattle.work_trace.specs.declared.said.Said.{Said}
 use Rattle.draw_core.specs.declared.cursor.Cursor.{Cursor}
-use Rattle.draw_core.specs.declared.step.Deed.{Deed}
-use Rattle.draw_core.specs.declared.step.Step.{Step}
+use Rattle.draw_pictures.specs.declared.step.Deed.{Deed}
+use Rattle.draw_pictures.specs.declared.step.Step.{Step}
 use Rattle.draw_core.specs.declared.turn.Turn.{Turn}
 use Rattle.draw_core.specs.Turns.{Stand, past_next, turn_of, after, told_by}
 use Rattle.draw_core.specs.Walks.{first_from, stand_at, deed_of, turned, goes, opened, stand_of, stands_of, AreWithin}

@@ -2,15 +2,15 @@
 -- help.
 use Rattle.std.specs.Prelude.{ℕ, ◌||◌, Bool, true, false, List, [], ◌∷◌, take, if◌then◌else◌, Option, Some, None, is_some, is_none, option_map, map, codes, bytes_eq}
 use Rattle.std.specs.Borrow.{Bor}
-use Rattle.stm_check.specs.Grammar.{◌>>=◌}
+use Rattle.work_check.specs.Grammar.{◌>>=◌}
 use Rattle.draw_core.specs.declared.asking.Ask.{Ask}
 use Rattle.draw_core.specs.declared.asking.Topic.{Topic}
 use Rattle.draw_core.specs.declared.asking.Topic.TheVariants.{All, Version}
 use Rattle.draw_core.specs.declared.asking.Waits.{Waits}
 use Rattle.draw_core.specs.declared.asking.Waits.TheVariants.{ForNone, ForLines, ForCallers}
-use Rattle.draw_core.specs.declared.part.Callers.{Callers}
-use Rattle.draw_core.specs.declared.part.Lines.{Lines}
-use Rattle.draw_core.specs.declared.part.Part.{Part}
+use Rattle.draw_pictures.specs.declared.part.Callers.{Callers}
+use Rattle.draw_pictures.specs.declared.part.Lines.{Lines}
+use Rattle.draw_pictures.specs.declared.part.Part.{Part}
 use Rattle.draw_core.specs.Chosen.{callers_in, lines_in}
 
 abbrev pub Text : Type 0

@@ -1,10 +1,10 @@
 -- WHAT THE WORDS NAME that name a part of a trace: `A..B` its lines, `N,N..` its callers.
 use Rattle.std.specs.Prelude.{ℕ, ◌==◌, leb, ltb, ◌||◌, false, List, [], ◌∷◌, if◌then◌else◌, Option, Some, None, replicate}
-use Rattle.stm_text.specs.Lines.{number_of, with_letter}
-use Rattle.stm_check.specs.Grammar.{◌>>=◌}
-use Rattle.draw_core.specs.declared.part.Callers.{Callers}
-use Rattle.draw_core.specs.declared.part.Lines.{Lines}
-use Rattle.draw_core.specs.Parts.{with_lane}
+use Rattle.work_text.specs.Lines.{number_of, with_letter}
+use Rattle.work_check.specs.Grammar.{◌>>=◌}
+use Rattle.draw_pictures.specs.declared.part.Callers.{Callers}
+use Rattle.draw_pictures.specs.declared.part.Lines.{Lines}
+use Rattle.draw_pictures.specs.Parts.{with_lane}
 
 -- two numbers, the first of them 1 at least, and the second not below it
 abbrev pub in_order : ℕ → ℕ → Option Lines

@@ -8,23 +8,23 @@ use Rattle.stm_model.specs.declared.stop.Cause.{Cause}
 use Rattle.stm_model.specs.declared.stop.Cause.TheVariants.{Clock, Record, Moved, Filter, Overrun}
 use Rattle.stm_model.specs.declared.stop.Stop.{Stop}
 use Rattle.stm_model.specs.declared.stop.Stop.TheVariants.{Conflict, Full, ClockFull}
-use Rattle.stm_script.specs.declared.op.Op.{Op}
-use Rattle.stm_script.specs.declared.op.TheConstants.{PLACED_KEYED, PLACED_KEYLESS}
-use Rattle.stm_script.specs.declared.report.Report.{Report}
-use Rattle.stm_script.specs.Operations.{op_name}
-use Rattle.stm_text.specs.Lines.{Line as TextLine, lines_of, words_of, number_of}
-use Rattle.stm_text.specs.WordLaws.{unlines}
-use Rattle.stm_check.specs.Grammar.{◌>>=◌, named, report_of}
-use Rattle.tx_answers.specs.declared.answers.Begin.TheVariants.{Begun, Closed, Held, ClockFull}
-use Rattle.tx_answers.specs.declared.answers.Cancel.TheVariants.{Cancelled, Irrevocable}
-use Rattle.tx_answers.specs.declared.answers.CloseGate.TheVariants.{Closed, Taken}
-use Rattle.tx_answers.specs.declared.answers.Commit.TheVariants.{Committed, ReadOnly, Conflict, Again, ClockFull}
-use Rattle.tx_answers.specs.declared.answers.Irrev.TheVariants as irrevs
-use Rattle.tx_answers.specs.declared.answers.Look.TheVariants.{Quiet, Busy}
-use Rattle.stm_trace.specs.declared.line.Line.{Line}
-use Rattle.stm_trace.specs.declared.line.Line.TheVariants.{Of, Finish}
-use Rattle.stm_trace.specs.declared.said.Said.{Said}
-use Rattle.stm_trace.specs.declared.said.Said.TheVariants.{TryBegin, Reply, Stopped, TryCancel, TryIrrevocable, TryCommit, TryClose, Looked, Installed, Reserved, Idle, Dropped, Reopened}
+use Rattle.work_script.specs.declared.op.Op.{Op}
+use Rattle.work_script.specs.declared.op.TheConstants.{PLACED_KEYED, PLACED_KEYLESS}
+use Rattle.work_script.specs.declared.report.Report.{Report}
+use Rattle.work_script.specs.Operations.{op_name}
+use Rattle.work_text.specs.Lines.{Line as TextLine, lines_of, words_of, number_of}
+use Rattle.work_text.specs.WordLaws.{unlines}
+use Rattle.work_check.specs.Grammar.{◌>>=◌, named, report_of}
+use Rattle.stm_answers.specs.declared.answers.Begin.TheVariants.{Begun, Closed, Held, ClockFull}
+use Rattle.stm_answers.specs.declared.answers.Cancel.TheVariants.{Cancelled, Irrevocable}
+use Rattle.stm_answers.specs.declared.answers.CloseGate.TheVariants.{Closed, Taken}
+use Rattle.stm_answers.specs.declared.answers.Commit.TheVariants.{Committed, ReadOnly, Conflict, Again, ClockFull}
+use Rattle.stm_answers.specs.declared.answers.Irrev.TheVariants as irrevs
+use Rattle.stm_answers.specs.declared.answers.Look.TheVariants.{Quiet, Busy}
+use Rattle.work_trace.specs.declared.line.Line.{Line}
+use Rattle.work_trace.specs.declared.line.Line.TheVariants.{Of, Finish}
+use Rattle.work_trace.specs.declared.said.Said.{Said}
+use Rattle.work_trace.specs.declared.said.Said.TheVariants.{TryBegin, Reply, Stopped, TryCancel, TryIrrevocable, TryCommit, TryClose, Looked, Installed, Reserved, Idle, Dropped, Reopened}
 use Rattle.draw_core.specs.declared.said.TheConstants.{PLAIN}
 use Rattle.draw_core.specs.declared.reading.TheConstants.{MOST_DRAWN}
 use Rattle.draw_core.specs.declared.reading.ReadError.{ReadError}

@@ -1,14 +1,14 @@
 -- Where a caller stands whose line may not come.
 use Rattle.std.specs.Prelude.{ℕ, List, length, ltb, Option, Some, None, is_some, if◌then◌else◌}
-use Rattle.stm_script.specs.declared.op.Op.{Op}
-use Rattle.stm_script.specs.declared.workload.Version.{Version}
+use Rattle.work_script.specs.declared.op.Op.{Op}
+use Rattle.work_script.specs.declared.workload.Version.{Version}
 use Rattle.draw_core.specs.declared.misfit.Misfit.{Misfit}
 use Rattle.draw_core.specs.declared.misfit.Misfit.TheVariants.{NoCaller, Before, Over, Next, Done, At}
-use Rattle.stm_trace.specs.declared.said.Phase.{Phase}
-use Rattle.stm_trace.specs.declared.said.Phase.TheVariants.{Between, Inside}
+use Rattle.work_trace.specs.declared.said.Phase.{Phase}
+use Rattle.work_trace.specs.declared.said.Phase.TheVariants.{Between, Inside}
 use Rattle.draw_core.specs.Phases.{phase_at}
 use Rattle.draw_core.specs.Turns.{Stand, is_over, next_of}
-use Rattle.stm_script.specs.declared.workload.Workload.{Workload}
+use Rattle.work_script.specs.declared.workload.Workload.{Workload}
 use Rattle.draw_core.specs.declared.cursor.Cursor.{Cursor}
 use Rattle.draw_core.specs.Walks.{stand_at, stands_of}
 

@@ -1,21 +1,21 @@
 -- What a call of `draw` comes to.
 use Rattle.std.specs.Prelude.{ℕ, ◌≡◌, ◌≤◌, List, ◌++◌, length, Option, Some, None, Ok, Err, codes}
 use Rattle.std.specs.Fmt.{decimal}
-use Rattle.stm_io.specs.Ends.{Rose, Took, TookSome, IsText, Gained, GainedSome}
+use Rattle.work_io.specs.Ends.{Rose, Took, TookSome, IsText, Gained, GainedSome}
 use Rattle.draw_core.specs.declared.status.Status.{Status}
 use Rattle.draw_core.specs.declared.status.Status.TheVariants.{Ok as Done, Help, Usage, Refused, ReadFault, WriteFault, Memory, NoPicture}
-use Rattle.draw_core.specs.declared.step.Step.{Step}
-use Rattle.draw_core.specs.Markup.{IsMarkup}
+use Rattle.draw_pictures.specs.declared.step.Step.{Step}
+use Rattle.draw_pictures.specs.Markup.{IsMarkup}
 use Rattle.draw_core.specs.declared.asking.Topic.{Topic}
 use Rattle.draw_core.specs.declared.asking.Topic.TheVariants.{All, Version}
-use Rattle.draw_core.specs.declared.picture.Leaf.{Leaf}
-use Rattle.draw_core.specs.declared.style.TheConstants.{HELP}
+use Rattle.draw_pictures.specs.declared.picture.Leaf.{Leaf}
+use Rattle.draw_core.specs.declared.asking.TheConstants.{HELP}
 use Rattle.draw_core.specs.Asking.{Asked, asked, help_of}
-use Rattle.draw_core.specs.Parts.{lanes_with, own_rows, rows_above, IsFew, IsUnfit}
-use Rattle.draw_core.specs.declared.part.Part.{Part}
-use Rattle.draw_core.specs.Rows.{rows_of}
-use Rattle.draw_core.specs.Shapes.{Box, line_boxes}
-use Rattle.draw_core.specs.Texts.{svg_of}
+use Rattle.draw_pictures.specs.Parts.{leaf_by, own_rows, rows_above, IsFew, IsUnfit}
+use Rattle.draw_pictures.specs.declared.part.Part.{Part}
+use Rattle.draw_pictures.specs.Rows.{rows_of}
+use Rattle.draw_pictures.specs.Shapes.{Box, line_boxes}
+use Rattle.draw_pictures.specs.Texts.{svg_of}
 use Rattle.draw_core.specs.Whole.{steps_of}
 
 abbrev pub exit_code_of : Status → ℕ
@@ -50,10 +50,6 @@ boxes_in part steps = own_rows part (rows_in steps)
 
 abbrev pub page_boxes : Part → List Step → List Box
 page_boxes part steps = rows_above part (rows_in steps) ++ boxes_in part steps
-
--- where these rows stand above
-abbrev pub leaf_by : Part → List Box → Leaf
-leaf_by part above = record { lines = part.lines; callers = lanes_with part.callers above; above = length above }
 
 abbrev pub leaf_of : Part → List Step → Leaf
 leaf_of part steps = leaf_by part (rows_above part (rows_in steps))

@@ -6,27 +6,27 @@ use Rattle.stm_model.specs.declared.stop.Cause.{Cause}
 use Rattle.stm_model.specs.declared.stop.Cause.TheVariants.{Clock, Record, Moved, Filter, Overrun}
 use Rattle.stm_model.specs.declared.stop.Stop.{Stop}
 use Rattle.stm_model.specs.declared.stop.Stop.TheVariants.{Conflict, Full, ClockFull}
-use Rattle.stm_script.specs.declared.report.Report.{Report}
-use Rattle.stm_text.specs.Reports.{report_bytes, IsWord}
-use Rattle.stm_check.specs.Texts.{IsReadable}
-use Rattle.tx_answers.specs.declared.answers.Begin.TheVariants.{Closed, Held, ClockFull}
-use Rattle.tx_answers.specs.declared.answers.Cancel.TheVariants.{Cancelled}
-use Rattle.tx_answers.specs.declared.answers.CloseGate.TheVariants.{Closed, Taken}
-use Rattle.tx_answers.specs.declared.answers.Commit.TheVariants.{Committed, ReadOnly, Conflict, Again, ClockFull}
-use Rattle.tx_answers.specs.declared.answers.Irrev.TheVariants as irrevs
-use Rattle.tx_answers.specs.declared.answers.Look.TheVariants.{Busy}
-use Rattle.stm_trace.specs.declared.line.Line.{Line}
-use Rattle.stm_trace.specs.declared.line.Line.TheVariants.{Of, Finish}
-use Rattle.stm_trace.specs.declared.said.Said.{Said}
-use Rattle.stm_trace.specs.declared.said.Said.TheVariants.{TryBegin, Reply, Stopped, TryCancel, TryIrrevocable, TryCommit, TryClose, Looked, Reserved}
-use Rattle.stm_script.specs.declared.workload.Workload.{Workload}
-use Rattle.stm_trace.specs.Fits.{TraceFits, TraceFitsSoFar}
-use Rattle.stm_trace.specs.Texts.{trace_bytes}
-use Rattle.stm_trace.specs.Turns.{is_call}
+use Rattle.work_script.specs.declared.report.Report.{Report}
+use Rattle.work_text.specs.Reports.{report_bytes, IsWord}
+use Rattle.work_check.specs.Texts.{IsReadable}
+use Rattle.stm_answers.specs.declared.answers.Begin.TheVariants.{Closed, Held, ClockFull}
+use Rattle.stm_answers.specs.declared.answers.Cancel.TheVariants.{Cancelled}
+use Rattle.stm_answers.specs.declared.answers.CloseGate.TheVariants.{Closed, Taken}
+use Rattle.stm_answers.specs.declared.answers.Commit.TheVariants.{Committed, ReadOnly, Conflict, Again, ClockFull}
+use Rattle.stm_answers.specs.declared.answers.Irrev.TheVariants as irrevs
+use Rattle.stm_answers.specs.declared.answers.Look.TheVariants.{Busy}
+use Rattle.work_trace.specs.declared.line.Line.{Line}
+use Rattle.work_trace.specs.declared.line.Line.TheVariants.{Of, Finish}
+use Rattle.work_trace.specs.declared.said.Said.{Said}
+use Rattle.work_trace.specs.declared.said.Said.TheVariants.{TryBegin, Reply, Stopped, TryCancel, TryIrrevocable, TryCommit, TryClose, Looked, Reserved}
+use Rattle.work_script.specs.declared.workload.Workload.{Workload}
+use Rattle.work_trace.specs.Fits.{TraceFits, TraceFitsSoFar}
+use Rattle.work_trace.specs.Texts.{trace_bytes}
+use Rattle.work_trace.specs.Turns.{is_call}
 use Rattle.draw_core.specs.declared.reading.TheConstants.{MOST_DRAWN}
 use Rattle.draw_core.specs.Grammar.{trace_of}
-use Rattle.draw_core.specs.Shapes.{line_boxes}
-use Rattle.draw_core.specs.Steps.{bare_of}
+use Rattle.draw_pictures.specs.Shapes.{line_boxes}
+use Rattle.draw_pictures.specs.Steps.{bare_of}
 use Rattle.draw_core.specs.Walks.{told_steps}
 
 -- the numbers of an answer are words of the machine, as in each line that code holds

@@ -1,15 +1,15 @@
 -- What a line does to its caller's attempt, and which operation of the script it tells of.
 use Rattle.std.specs.Prelude.{Bool, true, false, not, ◌&&◌, List, [], ◌∷◌, Option, Some, None, bytes_eq, if◌then◌else◌, is_some}
-use Rattle.stm_script.specs.declared.op.Op.{Op}
-use Rattle.stm_script.specs.declared.op.Op.TheVariants.{Cancel, Irrev}
-use Rattle.stm_script.specs.Operations.{op_name}
-use Rattle.tx_answers.specs.declared.answers.Begin.TheVariants.{Begun}
-use Rattle.tx_answers.specs.declared.answers.Cancel.TheVariants.{Cancelled, Irrevocable}
-use Rattle.tx_answers.specs.declared.answers.Commit.TheVariants.{Committed, ReadOnly, Again}
-use Rattle.tx_answers.specs.declared.answers.Irrev.TheVariants as irrevs
-use Rattle.stm_trace.specs.declared.said.Said.{Said}
-use Rattle.stm_trace.specs.declared.said.Said.TheVariants.{TryBegin, Reply, Stopped, TryCancel, TryIrrevocable, TryCommit, Idle, Dropped}
-use Rattle.tx_answers.specs.declared.answers.Irrev.{Irrev as IrrevAnswer}
+use Rattle.work_script.specs.declared.op.Op.{Op}
+use Rattle.work_script.specs.declared.op.Op.TheVariants.{Cancel, Irrev}
+use Rattle.work_script.specs.Operations.{op_name}
+use Rattle.stm_answers.specs.declared.answers.Begin.TheVariants.{Begun}
+use Rattle.stm_answers.specs.declared.answers.Cancel.TheVariants.{Cancelled, Irrevocable}
+use Rattle.stm_answers.specs.declared.answers.Commit.TheVariants.{Committed, ReadOnly, Again}
+use Rattle.stm_answers.specs.declared.answers.Irrev.TheVariants as irrevs
+use Rattle.work_trace.specs.declared.said.Said.{Said}
+use Rattle.work_trace.specs.declared.said.Said.TheVariants.{TryBegin, Reply, Stopped, TryCancel, TryIrrevocable, TryCommit, Idle, Dropped}
+use Rattle.stm_answers.specs.declared.answers.Irrev.{Irrev as IrrevAnswer}
 use Rattle.draw_core.specs.declared.turn.Stage.{Stage}
 use Rattle.draw_core.specs.declared.turn.Stage.TheVariants.{Before, Inside, Done, Outside, Over}
 use Rattle.draw_core.specs.declared.turn.Turn.{Turn}

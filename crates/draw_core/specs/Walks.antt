@@ -1,23 +1,23 @@
 -- A TRACE ALONG ITS WORKLOAD: a line of an operation tells of the one that comes next in its caller's script.
 use Rattle.std.specs.Prelude.{ℕ, zero, suc, ◌≡◌, ◌≤◌, ◌+◌, List, [], ◌∷◌, ◌++◌, drop, length, ltb, if◌then◌else◌, Option, Some, None, Result, Ok, Err, slice_index_or, slice_set, option_map}
-use Rattle.stm_script.specs.declared.op.Op.{Op}
-use Rattle.stm_script.specs.declared.workload.Item.{Item}
-use Rattle.stm_script.specs.declared.workload.Version.{Version}
-use Rattle.stm_script.specs.declared.workload.Workload.{Workload}
-use Rattle.stm_script.specs.Reports.{scripts_of}
-use Rattle.stm_trace.specs.declared.line.Line.{Line}
-use Rattle.stm_trace.specs.declared.line.Line.TheVariants.{Of, Finish}
-use Rattle.stm_trace.specs.declared.said.Said.{Said}
+use Rattle.work_script.specs.declared.op.Op.{Op}
+use Rattle.work_script.specs.declared.workload.Item.{Item}
+use Rattle.work_script.specs.declared.workload.Version.{Version}
+use Rattle.work_script.specs.declared.workload.Workload.{Workload}
+use Rattle.work_script.specs.Reports.{scripts_of}
+use Rattle.work_trace.specs.declared.line.Line.{Line}
+use Rattle.work_trace.specs.declared.line.Line.TheVariants.{Of, Finish}
+use Rattle.work_trace.specs.declared.said.Said.{Said}
 use Rattle.draw_core.specs.declared.cursor.Cursor.{Cursor}
 use Rattle.draw_core.specs.declared.misfit.Unfit.{Unfit}
-use Rattle.draw_core.specs.declared.step.Deed.{Deed}
-use Rattle.draw_core.specs.declared.step.Step.{Step}
+use Rattle.draw_pictures.specs.declared.step.Deed.{Deed}
+use Rattle.draw_pictures.specs.declared.step.Step.{Step}
 use Rattle.draw_core.specs.declared.walk.Walk.{Walk}
-use Rattle.draw_core.specs.Parts.{IsPageOf}
-use Rattle.stm_trace.specs.declared.said.Phase.{Phase}
+use Rattle.draw_pictures.specs.Parts.{IsPageOf}
+use Rattle.work_trace.specs.declared.said.Phase.{Phase}
 use Rattle.draw_core.specs.Phases.{first_phases, passed}
-use Rattle.draw_core.specs.Shapes.{line_boxes}
-use Rattle.draw_core.specs.Steps.{bare}
+use Rattle.draw_pictures.specs.Shapes.{line_boxes}
+use Rattle.draw_pictures.specs.Steps.{bare}
 use Rattle.draw_core.specs.Turns.{Stand, turn_of, after, told_by}
 
 -- where each caller stands at first: all its transactions are still to do

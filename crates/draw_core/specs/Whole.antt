@@ -1,19 +1,19 @@
 -- THE TEXT that is drawn: a trace alone, or a workload and then its trace.
 use Rattle.std.specs.Prelude.{ℕ, ◌≡◌, ◌+◌, ◌-◌, ◌^◌, min, Bool, List, length, ltb, take, if◌then◌else◌, Option, Some, None, Result, Ok, Err, codes, bytes_eq}
-use Rattle.stm_script.specs.declared.workload.Workload.{Workload}
-use Rattle.stm_text.specs.declared.parse.Mode.TheVariants.{Step as Stepwise}
-use Rattle.stm_text.specs.Grammar.{workload_of}
-use Rattle.stm_text.specs.Parting.{to_done, after_done, lines_to_done}
-use Rattle.stm_trace.specs.declared.line.Line.{Line}
+use Rattle.work_script.specs.declared.workload.Workload.{Workload}
+use Rattle.work_text.specs.declared.parse.Mode.TheVariants.{Step as Stepwise}
+use Rattle.work_text.specs.Grammar.{workload_of}
+use Rattle.work_text.specs.Parting.{to_done, after_done, lines_to_done}
+use Rattle.work_trace.specs.declared.line.Line.{Line}
 use Rattle.draw_core.specs.declared.reading.TheConstants.{MOST_DRAWN}
-use Rattle.draw_core.specs.declared.step.Step.{Step}
+use Rattle.draw_pictures.specs.declared.step.Step.{Step}
 use Rattle.draw_core.specs.declared.walk.StepsError.{StepsError}
 use Rattle.draw_core.specs.declared.walk.StepsError.TheVariants.{Workload as InWorkload, Trace, Unfit, Memory}
 use Rattle.draw_core.specs.Grammar.{trace_of}
-use Rattle.draw_core.specs.declared.page.Page.{Page}
-use Rattle.draw_core.specs.Parts.{IsSettled}
-use Rattle.draw_core.specs.Rows.{rows_of}
-use Rattle.draw_core.specs.Shapes.{line_boxes}
+use Rattle.draw_pictures.specs.declared.page.Page.{Page}
+use Rattle.draw_pictures.specs.Parts.{IsSettled}
+use Rattle.draw_pictures.specs.Rows.{rows_of}
+use Rattle.draw_pictures.specs.Shapes.{line_boxes}
 use Rattle.draw_core.specs.Walks.{told_steps}
 
 -- a workload begins so, and no line of a trace does

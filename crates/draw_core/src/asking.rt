@@ -4,7 +4,11 @@ ghost use Rattle.std.specs.Prelude.{◌≡◌, bytes_eq, option_map};
 ghost use Rattle.draw_core.specs.Asking.{ask_of, asked, help_of, is_option, is_waiting, opened, taken, texts_of};
 
 use crate::chosen::{callers_in, lines_in};
-use crate::part::{Part, WHOLE};
+use draw_pictures::part::{Part, WHOLE};
+
+/// What the program says of itself.
+pub const HELP: &str =
+    "usage: stm_draw [--lines A..B] [--callers N,N..] [FILE [TRACE]]\n\n  --lines A..B     draws these lines of the trace alone, counted from 1\n  --callers N,N..  draws these callers alone, each from 0 to 31\n  --help           writes this\n  --version        writes the version\n\nDraws what `stm_bench step` writes, or a workload and then that, as an SVG: of FILE, or of FILE and then TRACE, or else\nof standard input. Above the lines stands what is open before them. The exit status is 7 where no box would be drawn, or\nmore than 2000 without `--lines`; docs/FORMATS.md has the others, and says what a picture shows.\nAn example: stm_draw docs/pictures/conflict.stm conflict.trace > conflict.svg\n";
 
 /// What help is asked for.
 #[derive(Clone, Copy, Drop)]

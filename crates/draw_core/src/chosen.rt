@@ -2,8 +2,8 @@
 ghost use Rattle.std.specs.Prelude.{◌≡◌, List, ℕ};
 ghost use Rattle.draw_core.specs.Chosen.{between, callers_in, dotted, lines_in};
 
-use crate::part::{Callers, Lines};
-use stm_text::lines;
+use draw_pictures::part::{Callers, Lines};
+use work_text::lines;
 
 /// The lines that `A..B` names: A is 1 at least, and B is A at least.
 pub fn lines_in(word: &str) -> Option<Lines>

@@ -4,10 +4,10 @@ ghost use Rattle.draw_core.specs.Turns.{after, begun, done, ended, granted, is_a
 ghost use Rattle.draw_core.specs.Walks.{stand_of};
 
 use crate::turn::{Stage, Turn};
-use stm_check::scripts::next_script;
-use stm_script::op::Op;
-use stm_script::workload::Item;
-use stm_text::lines;
+use work_check::scripts::next_script;
+use work_script::op::Op;
+use work_script::workload::Item;
+use work_text::lines;
 
 /// How far a caller has come.
 #[derive(Clone, Copy, Drop)]

@@ -2,29 +2,28 @@
 ghost use Rattle.std.specs.Prelude.{◌≡◌, ◌<◌, ◌≤◌, ◌^◌, List, IfOk, OnErr};
 ghost use Rattle.draw_core.specs.Asking.{texts_of};
 ghost use Rattle.draw_core.specs.Outcomes.{SaidOf, SaidOfPart, Says, SaysOf, IsOutcome, boxes_line, rows_in, help_text, most_read, refused_line};
-ghost use Rattle.draw_core.specs.Parts.{IsSettled};
-ghost use Rattle.draw_core.specs.declared.step.Step.{Step};
+ghost use Rattle.draw_pictures.specs.Parts.{IsSettled};
+ghost use Rattle.draw_pictures.specs.declared.step.Step.{Step};
 ghost use Rattle.draw_core.specs.declared.status.Status.TheVariants.{NoPicture, Refused};
-ghost use Rattle.stm_io.specs.Ends.{TookSome};
+ghost use Rattle.work_io.specs.Ends.{TookSome};
 
-use crate::asking::{Topic, asked, help_of};
+use crate::asking::{HELP, Topic, asked, help_of};
 use crate::misfit::{Unfit, unfit_alone};
-use crate::page::Page;
-use crate::part::{MOST_BOXES, Part};
-use crate::picture::picture;
 use crate::reading::MOST_DRAWN;
 use crate::status::Status;
-use crate::style::HELP;
 use crate::walk::StepsError;
 use crate::whole::{has_workload, read_page};
+use draw_pictures::page::Page;
+use draw_pictures::part::{MOST_BOXES, Part};
+use draw_pictures::picture::picture;
 use std::alloc::Global;
-use stm_faults::trace::{trace_fault, traced_fault, unfit_line};
-use stm_faults::workload::workload_fault;
-use stm_io::ends::{Failed, Sink, Source};
-use stm_io::whole::{ReadError as TakeError, put_all, read_all};
 use stm_model::memory::Memory;
-use stm_text::parse::Mode;
-use stm_text::parting::part_at_done;
+use work_faults::trace::{trace_fault, traced_fault, unfit_line};
+use work_faults::workload::workload_fault;
+use work_io::ends::{Failed, Sink, Source};
+use work_io::whole::{ReadError as TakeError, put_all, read_all};
+use work_text::parse::Mode;
+use work_text::parting::part_at_done;
 
 /// How many bytes are read: one more than a text may have.
 const MOST_READ: usize = 134217729;

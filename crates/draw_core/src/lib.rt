@@ -1,4 +1,4 @@
-//! Pictures of schedules: the text that `stm_bench step` writes, read back and drawn, with what its workload tells.
+//! Traces: the text that `stm_bench step` writes, read back, walked along its workload, and handed on to be drawn.
 #![tactic(auto)]
 
 pub mod asking;
@@ -6,26 +6,14 @@ pub mod chosen;
 pub mod cursor;
 pub mod draw;
 mod input;
-pub mod kind;
-pub mod label;
 pub mod laws;
 pub mod misfit;
-pub mod page;
-pub mod part;
 pub mod phase;
-pub mod picture;
 pub mod program;
 pub mod reading;
-pub mod row;
 mod said;
-pub mod shape;
-pub mod shown;
-pub mod standing;
 pub mod status;
-pub mod step;
-mod style;
 pub mod telling;
 pub mod turn;
 pub mod walk;
 pub mod whole;
-mod writing;

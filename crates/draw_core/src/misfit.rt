@@ -4,13 +4,13 @@ ghost use Rattle.draw_core.specs.Misfits.{misfit_at, misfit_by, misfit_in};
 ghost use Rattle.draw_core.specs.Walks.{AreWithin, stand_of, stands_of};
 
 use crate::cursor::{Cursor, is_over, next_op};
-use crate::label::put_deed;
-use crate::step::Deed;
+use draw_pictures::label::put_deed;
+use draw_pictures::step::Deed;
 use std::alloc::{AllocError, Global};
-use stm_script::op::Op;
-use stm_script::workload::{Item, Version};
-use stm_text::lines;
-use stm_trace::said::Phase;
+use work_script::op::Op;
+use work_script::workload::{Item, Version};
+use work_text::lines;
+use work_trace::said::Phase;
 
 /// Where a caller stands whose line may not come.
 #[derive(Clone, Copy, Drop, Debug)]

@@ -3,9 +3,9 @@
 ghost use Rattle.std.specs.Prelude.{◌≡◌, ◌<◌, length, Some, None, true, false};
 ghost use Rattle.draw_core.specs.Phases.{may_come, passed, phase_after, phase_at};
 
-use stm_trace::line::Line;
-use stm_trace::said::{Phase, Said};
-use tx_answers::answers::{Begin, Cancel, CloseGate, Commit, Irrev, Look};
+use stm_answers::answers::{Begin, Cancel, CloseGate, Commit, Irrev, Look};
+use work_trace::line::Line;
+use work_trace::said::{Phase, Said};
 
 /// Whether an answer may come where its caller stands.
 fn may_come(phase: Phase, said: Said) -> bool

@@ -15,9 +15,9 @@ use std::fs;
 use std::io::{self, Eprint, ErrorKind, Input, Print};
 use std::process::ExitCode;
 use std::rt::Files;
-use stm_io::adapters::{ReadSource, WriteSink};
-use stm_io::arguments::{arguments, words_in};
-use stm_io::ends::{Sink, Source};
+use work_io::adapters::{ReadSource, WriteSink};
+use work_io::arguments::{arguments, words_in};
+use work_io::ends::{Sink, Source};
 
 /// Draws what the files have that the arguments name, or else standard input, to standard output, and answers the
 /// status as exit status. Once all is written, standard error says why, where the status isn't `Ok`.

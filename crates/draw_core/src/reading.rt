@@ -1,18 +1,18 @@
 //! A text that `step` wrote, read back: its trace, where a report or a full clock follows it.
 ghost use Rattle.std.specs.Prelude.{◌≡◌, ◌≤◌, ◌<◌, ◌^◌, [], List, length, IfErr, OnOk, Ok};
-ghost use Rattle.stm_trace.specs.declared.line.Line.{Line};
-ghost use Rattle.stm_text.specs.Lines.{lines_of};
+ghost use Rattle.work_trace.specs.declared.line.Line.{Line};
+ghost use Rattle.work_text.specs.Lines.{lines_of};
 ghost use Rattle.draw_core.specs.Grammar.{trace_of, read, reported, closed, IsFault};
 ghost use Rattle.draw_core.specs.Walks.{IsWalk, HasRead};
-ghost use Rattle.stm_check.specs.Grammar.{report_of};
+ghost use Rattle.work_check.specs.Grammar.{report_of};
 
 use crate::said::{is_full_clock, line};
 use crate::walk::Walk;
 use std::alloc::{AllocError, Global};
-use stm_check::reading::read_report;
-use stm_text::lines;
-use stm_text::parse::ParseError;
 use thiserror::Error;
+use work_check::reading::read_report;
+use work_text::lines;
+use work_text::parse::ParseError;
 
 /// The greatest number of bytes of a text that is drawn: as many as a report may have.
 pub const MOST_DRAWN: usize = 134_217_728;

@@ -1,21 +1,21 @@
 //! The words of a line of a trace, and what they say.
 ghost use Rattle.std.specs.Prelude.{◌≡◌, ◌∷◌, ◌<◌, ◌≤◌, [], length, MatchOption};
-ghost use Rattle.stm_check.specs.Grammar.{words_left};
-ghost use Rattle.stm_text.specs.Lines.{words_of};
+ghost use Rattle.work_check.specs.Grammar.{words_left};
+ghost use Rattle.work_text.specs.Lines.{words_of};
 ghost use Rattle.draw_core.specs.Grammar.{is_nil, one_of, two_of, three_of, alg_in, alg_named, op_in, op_named, cause_of, stop_of, begin_of, operation_of, cancel_of, irrev_of, commit_of, close_of, look_of, install_of, reserve_of, plain_of, between_of, said_of, line_of};
 
-use stm_check::words::first_word;
+use stm_answers::answers::{Begin, Cancel, CloseGate, Commit, Irrev, Look};
 use stm_model::alg::{ALGORITHMS, Alg};
 use stm_model::config::MAX_CALLERS;
 use stm_model::stop::{Cause, Stop};
-use stm_script::op::{Op, PLACED_KEYED, PLACED_KEYLESS};
-use stm_text::lines;
-use stm_trace::line::Line;
-use stm_trace::said::Said;
-use tx_answers::answers::{Begin, Cancel, CloseGate, Commit, Irrev, Look};
+use work_check::words::first_word;
+use work_script::op::{Op, PLACED_KEYED, PLACED_KEYLESS};
+use work_text::lines;
+use work_trace::line::Line;
+use work_trace::said::Said;
 
 /// The operations on plain words and those with three numbers, here with zeros.
-/// The others stand in the tables of stm_script.
+/// The others stand in the tables of work_script.
 pub const PLAIN: [Op; 8] = [
     Op::Read(0),
     Op::Write(0, 0),

@@ -1,9 +1,9 @@
 //! What is told on standard error beside a status: no part of what `draw` writes.
 use crate::asking::{Ask, Waits};
-use crate::part::WHOLE;
 use crate::status::Status;
+use draw_pictures::part::WHOLE;
 use std::alloc::{AllocError, Global};
-use stm_nearest::{put_nearest, put_word};
+use work_nearest::{put_nearest, put_word};
 
 /// The options that there are.
 const OPTIONS: [&str; 4] = ["--lines", "--callers", "--help", "--version"];

@@ -2,9 +2,9 @@
 ghost use Rattle.std.specs.Prelude.{◌≡◌};
 ghost use Rattle.draw_core.specs.Turns.{irrevocable_turn, turn_of};
 
-use stm_script::op::Op;
-use stm_trace::said::Said;
-use tx_answers::answers::{Begin, Cancel, Commit, Irrev};
+use stm_answers::answers::{Begin, Cancel, Commit, Irrev};
+use work_script::op::Op;
+use work_trace::said::Said;
 
 /// Where a line may come, between its caller's attempts or in one.
 #[derive(Clone, Copy, Drop)]

@@ -1,23 +1,23 @@
 //! The operations that the lines of a trace tell of, from the workload that it is of.
 ghost use Rattle.std.specs.Prelude.{◌≡◌, Some, None, MatchOption, IfOk, List, option_map};
-ghost use Rattle.stm_script.specs.declared.workload.Item.{Item};
+ghost use Rattle.work_script.specs.declared.workload.Item.{Item};
 ghost use Rattle.draw_core.specs.Phases.{first_phases};
 ghost use Rattle.draw_core.specs.Walks.{callers_in, deed_of, first_stands, goes, stands_of, AreWithin};
 
 use crate::cursor::{Cursor, after};
 use crate::misfit::{Misfit, Unfit, misfit_by, misfit_in};
-use crate::page::Page;
-use crate::part::Part;
 use crate::phase::{passes, phase_at};
-use crate::step::{Deed, Step};
 use crate::turn::turn_of;
+use draw_pictures::page::Page;
+use draw_pictures::part::Part;
+use draw_pictures::step::{Deed, Step};
 use std::alloc::{AllocError, Global};
-use stm_faults::fault::Fault;
-use stm_script::op::Op;
-use stm_script::workload::{Item, Version, Workload};
-use stm_trace::line::Line;
-use stm_trace::said::Phase;
 use thiserror::Error;
+use work_faults::fault::Fault;
+use work_script::op::Op;
+use work_script::workload::{Item, Version, Workload};
+use work_trace::line::Line;
+use work_trace::said::Phase;
 
 /// Why a text has no steps. A line counts from 1, and is 0 for a text that is too long.
 #[derive(Clone, Copy, Drop, Debug, Error)]
@@ -126,10 +126,10 @@ pub struct Walk<'a> {
 
 impl<'a> Walk<'a> {
     ghost use Rattle.std.specs.Prelude.{◌≡◌, ◌<◌, ◌≤◌, ◌+◌, ◌^◌, [], ◌∷◌, ◌++◌, List, Some, None, MatchOption, IfOk, IfErr, OnOk};
-    ghost use Rattle.stm_trace.specs.declared.line.Line.{Line};
+    ghost use Rattle.work_trace.specs.declared.line.Line.{Line};
     ghost use Rattle.draw_core.specs.Walks.{along_of, next_step, stands_in, stepped, told_steps, version_in, workload_in, AreWithinOf, IsWalk};
     ghost use Rattle.draw_core.specs.Misfits.{misfit_of};
-    ghost use Rattle.draw_core.specs.Shapes.{lane_of};
+    ghost use Rattle.draw_pictures.specs.Shapes.{lane_of};
     ghost use Rattle.draw_core.specs.Whole.{IsPageFor, IsStepsFault};
 
     /// Before the first line, to draw this part.

@@ -1,20 +1,20 @@
 //! A text that is drawn: a trace alone, or a workload and then its trace.
 ghost use Rattle.std.specs.Prelude.{◌≡◌, ◌<◌, ◌^◌, length, IfOk, IfErr, option_map};
-ghost use Rattle.stm_text.specs.Grammar.{workload_of};
-ghost use Rattle.stm_text.specs.Lines.{lines_of};
-ghost use Rattle.stm_text.specs.declared.parse.Mode.TheVariants.{Step as Stepwise};
+ghost use Rattle.work_text.specs.Grammar.{workload_of};
+ghost use Rattle.work_text.specs.Lines.{lines_of};
+ghost use Rattle.work_text.specs.declared.parse.Mode.TheVariants.{Step as Stepwise};
 ghost use Rattle.draw_core.specs.Grammar.{trace_of};
 ghost use Rattle.draw_core.specs.Whole.{both, follows, has_workload, steps_of, IsPageFor, IsStepsFault};
 
-use crate::page::Page;
-use crate::part::Part;
 use crate::reading::{MOST_DRAWN, ReadError, walk_trace};
 use crate::walk::{StepsError, Walk};
+use draw_pictures::page::Page;
+use draw_pictures::part::Part;
 use std::alloc::Global;
-use stm_faults::fault::Fault;
-use stm_script::workload::Workload;
-use stm_text::parse::{Mode, ParseError, parse};
-use stm_text::parting::{count_lines, part_at_done};
+use work_faults::fault::Fault;
+use work_script::workload::Workload;
+use work_text::parse::{Mode, ParseError, parse};
+use work_text::parting::{count_lines, part_at_done};
 
 /// Whether a text has a workload above its trace.
 pub fn has_workload(text: &[u8]) -> bool

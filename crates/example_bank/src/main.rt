@@ -1,11 +1,11 @@
-//! A day of the bank of `bank_jobs` under each algorithm: what the audit found last, and what is left.
+//! A day of the bank of `example_bank_jobs` under each algorithm: what the audit found last, and what is left.
 #![tactic(auto)]
 
 ghost use Rattle.std.specs.Prelude.{IfOk};
-ghost use Rattle.bank_jobs.specs.Banks.{IsPaid};
+ghost use Rattle.example_bank_jobs.specs.Banks.{IsPaid};
 
-use bank_jobs::bank::Bank;
-use bank_jobs::{Day, total_of};
+use example_bank_jobs::bank::Bank;
+use example_bank_jobs::{Day, total_of};
 use nekchhaul::{ALGORITHMS, Alg, NewError, sizes, with_memory};
 use std::alloc::Global;
 use std::process::ExitCode;

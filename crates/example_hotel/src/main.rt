@@ -1,12 +1,12 @@
-//! The guests of `hotel_jobs` under each algorithm: the rounds that were done, and what they left.
+//! The guests of `example_hotel_jobs` under each algorithm: the rounds that were done, and what they left.
 #![tactic(auto)]
 
 ghost use Rattle.std.specs.Prelude.{◌≡◌, ◌<◌, ◌≤◌, ℕ, length, slice_index_or, IfOk};
 ghost use Rattle.nekchhaul.specs.Limits.{CLOCK_LIMIT};
-ghost use Rattle.hotel_jobs.specs.Hotels.{IsOrderly};
+ghost use Rattle.example_hotel_jobs.specs.Hotels.{IsOrderly};
 
-use hotel_jobs::Stay;
-use hotel_jobs::hotel::Hotel;
+use example_hotel_jobs::Stay;
+use example_hotel_jobs::hotel::Hotel;
 use nekchhaul::{ALGORITHMS, Alg, ClosedMemory, Evidence, NewError, Rounds, sizes, with_memory};
 use std::alloc::Global;
 use std::process::ExitCode;

@@ -1,13 +1,13 @@
-//! A day of the mail of `mail_jobs` under each algorithm: whether each message was received once.
+//! A day of the mail of `example_mail_jobs` under each algorithm: whether each message was received once.
 #![tactic(auto)]
 
 ghost use Rattle.std.specs.Prelude.{◌≡◌, IfOk, length};
-ghost use Rattle.mailbox.specs.Mail.{IsMailbox};
-ghost use Rattle.mail_jobs.specs.declared.day.TheConstants.{MAILBOX};
-ghost use Rattle.mail_jobs.specs.Days.{IsDay};
+ghost use Rattle.example_mailbox.specs.Mail.{IsMailbox};
+ghost use Rattle.example_mail_jobs.specs.declared.day.TheConstants.{MAILBOX};
+ghost use Rattle.example_mail_jobs.specs.Days.{IsDay};
 
-use mail_jobs::clerks::{Clerks, MESSAGES, Share};
-use mail_jobs::day::{MAILBOX, each_came_once};
+use example_mail_jobs::clerks::{Clerks, MESSAGES, Share};
+use example_mail_jobs::day::{MAILBOX, each_came_once};
 use nekchhaul::{ALGORITHMS, Alg, ClosedMemory, Evidence, NewError, sizes, with_memory};
 use std::alloc::Global;
 use std::process::ExitCode;

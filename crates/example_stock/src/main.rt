@@ -1,16 +1,16 @@
-//! The trade of `stock_jobs`, run under each algorithm: what was supplied, and what is left of it.
+//! The trade of `example_stock_jobs`, run under each algorithm: what was supplied, and what is left of it.
 #![tactic(auto)]
 
 ghost use Rattle.std.specs.Prelude.{◌≡◌, length, IfOk};
-ghost use Rattle.stock_jobs.specs.Stocks.{IsStocked};
+ghost use Rattle.example_stock_jobs.specs.Stocks.{IsStocked};
 
+use example_stock_jobs::Trade;
+use example_stock_jobs::stock::{Inventory, totals};
 use nekchhaul::{ALGORITHMS, Alg, ClosedMemory, Evidence, NewError, sizes, with_memory};
 use std::alloc::Global;
 use std::process::ExitCode;
 use std::sync::Wait;
 use std::thread::Threads;
-use stock_jobs::Trade;
-use stock_jobs::stock::{Inventory, totals};
 
 /// Has four callers trade under this algorithm.
 ///

@@ -1,5 +1,5 @@
 //! A map with the sums of ranges of keys.
-pub use tx_sums::laws::{
+pub use data_sums::laws::{
     maps_are_apart, pairs_change, removals_stay_within, removals_take_the_key,
 };
-pub use tx_sums::sum_map::{MapPut, SumMap};
+pub use data_sums::sum_map::{MapPut, SumMap};

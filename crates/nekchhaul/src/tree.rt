@@ -1,4 +1,4 @@
 //! A set of keys in a binary search tree.
-pub use tx_effects::insert::Insert;
-pub use tx_tree::laws::{keys_change, trees_are_apart};
-pub use tx_tree::tree::Tree;
+pub use data_effects::insert::Insert;
+pub use data_tree::laws::{keys_change, trees_are_apart};
+pub use data_tree::tree::Tree;

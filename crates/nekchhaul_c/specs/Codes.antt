@@ -4,24 +4,24 @@ use Rattle.stm_model.specs.Algorithms.{alg_number}
 use Rattle.stm_model.specs.declared.memory.Memory.{Memory}
 use Rattle.stm_rule.specs.declared.refusal.NewError.{NewError}
 use Rattle.stm_rule.specs.declared.refusal.NewError.TheVariants as sizes
-use Rattle.tx_answers.specs.declared.answers.Begin.{Begin}
-use Rattle.tx_answers.specs.declared.answers.Begin.TheVariants as begins
-use Rattle.tx_answers.specs.declared.answers.Cancel.{Cancel}
-use Rattle.tx_answers.specs.declared.answers.Cancel.TheVariants as cancels
-use Rattle.tx_answers.specs.declared.answers.Check.{Check}
-use Rattle.tx_answers.specs.declared.answers.Check.TheVariants as checks
-use Rattle.tx_answers.specs.declared.answers.Commit.{Commit}
-use Rattle.tx_answers.specs.declared.answers.Commit.TheVariants as commits
-use Rattle.tx_answers.specs.declared.answers.Give.{Give}
-use Rattle.tx_answers.specs.declared.answers.Give.TheVariants as gives
-use Rattle.tx_answers.specs.declared.answers.Irrev.{Irrev}
-use Rattle.tx_answers.specs.declared.answers.Irrev.TheVariants as grants
-use Rattle.tx_answers.specs.declared.answers.Read.{Read}
-use Rattle.tx_answers.specs.declared.answers.Read.TheVariants as reads
-use Rattle.tx_answers.specs.declared.answers.Roll.{Roll}
-use Rattle.tx_answers.specs.declared.answers.Roll.TheVariants as rolls
-use Rattle.tx_answers.specs.declared.answers.Write.{Write}
-use Rattle.tx_answers.specs.declared.answers.Write.TheVariants as writes
+use Rattle.stm_answers.specs.declared.answers.Begin.{Begin}
+use Rattle.stm_answers.specs.declared.answers.Begin.TheVariants as begins
+use Rattle.stm_answers.specs.declared.answers.Cancel.{Cancel}
+use Rattle.stm_answers.specs.declared.answers.Cancel.TheVariants as cancels
+use Rattle.stm_answers.specs.declared.answers.Check.{Check}
+use Rattle.stm_answers.specs.declared.answers.Check.TheVariants as checks
+use Rattle.stm_answers.specs.declared.answers.Commit.{Commit}
+use Rattle.stm_answers.specs.declared.answers.Commit.TheVariants as commits
+use Rattle.stm_answers.specs.declared.answers.Give.{Give}
+use Rattle.stm_answers.specs.declared.answers.Give.TheVariants as gives
+use Rattle.stm_answers.specs.declared.answers.Irrev.{Irrev}
+use Rattle.stm_answers.specs.declared.answers.Irrev.TheVariants as grants
+use Rattle.stm_answers.specs.declared.answers.Read.{Read}
+use Rattle.stm_answers.specs.declared.answers.Read.TheVariants as reads
+use Rattle.stm_answers.specs.declared.answers.Roll.{Roll}
+use Rattle.stm_answers.specs.declared.answers.Roll.TheVariants as rolls
+use Rattle.stm_answers.specs.declared.answers.Write.{Write}
+use Rattle.stm_answers.specs.declared.answers.Write.TheVariants as writes
 use Rattle.tx_loops.specs.declared.turn.How.{How}
 use Rattle.tx_loops.specs.declared.turn.How.TheVariants as hows
 use Rattle.tx_loops.specs.declared.turn.Turn.{Turn}

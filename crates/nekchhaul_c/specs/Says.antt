@@ -3,7 +3,7 @@ use Rattle.std.specs.Prelude.{ℕ, ◌≡◌, ◌==◌, Bool, true, false, if◌
 use Rattle.stm_model.specs.declared.alg.Alg.{Alg}
 use Rattle.stm_model.specs.declared.alg.Alg.TheVariants.{Cgl, Tml, OrecLazy, OrecEager, RingSw, Serial}
 use Rattle.nekchhaul_c.specs.Codes.{begin_code, begin_value, done_code, misuse_code, taken_code, turn_code, wait_code}
-use Rattle.tx_answers.specs.declared.answers.Begin.{Begin}
+use Rattle.stm_answers.specs.declared.answers.Begin.{Begin}
 use Rattle.tx_checked.specs.declared.errand.Errand.TheVariants.{Switch}
 use Rattle.tx_loops.specs.declared.looping_caller.LoopingCaller.{LoopingCaller}
 use Rattle.tx_loops.specs.declared.turn.How.{How}

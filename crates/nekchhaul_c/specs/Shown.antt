@@ -6,9 +6,9 @@ use Rattle.nekchhaul_c.specs.declared.asking.Why.{Why}
 use Rattle.stm_model.specs.Algorithms.{alg_number}
 use Rattle.stm_model.specs.declared.stop.Cause.{Cause}
 use Rattle.stm_model.specs.declared.stop.Cause.TheVariants as causes
-use Rattle.tx_answers.specs.CallerState.{state_of}
-use Rattle.tx_answers.specs.declared.answers.TxState.{TxState}
-use Rattle.tx_answers.specs.declared.answers.TxState.TheVariants as states
+use Rattle.stm_answers.specs.CallerState.{state_of}
+use Rattle.stm_answers.specs.declared.answers.TxState.{TxState}
+use Rattle.stm_answers.specs.declared.answers.TxState.TheVariants as states
 use Rattle.tx_loops.specs.declared.looping_caller.LoopingCaller.{LoopingCaller}
 use Rattle.tx_loops.specs.Accesses.{irrevocable_at, marks_at}
 use Rattle.tx_checked.specs.declared.refusal.Refusal.{Refusal}

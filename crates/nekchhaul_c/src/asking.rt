@@ -10,8 +10,8 @@ ghost use Rattle.tx_loops.specs.Accesses.{Passes};
 use crate::handle::Handle;
 use crate::status;
 use std::alloc::Global;
+use stm_answers::answers::TxState;
 use stm_model::stop::Cause;
-use tx_answers::answers::TxState;
 use tx_checked::refusal::Refusal;
 use tx_loops::looping_caller::LoopingCaller;
 

@@ -6,9 +6,9 @@ ghost use Rattle.tx_checked.specs.CheckedCallers.{IsSameCheckedCaller, IsServed,
 
 use crate::handle::Handle;
 use crate::status;
+use stm_answers::answers::Read;
 use stm_tx::serving::{Calls, Under};
 use stm_tx::under;
-use tx_answers::answers::Read;
 use tx_loops::looping_caller::LoopingCaller;
 
 /// Reads the words at these addresses, in turn, up to the first that is refused.

@@ -3,9 +3,9 @@
 ghost use Rattle.std.specs.Prelude.{◌≡◌};
 ghost use Rattle.nekchhaul_c.specs.Codes.{misuse_code, refusal_code, begin_code, begin_value, read_code, read_value, peek_code, write_code, commit_code, cancel_code, grant_code, mark_code, mark_value, roll_code, done_code, word_code, word_value, taken_code, given_code, reserved_code, open_code, turn_code, how_numbered};
 
+use stm_answers::answers::{Begin, Cancel, Check, Commit, Give, Irrev, Read, Roll, Write};
 use stm_model::memory::Memory;
 use stm_rule::refusal::NewError;
-use tx_answers::answers::{Begin, Cancel, Check, Commit, Give, Irrev, Read, Roll, Write};
 use tx_checked::misuse::Misuse;
 use tx_checked::opening::OpenError;
 use tx_checked::peeking::Peek;

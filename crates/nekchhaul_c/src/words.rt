@@ -10,10 +10,10 @@ ghost use Rattle.tx_loops.specs.declared.stage.Stage.TheVariants.{Buffered, Dire
 
 use crate::handle::Handle;
 use crate::status;
+use stm_answers::answers::{Read, Write};
 use stm_model::alg::Alg;
 use stm_tx::serving::{Calls, Only, Under};
 use stm_tx::{Algorithm, Cgl, OrecEager, OrecLazy, RingSw, Serial, Tml, under};
-use tx_answers::answers::{Read, Write};
 use tx_loops::looping_caller::LoopingCaller;
 
 /// Reads a word. `value` is written only where the answer is 0.

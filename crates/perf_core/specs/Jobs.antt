@@ -1,13 +1,13 @@
 -- What transactions need of their memory, and what a scan does to it.
 use Rattle.std.specs.Prelude.{ℕ, ◌<◌, ◌≤◌, ◌+◌, ◌%◌, ◌^◌, List, slice_index, slice_set}
 use Rattle.stm_model.specs.Logs.{Log}
-use Rattle.tx_effects.specs.Effects.{Effect, DoesOver, changed}
-use Rattle.tx_effects.specs.FreshLaws.{nothing}
-use Rattle.tx_cells.specs.Chains.{ChainsFit}
-use Rattle.tx_cells.specs.Structures.{list_of, hash_of}
-use Rattle.tx_regions.specs.declared.region.Region.{Region}
-use Rattle.tx_regions.specs.declared.region.Region.TheVariants.{Counter as OfCounter, List as OfList, Hash as OfHash, Tree as OfTree, Queue as OfQueue, SumMap as OfSumMap}
-use Rattle.tx_regions.specs.Regions.{WellFormed}
+use Rattle.data_effects.specs.Effects.{Effect, DoesOver, changed}
+use Rattle.data_effects.specs.FreshLaws.{nothing}
+use Rattle.data_cells.specs.Chains.{ChainsFit}
+use Rattle.data_cells.specs.Structures.{list_of, hash_of}
+use Rattle.data_regions.specs.declared.region.Region.{Region}
+use Rattle.data_regions.specs.declared.region.Region.TheVariants.{Counter as OfCounter, List as OfList, Hash as OfHash, Tree as OfTree, Queue as OfQueue, SumMap as OfSumMap}
+use Rattle.data_regions.specs.Regions.{WellFormed}
 use Rattle.perf_core.specs.declared.jobs.ScanRow.{ScanRow}
 use Rattle.perf_core.specs.Rows.{total_of}
 

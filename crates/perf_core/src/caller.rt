@@ -1,7 +1,7 @@
 //! A caller: its transactions one after the other, each tried until it commits.
 ghost use Rattle.std.specs.Prelude.{◌≡◌, ◌≤◌};
 ghost use Rattle.stm_rule.specs.Callers.{IsOf, IsSameCaller};
-ghost use Rattle.tx_answers.specs.CallerState.{IsIdle};
+ghost use Rattle.stm_answers.specs.CallerState.{IsIdle};
 ghost use Rattle.stm_tx.specs.Descs.{known};
 ghost use Rattle.perf_core.specs.WorkRegions.{FitsWorkRegion};
 

@@ -2,19 +2,19 @@
 //! nothing. Their numbers are short, so that little is written and read for each that is drawn.
 ghost use Rattle.std.specs.Prelude.{◌≡◌, ◌<◌, ◌≤◌, None, Some, OnOk, IfErr};
 ghost use Rattle.stm_model.specs.Logs.{SameMemories};
-ghost use Rattle.tx_effects.specs.Effects.{Under};
-ghost use Rattle.tx_regions.specs.Regions.{WellFormed};
+ghost use Rattle.data_effects.specs.Effects.{Under};
+ghost use Rattle.data_regions.specs.Regions.{WellFormed};
 ghost use Rattle.perf_core.specs.Jobs.{RegionFits};
 
 use crate::plan::BALANCE;
 use crate::rows::Row;
 use crate::work_counts::Came;
 use crate::work_region::WorkRegion;
+use data_effects::insert::Insert as Inserted;
+use data_regions::region::Region;
 use stm_model::access::Access;
 use stm_model::stop::Stop;
 use tx_atomic::transaction::Transaction;
-use tx_effects::insert::Insert as Inserted;
-use tx_regions::region::Region;
 use tx_transaction::words::{read_sum, read_words, write_words};
 
 /// The value goes to the account.

@@ -1,7 +1,7 @@
 //! The memory of a run, opened: its algorithm is installed, and it is filled.
 ghost use Rattle.std.specs.Prelude.{◌≡◌, ◌≤◌, false, length, IfOk, IfErr};
 ghost use Rattle.stm_rule.specs.Callers.{IsOf, IsSameCaller};
-ghost use Rattle.tx_answers.specs.CallerState.{IsIdle};
+ghost use Rattle.stm_answers.specs.CallerState.{IsIdle};
 ghost use Rattle.stm_tx.specs.Descs.{known};
 ghost use Rattle.tx_atomic.specs.Callers.{AllReady};
 ghost use Rattle.perf_core.specs.Plans.{IsOfMemory, IsPlan};

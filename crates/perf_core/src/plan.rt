@@ -5,7 +5,7 @@ ghost use Rattle.perf_core.specs.Plans.{IsPlan};
 use crate::rows::row_length;
 use stm_model::alg::{ALGORITHMS, Alg};
 use stm_model::config::{MOST_CALLERS, MOST_LOG, MOST_RECORDS, MOST_WORDS};
-use stm_profile::numbers::{number, number_up_to};
+use work_profile::numbers::{number, number_up_to};
 
 /// The length of the read log where the words name none, but for scans: the sum of all accounts has room in it, and a
 /// search through every cell of a structure.

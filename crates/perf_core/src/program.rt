@@ -17,7 +17,7 @@ use std::process::ExitCode;
 use std::sync::Wait;
 use std::thread::Threads;
 use std::time::Clock;
-use stm_io::arguments::{arguments, words_in};
+use work_io::arguments::{arguments, words_in};
 
 /// Runs what the arguments ask for, and answers how it ended as exit status; see [`Ending`]. Standard error says why it
 /// isn't 0.

@@ -1,15 +1,15 @@
 //! What a memory is for: one region, and the rule that it is well formed.
 ghost use Rattle.std.specs.Prelude.{◌≤◌, replicate};
-ghost use Rattle.tx_regions.specs.Regions.{WellFormed};
+ghost use Rattle.data_regions.specs.Regions.{WellFormed};
 ghost use Rattle.perf_core.specs.Jobs.{RegionFits};
 
 use crate::plan::{ACCOUNTS, CELLS, Workload};
+use data_cells::counter::Counter;
+use data_cells::hash::Hash;
+use data_cells::laws::chains_are_apart;
+use data_cells::list::List;
+use data_regions::region::Region;
 use stm_model::rule::MemRule;
-use tx_cells::counter::Counter;
-use tx_cells::hash::Hash;
-use tx_cells::laws::chains_are_apart;
-use tx_cells::list::List;
-use tx_regions::region::Region;
 
 /// The one region that a memory has; accounts and a count are a counter's stripes. As a rule on memory: it is
 /// well formed.
@@ -19,7 +19,7 @@ pub struct WorkRegion {
 }
 
 impl MemRule for WorkRegion {
-    ghost use Rattle.tx_regions.specs.Regions.{WellFormed};
+    ghost use Rattle.data_regions.specs.Regions.{WellFormed};
 
     ghost good = { λ work_region memory. WellFormed work_region.region memory };
 }

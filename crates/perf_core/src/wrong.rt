@@ -3,8 +3,8 @@ use crate::plan::{WORDS, WORKLOADS};
 use std::alloc::{AllocError, Global};
 use stm_model::alg::ALGORITHMS;
 use stm_model::config::{MOST_CALLERS, MOST_LOG, MOST_WORDS};
-use stm_nearest::{put_nearest, put_word};
-use stm_profile::numbers::number;
+use work_nearest::{put_nearest, put_word};
+use work_profile::numbers::number;
 
 /// The numbers that follow the algorithm, with their ranges.
 const NUMBERS: [(&str, u64, u64); 3] = [

@@ -1,4 +1,4 @@
--- Lemmas on the definitions beside this folder, a file for each.
+-- Lemmas on the definitions of `specs/`, a file for each.
 pub mod OpeningLemmas
 pub mod WordLemmas
 pub mod RunLemmas

@@ -16,11 +16,11 @@ use Rattle.rule_base.specs.StepKinds.{Nothing, Tells, view_after}
 use Rattle.rule_base.specs.World.{World}
 use Rattle.stm_rule.specs.Attempts.{IsOutside}
 use Rattle.stm_rule.specs.Findings.{FindsGate, FindsTaken}
-use Rattle.tx_answers.specs.declared.answers.CloseGate.TheVariants.{Closed, Taken}
-use Rattle.tx_answers.specs.Answers.{Closes, ClosesGate, Stays}
-use Rattle.tx_answers.specs.Causes.{NamesOther}
-use Rattle.tx_answers.specs.CallerState.{known_of, is_in, is_closing, is_settled}
-use Rattle.tx_answers.specs.CallerStateLaws.{grows-same}
+use Rattle.stm_answers.specs.declared.answers.CloseGate.TheVariants.{Closed, Taken}
+use Rattle.stm_answers.specs.Answers.{Closes, ClosesGate, Stays}
+use Rattle.stm_answers.specs.Causes.{NamesOther}
+use Rattle.stm_answers.specs.CallerState.{known_of, is_in, is_closing, is_settled}
+use Rattle.stm_answers.specs.CallerStateLaws.{grows-same}
 use Rattle.stm_gate.specs.InnerLaws.{ungranted-of, unlocked-of}
 use Rattle.rule_base.specs.GateSteps.{reopen}
 

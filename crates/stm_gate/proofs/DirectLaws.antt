@@ -21,11 +21,11 @@ use Rattle.rule_seq.specs.CglSteps as steps
 use Rattle.rule_promoted.specs.PromotedSteps.{direct_load, direct_store, direct_commit, CanDirectCommit}
 use Rattle.stm_rule.specs.declared.local.Local.{Local}
 use Rattle.stm_rule.specs.Attempts.{IsInside}
-use Rattle.tx_answers.specs.declared.answers.Commit.TheVariants.{ReadOnly}
-use Rattle.tx_answers.specs.declared.answers.Read.TheVariants.{Value}
-use Rattle.tx_answers.specs.declared.answers.Write.TheVariants.{Done}
-use Rattle.tx_answers.specs.Answers.{HasRead, HasWritten, KeepsRule, Commits, CommitsAt}
-use Rattle.tx_answers.specs.CallerState.{known_of, granted_under, written_under, is_irrevocable, wrote}
+use Rattle.stm_answers.specs.declared.answers.Commit.TheVariants.{ReadOnly}
+use Rattle.stm_answers.specs.declared.answers.Read.TheVariants.{Value}
+use Rattle.stm_answers.specs.declared.answers.Write.TheVariants.{Done}
+use Rattle.stm_answers.specs.Answers.{HasRead, HasWritten, KeepsRule, Commits, CommitsAt}
+use Rattle.stm_answers.specs.CallerState.{known_of, granted_under, written_under, is_irrevocable, wrote}
 use Rattle.stm_gate.specs.InnerLaws.{goes-inner, written-granted, irrevocable-granted, never-full}
 use Rattle.stm_gate.proofs.KeptLaws.{kept-same, kept-irrevocable}
 use Rattle.stm_gate.specs.Leaving.{left}

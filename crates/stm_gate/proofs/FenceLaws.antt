@@ -29,12 +29,12 @@ use Rattle.rule_base.specs.StepKinds.{Nothing, Tells, view_after}
 use Rattle.stm_rule.specs.declared.local.Local.{Local}
 use Rattle.stm_rule.specs.Attempts.{IsClosing}
 use Rattle.stm_rule.specs.FenceFindings.{FindsPast, FindsEven}
-use Rattle.tx_answers.specs.Answers.{HoldsClosed, entry}
-use Rattle.tx_answers.specs.Fences.{TakesRange, ReadsDirect, WritesDirect, GivesAt, Gives}
-use Rattle.tx_answers.specs.Fences as fences
-use Rattle.tx_answers.specs.declared.answers.Give.TheVariants.{Unchanged, ClockFull}
-use Rattle.tx_answers.specs.CallerState.{known_of, kept_under, written_under, granted_under, locked_under, is_in, is_closing, is_settled, zeros}
-use Rattle.tx_answers.specs.CallerStateLaws.{grows-same, ascending-append, within-append}
+use Rattle.stm_answers.specs.Answers.{HoldsClosed, entry}
+use Rattle.stm_answers.specs.Fences.{TakesRange, ReadsDirect, WritesDirect, GivesAt, Gives}
+use Rattle.stm_answers.specs.Fences as fences
+use Rattle.stm_answers.specs.declared.answers.Give.TheVariants.{Unchanged, ClockFull}
+use Rattle.stm_answers.specs.CallerState.{known_of, kept_under, written_under, granted_under, locked_under, is_in, is_closing, is_settled, zeros}
+use Rattle.stm_answers.specs.CallerStateLaws.{grows-same, ascending-append, within-append}
 use Rattle.stm_gate.specs.InnerLaws.{granted-same}
 use Rattle.stm_gate.proofs.KeptLaws.{kept-same}
 use Rattle.stm_gate.specs.LeavingLaws.{finds-full}

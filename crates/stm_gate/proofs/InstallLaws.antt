@@ -18,9 +18,9 @@ use Rattle.rule_base.specs.declared.views.Phase.TheVariants.{Idle, In, Closing}
 use Rattle.stm_rule.specs.declared.local.Local.{Local}
 use Rattle.stm_rule.specs.Attempts.{IsClear, IsClosing, HasRoom, StandsBy, Stands}
 use Rattle.stm_rule.specs.Findings.{FindsWithin}
-use Rattle.tx_answers.specs.Answers.{HoldsClosed, Installs, SeesQuiet}
-use Rattle.tx_answers.specs.CallerState.{known_of}
-use Rattle.tx_answers.specs.CallerStateLaws.{grows-same}
+use Rattle.stm_answers.specs.Answers.{HoldsClosed, Installs, SeesQuiet}
+use Rattle.stm_answers.specs.CallerState.{known_of}
+use Rattle.stm_answers.specs.CallerStateLaws.{grows-same}
 use Rattle.stm_gate.specs.InnerLaws.{ungranted-of, unlocked-of}
 use Rattle.stm_gate.specs.Installing.{Settles}
 

@@ -12,7 +12,7 @@ use Rattle.rule_base.specs.Bridge.{items}
 use Rattle.rule_base.specs.Own.{Own}
 use Rattle.stm_rule.specs.declared.local.Local.{Local}
 use Rattle.stm_rule.specs.Attempts.{IsInside, Keeps}
-use Rattle.tx_answers.specs.CallerState.{known_of, granted_under, written_under, is_irrevocable}
+use Rattle.stm_answers.specs.CallerState.{known_of, granted_under, written_under, is_irrevocable}
 use Rattle.stm_gate.specs.Logging.{wrote-some}
 
 wrote-by : (wrote : Bool) (cs : List Cell) → (wrote ≡ false → cs ≡ []) → (wrote ≡ true → cs ≢ []) → not (is_empty (items cs)) ≡ wrote

@@ -12,9 +12,9 @@ use Rattle.rule_base.specs.Bridge.{addresses, items}
 use Rattle.rule_base.specs.Lemmas.BridgeLemmas.{items-once}
 use Rattle.rule_base.specs.History.{member, touches}
 use Rattle.rule_base.specs.Own.{Own}
-use Rattle.tx_answers.specs.Answers.{kept_with}
-use Rattle.tx_answers.specs.Causes.{has_item, is_some}
-use Rattle.tx_answers.specs.CallerState.{CallerState, kept_under, is_irrevocable}
+use Rattle.stm_answers.specs.Answers.{kept_with}
+use Rattle.stm_answers.specs.Causes.{has_item, is_some}
+use Rattle.stm_answers.specs.CallerState.{CallerState, kept_under, is_irrevocable}
 use Rattle.stm_gate.proofs.Peeling.{minus, has-touched}
 
 -- THE ADDRESSES of a log

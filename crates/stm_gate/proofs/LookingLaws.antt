@@ -12,12 +12,12 @@ use Rattle.rule_base.specs.History.{member}
 use Rattle.rule_base.specs.StepKinds.{Nothing, Tells}
 use Rattle.stm_rule.specs.Attempts.{HasLooked}
 use Rattle.stm_rule.specs.Callers.{idle_own}
-use Rattle.tx_answers.specs.declared.answers.Look.{Look}
-use Rattle.tx_answers.specs.declared.answers.Look.TheVariants.{Quiet, Busy}
-use Rattle.tx_answers.specs.Answers.{HoldsClosed, Looked, Looks, OfUnseen}
-use Rattle.tx_answers.specs.Evidence.{Found}
-use Rattle.tx_answers.specs.CallerState.{known_of}
-use Rattle.tx_answers.specs.CallerStateLaws.{grows-same}
+use Rattle.stm_answers.specs.declared.answers.Look.{Look}
+use Rattle.stm_answers.specs.declared.answers.Look.TheVariants.{Quiet, Busy}
+use Rattle.stm_answers.specs.Answers.{HoldsClosed, Looked, Looks, OfUnseen}
+use Rattle.stm_answers.specs.Evidence.{Found}
+use Rattle.stm_answers.specs.CallerState.{known_of}
+use Rattle.stm_answers.specs.CallerStateLaws.{grows-same}
 use Rattle.rule_base.specs.Own.{Own}
 use Rattle.stm_gate.specs.InnerLaws.{granted-same}
 use Rattle.stm_gate.specs.LeavingLaws.{found-earlier}

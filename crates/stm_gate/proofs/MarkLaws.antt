@@ -13,7 +13,7 @@ use Rattle.rule_base.specs.declared.views.View.{View}
 use Rattle.rule_base.specs.Bridge.{items}
 use Rattle.rule_base.specs.Own.{Own}
 use Rattle.stm_rule.specs.RecordsKept.{IsWriteSet, HasMarks}
-use Rattle.tx_answers.specs.CallerState.{written_under}
+use Rattle.stm_answers.specs.CallerState.{written_under}
 
 -- the same is written where the same is buffered
 pub written-same : (a : Alg) (granted : Bool) (v : View) (o p : Own) → p.buffered ≡ o.buffered → written_under a granted v p ≡ written_under a granted v o

@@ -11,7 +11,7 @@ use Rattle.stm_rule.specs.declared.local.Local.{Local}
 use Rattle.stm_rule.specs.declared.stm.Stm.{Stm}
 use Rattle.stm_rule.specs.Attempts.{Stands, good_by, own_of}
 use Rattle.stm_rule.specs.Callers.{Handle, IsOf}
-use Rattle.tx_answers.specs.CallerState.{CallerState, known_of, caller_of}
+use Rattle.stm_answers.specs.CallerState.{CallerState, known_of, caller_of}
 use Rattle.stm_gate.specs.Knowing.{known, number}
 use Rattle.stm_gate.proofs.Standing.{stands-of}
 use Rattle.stm_gate.proofs.Told.{stands-back}

@@ -8,7 +8,7 @@ use Rattle.rule_base.specs.Bridge.{items}
 use Rattle.rule_base.specs.Lemmas.BridgeLemmas.{item-some, item-none}
 use Rattle.rule_base.specs.History.{touches, over, without, Inside}
 use Rattle.rule_base.specs.Lemmas.HistoryLemmas.{touches-without}
-use Rattle.tx_answers.specs.Causes.{has_item, is_some}
+use Rattle.stm_answers.specs.Causes.{has_item, is_some}
 use Rattle.stm_gate.specs.Logging.{item-touched}
 
 -- the items of other addresses

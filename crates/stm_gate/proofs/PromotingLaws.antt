@@ -24,11 +24,11 @@ use Rattle.stm_rule.specs.RecordsKept.{IsOptimistic}
 use Rattle.stm_rule.specs.Callers.{idle_own}
 use Rattle.stm_rule.proofs.StandLemmas.{inside-of}
 use Rattle.stm_rule.specs.Findings.{FindsGate, FindsTaken}
-use Rattle.tx_answers.specs.declared.answers.Look.TheVariants as looks
-use Rattle.tx_answers.specs.Answers.{Waits, IsOpaque, OfUnseen}
-use Rattle.tx_answers.specs.Evidence.{Untouched}
-use Rattle.tx_answers.specs.CallerState.{known_of, granted_under, locked_under, written_under, kept_under, is_irrevocable, is_in, is_closing}
-use Rattle.tx_answers.specs.CallerStateLaws.{grows-same}
+use Rattle.stm_answers.specs.declared.answers.Look.TheVariants as looks
+use Rattle.stm_answers.specs.Answers.{Waits, IsOpaque, OfUnseen}
+use Rattle.stm_answers.specs.Evidence.{Untouched}
+use Rattle.stm_answers.specs.CallerState.{known_of, granted_under, locked_under, written_under, kept_under, is_irrevocable, is_in, is_closing}
+use Rattle.stm_answers.specs.CallerStateLaws.{grows-same}
 use Rattle.stm_gate.specs.InnerLaws.{granted-same}
 use Rattle.stm_gate.proofs.KeptLaws.{kept-same}
 use Rattle.stm_gate.specs.LeavingLaws.{found-earlier}

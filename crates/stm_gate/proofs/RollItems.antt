@@ -9,8 +9,8 @@ use Rattle.rule_base.specs.declared.entries.Cell.{Cell}
 use Rattle.rule_base.specs.Bridge.{addresses, items}
 use Rattle.rule_base.specs.Lemmas.BridgeLemmas.{item-some}
 use Rattle.rule_base.specs.History.{touches, over, without}
-use Rattle.tx_answers.specs.Causes.{has_item, is_some}
-use Rattle.tx_logs.specs.LogStates.{firsts}
+use Rattle.stm_answers.specs.Causes.{has_item, is_some}
+use Rattle.stm_logs.specs.LogStates.{firsts}
 use Rattle.stm_gate.proofs.Peeling.{minus, items-without, drop-all}
 
 -- whether a log has an item, and how many, is told by the addresses

@@ -21,7 +21,7 @@ use Rattle.stm_rule.specs.declared.local.Local.{Local}
 use Rattle.stm_rule.specs.Attempts.{good_by, own_of, Keeps, IsInside, IsTml, IsPromoted, Stands}
 use Rattle.stm_rule.specs.Callers.{Handle}
 use Rattle.stm_rule.proofs.StandLemmas.{inside-of}
-use Rattle.tx_answers.specs.CallerState.{CallerState, known_of, granted_under, is_in}
+use Rattle.stm_answers.specs.CallerState.{CallerState, known_of, granted_under, is_in}
 use Rattle.stm_gate.specs.Knowing.{known, number}
 
 pub in-of : (p : Phase) → is_in p ≡ true → p ≡ In

@@ -12,7 +12,7 @@ use Rattle.stm_rule.specs.declared.local.Local.{Local}
 use Rattle.stm_rule.specs.Attempts.{own_of, good_by, IsInside, HasRoom, Stands, StandsBy}
 use Rattle.stm_rule.specs.Callers.{Handle}
 use Rattle.stm_gate.specs.Knowing.{known, number}
-use Rattle.tx_answers.specs.CallerState.{CallerState, known_of, caller_of}
+use Rattle.stm_answers.specs.CallerState.{CallerState, known_of, caller_of}
 
 -- an undo log of the same length leaves the descriptor's own part
 pub own-by : (l m : Local) → m ≡ record l { undo = m.undo } → m.undo.len ≡ l.undo.len → own_of m ≡ own_of l

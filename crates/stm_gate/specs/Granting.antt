@@ -14,15 +14,15 @@ use Rattle.rule_base.specs.InstallSteps.{HasChecked}
 use Rattle.rule_base.specs.Own.{Own}
 use Rattle.stm_rule.specs.declared.local.Local.{Local}
 use Rattle.stm_rule.specs.Attempts.{IsInside}
-use Rattle.tx_answers.specs.declared.answers.Irrev.{Irrev}
-use Rattle.tx_answers.specs.declared.answers.Irrev.TheVariants as irrevs
-use Rattle.tx_answers.specs.Answers.{TriesIrrevocable, Quits, Waits, Irrevs}
-use Rattle.tx_answers.specs.Causes.{Conflicts, FindsFull, IsInTheWay, IsStaleAt, has_item, read_filter}
-use Rattle.tx_answers.specs.Causes.Asked.{ToPromote}
-use Rattle.tx_answers.specs.Evidence.{Found, FoundAsWas, Untouched}
-use Rattle.tx_answers.specs.SlotEvidence.{FindsFirst, clock_load}
-use Rattle.tx_answers.specs.CallerState.{CallerState, Grows, known_of, is_irrevocable, is_in, is_closing, is_none, has_written}
-use Rattle.tx_answers.specs.CallerStateLaws.{grows-same, grows-trans, lock-trans}
+use Rattle.stm_answers.specs.declared.answers.Irrev.{Irrev}
+use Rattle.stm_answers.specs.declared.answers.Irrev.TheVariants as irrevs
+use Rattle.stm_answers.specs.Answers.{TriesIrrevocable, Quits, Waits, Irrevs}
+use Rattle.stm_answers.specs.Causes.{Conflicts, FindsFull, IsInTheWay, IsStaleAt, has_item, read_filter}
+use Rattle.stm_answers.specs.Causes.Asked.{ToPromote}
+use Rattle.stm_answers.specs.Evidence.{Found, FoundAsWas, Untouched}
+use Rattle.stm_answers.specs.SlotEvidence.{FindsFirst, clock_load}
+use Rattle.stm_answers.specs.CallerState.{CallerState, Grows, known_of, is_irrevocable, is_in, is_closing, is_none, has_written}
+use Rattle.stm_answers.specs.CallerStateLaws.{grows-same, grows-trans, lock-trans}
 use Rattle.stm_gate.specs.LeavingLaws.{found-earlier}
 use Rattle.stm_gate.specs.Opacity.{opaque-inside}
 use Rattle.stm_gate.specs.Promoting.{SparesRecords}

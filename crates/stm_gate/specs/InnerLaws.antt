@@ -14,11 +14,11 @@ use Rattle.rule_base.specs.declared.views.View.{View}
 use Rattle.rule_base.specs.Bridge.{items, public_history}
 use Rattle.rule_base.specs.History.{member}
 use Rattle.rule_base.specs.Own.{Own}
-use Rattle.tx_answers.specs.Answers.{StartMoves, GoesOn}
-use Rattle.tx_answers.specs.Evidence.{FindsStart}
-use Rattle.tx_answers.specs.Causes.{Asked, has_item, reads_full, writes_full}
-use Rattle.tx_answers.specs.CallerState.{CallerState, known_of, fenced_of, granted_under, locked_under, written_under, is_in, is_closing, is_irrevocable}
-use Rattle.tx_answers.specs.CallerStateLaws.{grows-same}
+use Rattle.stm_answers.specs.Answers.{StartMoves, GoesOn}
+use Rattle.stm_answers.specs.Evidence.{FindsStart}
+use Rattle.stm_answers.specs.Causes.{Asked, has_item, reads_full, writes_full}
+use Rattle.stm_answers.specs.CallerState.{CallerState, known_of, fenced_of, granted_under, locked_under, written_under, is_in, is_closing, is_irrevocable}
+use Rattle.stm_answers.specs.CallerStateLaws.{grows-same}
 
 pub record IsInner (v w : View) : Type 0 where
   pub history : w.history ≡ v.history

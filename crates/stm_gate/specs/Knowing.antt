@@ -1,7 +1,7 @@
 -- What contracts see of a descriptor as a caller, and what stays of a memory's caller.
 use Rattle.std.specs.Prelude.{ℕ}
 use Rattle.stm_rule.specs.Callers.{Handle}
-use Rattle.tx_answers.specs.CallerState.{CallerState, known_of, caller_of}
+use Rattle.stm_answers.specs.CallerState.{CallerState, known_of, caller_of}
 
 module _ {K : Type 0} where
   -- what the caller knows

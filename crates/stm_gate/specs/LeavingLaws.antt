@@ -22,10 +22,10 @@ use Rattle.rule_base.specs.Lemmas.BridgeLemmas.{legal-public, length-public_hist
 use Rattle.rule_base.specs.Own.{Own}
 use Rattle.rule_base.specs.World.{World}
 use Rattle.rule_seq.specs.CglSteps.{Commits, cgl_entry}
-use Rattle.tx_answers.specs.Answers.{Ends, Quits, EndsAt, CommitsAt, IsOpaque, entry}
-use Rattle.tx_answers.specs.Causes.{FindsFull}
-use Rattle.tx_answers.specs.Evidence.{Found}
-use Rattle.tx_answers.specs.CallerState.{CallerState, Grows, known_of, fenced_of, is_irrevocable, has_written, written_under, zeros, clock_in, top_of}
+use Rattle.stm_answers.specs.Answers.{Ends, Quits, EndsAt, CommitsAt, IsOpaque, entry}
+use Rattle.stm_answers.specs.Causes.{FindsFull}
+use Rattle.stm_answers.specs.Evidence.{Found}
+use Rattle.stm_answers.specs.CallerState.{CallerState, Grows, known_of, fenced_of, is_irrevocable, has_written, written_under, zeros, clock_in, top_of}
 use Rattle.stm_gate.specs.InnerLaws.{unlocked-of}
 use Rattle.stm_gate.specs.Leaving.{last_steps, left}
 use Rattle.stm_gate.specs.Logging.{wrote-some}

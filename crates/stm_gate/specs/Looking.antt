@@ -8,11 +8,11 @@ use Rattle.rule_base.specs.InstallSteps.{HasChecked}
 use Rattle.stm_model.specs.declared.config.Config.{Config}
 use Rattle.stm_rule.specs.Attempts.{HasLooked}
 use Rattle.stm_rule.specs.Callers.{idle_own}
-use Rattle.tx_answers.specs.declared.answers.Look.{Look}
-use Rattle.tx_answers.specs.declared.answers.Look.TheVariants as looks
-use Rattle.tx_answers.specs.Answers.{OfUnseen, IsBusy}
-use Rattle.tx_answers.specs.Evidence.{Found}
-use Rattle.tx_answers.specs.CallerState.{known_of}
+use Rattle.stm_answers.specs.declared.answers.Look.{Look}
+use Rattle.stm_answers.specs.declared.answers.Look.TheVariants as looks
+use Rattle.stm_answers.specs.Answers.{OfUnseen, IsBusy}
+use Rattle.stm_answers.specs.Evidence.{Found}
+use Rattle.stm_answers.specs.CallerState.{known_of}
 
 -- the view with these callers seen idle, and with this step trace
 abbrev pub looked : View → List ℕ → List TracedStep → View

@@ -15,12 +15,12 @@ use Rattle.rule_base.specs.Bridge.{items, words_of, of_words, public_entry, publ
 use Rattle.rule_base.specs.Lemmas.BridgeLemmas.{memories, words_of-same, explains-items, legal-always, legal-public}
 use Rattle.rule_base.specs.History.{word_at, word_now, Inside, Below, upto, Explains, Legal}
 use Rattle.rule_base.specs.Lemmas.HistoryLemmas.{word_at-all, upto-all}
-use Rattle.tx_answers.specs.Answers.{IsOpaque}
-use Rattle.tx_answers.specs.CallerState.{known_of, zeros}
+use Rattle.stm_answers.specs.Answers.{IsOpaque}
+use Rattle.stm_answers.specs.CallerState.{known_of, zeros}
 use Rattle.rule_base.specs.Own.{Own}
 use Rattle.stm_rule.specs.declared.local.Local.{Local}
 use Rattle.stm_rule.specs.Attempts.{IsInside}
-use Rattle.tx_answers.specs.CallerStateLaws.{ascending-append, within-append}
+use Rattle.stm_answers.specs.CallerStateLaws.{ascending-append, within-append}
 
 -- the memory at the start is that after what was seen
 pub memory-now : (words : ℕ) (h : List Entry) (s : ℕ) → Below h (s + 1) → memory_at s (public_history h) (zeros words) ≡ words_of words (word_now h)

@@ -9,10 +9,10 @@ use Rattle.stm_model.specs.declared.config.Config.{Config}
 use Rattle.stm_rule.specs.Callers.{idle_own}
 use Rattle.stm_gate.specs.declared.promote.Promotion.{Promotion}
 use Rattle.stm_gate.specs.declared.promote.Promotion.TheVariants as promotes
-use Rattle.tx_answers.specs.Answers.{Waits, SeesQuiet, IsBusy}
-use Rattle.tx_answers.specs.Causes.{NamesOther}
-use Rattle.tx_answers.specs.Evidence.{Found, Untouched}
-use Rattle.tx_answers.specs.CallerState.{CallerState, known_of}
+use Rattle.stm_answers.specs.Answers.{Waits, SeesQuiet, IsBusy}
+use Rattle.stm_answers.specs.Causes.{NamesOther}
+use Rattle.stm_answers.specs.Evidence.{Found, Untouched}
+use Rattle.stm_answers.specs.CallerState.{CallerState, known_of}
 
 -- the attempt holds the gate; nothing changed but what it knows of it, and the step trace
 pub record TakesGate (v w : View) : Type 0 where

@@ -10,12 +10,12 @@ use Rattle.rule_base.specs.Encodings.{taken_lock}
 use Rattle.rule_base.specs.Own.{Own}
 use Rattle.stm_rule.specs.declared.local.Local.{Local}
 use Rattle.stm_rule.specs.Attempts.{IsFenceOf, IsClear, IsInside, begun}
-use Rattle.tx_answers.specs.declared.answers.Begin.{Begin}
-use Rattle.tx_answers.specs.declared.answers.Begin.TheVariants.{Begun, Closed, Held, ClockFull}
-use Rattle.tx_answers.specs.Answers.{HasOthers, IsHeld, IsOpaque, start_word}
-use Rattle.tx_answers.specs.Causes.{FindsFull}
-use Rattle.tx_answers.specs.Evidence.{Found, Exchanged}
-use Rattle.tx_answers.specs.CallerState.{CallerState, Grows, known_of, no_log}
+use Rattle.stm_answers.specs.declared.answers.Begin.{Begin}
+use Rattle.stm_answers.specs.declared.answers.Begin.TheVariants.{Begun, Closed, Held, ClockFull}
+use Rattle.stm_answers.specs.Answers.{HasOthers, IsHeld, IsOpaque, start_word}
+use Rattle.stm_answers.specs.Causes.{FindsFull}
+use Rattle.stm_answers.specs.Evidence.{Found, Exchanged}
+use Rattle.stm_answers.specs.CallerState.{CallerState, Grows, known_of, no_log}
 
 -- the caller found the gate open under this algorithm
 pub record CanBegin (alg : Alg) (v : View) : Type 0 where

@@ -1,20 +1,20 @@
 //! The calls of a promoted attempt, which is alone: it loads and stores the heap, whatever its algorithm.
-ghost use Rattle.tx_answers.specs.Counting.{AddsAtMost};
+ghost use Rattle.stm_answers.specs.Counting.{AddsAtMost};
 ghost use Rattle.std.specs.Prelude.{◌≡◌, ℕ, ◌<◌, true, false, ◌+◌};
 ghost use Rattle.rule_orec.specs.OrecSteps.{is_eager};
 ghost use Rattle.stm_model.specs.Algorithms.{closes_gate, entry_rise};
 ghost use Rattle.stm_rule.specs.Callers.{IsOf, IsSameCaller};
-ghost use Rattle.tx_answers.specs.Answers.{HasRead, HasWritten, KeepsRule, Commits};
-ghost use Rattle.tx_answers.specs.CallerState.{IsRunning};
+ghost use Rattle.stm_answers.specs.Answers.{HasRead, HasWritten, KeepsRule, Commits};
+ghost use Rattle.stm_answers.specs.CallerState.{IsRunning};
 ghost use Rattle.rule_base.specs.Encodings.{fenced};
 ghost use Rattle.stm_gate.specs.Knowing.{known, number};
 
 use crate::leave::leave;
+use stm_answers::answers::{Commit, Read, Write};
 use stm_model::alg::Alg;
 use stm_model::rule::MemRule;
 use stm_rule::desc::Desc;
 use stm_rule::stm::Stm;
-use tx_answers::answers::{Commit, Read, Write};
 
 /// Loads the word. One step.
 pub fn direct_load<K: MemRule>(desc: &mut Desc<K>, stm: &Stm<K>, a: usize) -> Read

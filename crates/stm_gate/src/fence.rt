@@ -6,22 +6,22 @@
 //! (Spear, Marathe, Dalessandro and Scott, "Privatization Techniques for Software Transactional Memory", PODC 2007).
 //! A range comes and goes only while the gate is closed and nobody is in an attempt, so no clean-up and no doomed
 //! attempt of another caller is late.
-ghost use Rattle.tx_answers.specs.Counting.{AddsAtMost};
+ghost use Rattle.stm_answers.specs.Counting.{AddsAtMost};
 ghost use Rattle.std.specs.Prelude.{◌≡◌, ℕ, ◌<◌, ◌≤◌, ◌+◌, true};
 ghost use Rattle.stm_model.specs.Configs.{IsSmall, AreBlocks};
 ghost use Rattle.rule_base.specs.Encodings.{fenced};
 ghost use Rattle.stm_rule.specs.Callers.{IsOf, IsSameCaller};
-ghost use Rattle.tx_answers.specs.Answers.{HoldsClosed, SeesQuiet};
-ghost use Rattle.tx_answers.specs.Fences.{Fences, ReadsDirect, WritesDirect, KeepsFenced, Gives};
-ghost use Rattle.tx_answers.specs.CallerState.{IsIdle};
+ghost use Rattle.stm_answers.specs.Answers.{HoldsClosed, SeesQuiet};
+ghost use Rattle.stm_answers.specs.Fences.{Fences, ReadsDirect, WritesDirect, KeepsFenced, Gives};
+ghost use Rattle.stm_answers.specs.CallerState.{IsIdle};
 ghost use Rattle.stm_gate.specs.Knowing.{known, number};
 
 use rule_base::words::{fence_number, gate_word};
+use stm_answers::answers::{Fence, Give};
 use stm_model::config::CLOCK_LIMIT;
 use stm_model::rule::MemRule;
 use stm_rule::desc::Desc;
 use stm_rule::stm::Stm;
-use tx_answers::answers::{Fence, Give};
 
 /// Takes `count` words from `from` out of the transactions. It asks for a memory that takes fences and a closing
 /// descriptor whose last look was quiet, leaves it closing, and takes one step. In a memory that isn't small the range

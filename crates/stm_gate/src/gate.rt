@@ -4,28 +4,28 @@
 //! A caller stores 1 in its status before it loads the gate. So whoever closes the gate and then finds a
 //! status 0 knows that this caller, should it announce later, will load a closed gate and withdraw
 //! (Spear, "Lightweight, Robust Adaptivity for Software Transactional Memory", SPAA 2010).
-ghost use Rattle.tx_bell.specs.Bells.{rung_for};
-ghost use Rattle.tx_bell.specs.Stripes.{Has};
+ghost use Rattle.stm_bell.specs.Bells.{rung_for};
+ghost use Rattle.stm_bell.specs.Stripes.{Has};
 ghost use Rattle.stm_rule.specs.Counting.{TakesAtMost};
-ghost use Rattle.tx_answers.specs.Counting.{AddsAtMost};
+ghost use Rattle.stm_answers.specs.Counting.{AddsAtMost};
 ghost use Rattle.std.specs.Prelude.{◌≡◌, ℕ, ◌<◌, true, false};
 ghost use Rattle.rule_base.specs.InstallSteps.{CanSettle};
 ghost use Rattle.rule_base.specs.declared.views.Phase.TheVariants.{Closing};
 ghost use Rattle.stm_rule.specs.Callers.{IsOf, IsSameCaller, IsSeatOf};
 ghost use Rattle.stm_rule.specs.Kept.{IsSameSeat, view_of};
-ghost use Rattle.tx_answers.specs.Answers.{Closes, Looks, Installs, Reopens, HoldsClosed, SeesQuiet};
-ghost use Rattle.tx_answers.specs.CallerState.{IsIdle};
+ghost use Rattle.stm_answers.specs.Answers.{Closes, Looks, Installs, Reopens, HoldsClosed, SeesQuiet};
+ghost use Rattle.stm_answers.specs.CallerState.{IsIdle};
 ghost use Rattle.stm_gate.specs.Installing.{Settles};
 ghost use Rattle.stm_gate.specs.Knowing.{known, number};
 
 use crate::looking::look_on;
 use rule_base::words::{alg_of, fence_of, holder_of};
+use stm_answers::answers::{CloseGate, Look};
 use stm_model::alg::Alg;
 use stm_model::rule::MemRule;
 use stm_rule::desc::Desc;
 use stm_rule::rung::Rung;
 use stm_rule::stm::{Stm, Token};
-use tx_answers::answers::{CloseGate, Look};
 
 /// Tries to close the gate. It asks for an idle descriptor, and takes four steps at most.
 ///

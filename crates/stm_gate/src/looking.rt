@@ -1,15 +1,15 @@
 //! Looking at the other callers, by the one that holds the gate.
-ghost use Rattle.tx_answers.specs.Counting.{AddsAtMost};
+ghost use Rattle.stm_answers.specs.Counting.{AddsAtMost};
 ghost use Rattle.std.specs.Prelude.{◌≡◌, ℕ, ◌<◌, true};
 ghost use Rattle.stm_rule.specs.Attempts.{HasLooked};
 ghost use Rattle.stm_rule.specs.Callers.{IsOf, IsSameCaller};
 ghost use Rattle.stm_gate.specs.Knowing.{known, number};
 ghost use Rattle.stm_gate.specs.Looking.{LooksOn, LooksUntil, Finds};
 
+use stm_answers::answers::Look;
 use stm_model::rule::MemRule;
 use stm_rule::desc::Desc;
 use stm_rule::stm::Stm;
-use tx_answers::answers::Look;
 
 /// Looks at the others from where the last look stopped, up to the first that is not idle. One step for
 /// each that it looks at.

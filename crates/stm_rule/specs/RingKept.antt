@@ -7,7 +7,7 @@ use Rattle.rule_base.specs.declared.layout.TheConstants.{SLOT_WORDS}
 use Rattle.rule_base.specs.declared.views.View.{View}
 use Rattle.rule_base.specs.Bridge.{items}
 use Rattle.rule_ring.specs.SlotFilter.{slot_filter}
-use Rattle.tx_logs.specs.Filters.{filter_word}
+use Rattle.stm_logs.specs.Filters.{filter_word}
 use Rattle.stm_rule.specs.declared.local.Local.{Local}
 use Rattle.stm_rule.specs.RecordsKept.{Buffers, HasMarks, IsOptimistic, cells_of}
 

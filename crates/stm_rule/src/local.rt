@@ -3,12 +3,12 @@ ghost use Rattle.std.specs.Prelude.{◌≡◌, ◌≤◌, IfOk};
 ghost use Rattle.stm_rule.specs.Attempts.{idle_local, begun, ended};
 
 use std::alloc::Global;
+use stm_logs::filter::Filter;
+use stm_logs::read_log::ReadLog;
+use stm_logs::undo_log::UndoLog;
+use stm_logs::write_log::WriteLog;
 use stm_model::alg::Alg;
 use stm_model::memory::Memory;
-use tx_logs::filter::Filter;
-use tx_logs::read_log::ReadLog;
-use tx_logs::undo_log::UndoLog;
-use tx_logs::write_log::WriteLog;
 
 /// The plain fields of a descriptor. What stands of its view by them is said in `specs/Attempts.antt`.
 #[derive(Drop)]

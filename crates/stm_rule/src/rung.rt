@@ -1,15 +1,15 @@
 //! That a caller has rung the memory's bell. Nothing but a ring makes it, so who has to show one has rung.
 ghost use Rattle.std.specs.Prelude.{◌≡◌, ℕ, IfSome};
 ghost use Rattle.stm_rule.specs.Callers.{IsOf};
-ghost use Rattle.tx_bell.specs.Bells.{rung_for};
-ghost use Rattle.tx_bell.specs.Stripes.{Has};
+ghost use Rattle.stm_bell.specs.Bells.{rung_for};
+ghost use Rattle.stm_bell.specs.Stripes.{Has};
 
 use crate::desc::Desc;
 use crate::stm::Stm;
 use std::snapshot::Snapshot;
+use stm_bell::bell::Ring;
+use stm_bell::stripes::Stripes;
 use stm_model::rule::MemRule;
-use tx_bell::bell::Ring;
-use tx_bell::stripes::Stripes;
 
 /// That a caller rang as it stood then.
 #[derive(Drop)]

@@ -21,13 +21,13 @@ use Rattle.rule_base.specs.World.{World}
 use Rattle.stm_rule.specs.declared.local.Local.{Local}
 use Rattle.stm_rule.specs.Attempts.{IsOutside}
 use Rattle.stm_rule.specs.Findings.{FindsGate}
-use Rattle.tx_answers.specs.declared.answers.Begin.{Begin}
-use Rattle.tx_answers.specs.declared.answers.Begin.TheVariants.{Begun, Closed, Held, ClockFull}
-use Rattle.tx_answers.specs.Answers.{Begins, BeginsAt, FindsOpen, Stays, IsHeld, start_word}
-use Rattle.tx_answers.specs.Causes.{NamesOther}
-use Rattle.tx_answers.specs.Evidence.{Found, Exchanged}
-use Rattle.tx_answers.specs.CallerState.{CallerState, Grows, known_of, is_in, is_closing}
-use Rattle.tx_answers.specs.CallerStateLaws.{grows-same, grows-trans}
+use Rattle.stm_answers.specs.declared.answers.Begin.{Begin}
+use Rattle.stm_answers.specs.declared.answers.Begin.TheVariants.{Begun, Closed, Held, ClockFull}
+use Rattle.stm_answers.specs.Answers.{Begins, BeginsAt, FindsOpen, Stays, IsHeld, start_word}
+use Rattle.stm_answers.specs.Causes.{NamesOther}
+use Rattle.stm_answers.specs.Evidence.{Found, Exchanged}
+use Rattle.stm_answers.specs.CallerState.{CallerState, Grows, known_of, is_in, is_closing}
+use Rattle.stm_answers.specs.CallerStateLaws.{grows-same, grows-trans}
 use Rattle.stm_gate.specs.InnerLaws.{unlocked-of}
 use Rattle.stm_gate.specs.LeavingLaws.{found-later, found-earlier, finds-full}
 use Rattle.stm_gate.specs.Starts.{CanBegin, Waits, IsFresh, StartsAt, Refuses}

@@ -14,7 +14,7 @@ use Rattle.rule_seq.specs.LockRule.{lock_projection}
 use Rattle.stm_rule.specs.Irrevocable.{one-irrevocable}
 use Rattle.stm_rule.specs.Product.{Invariant}
 use Rattle.stm_gate.proofs.Standing.{in-of}
-use Rattle.tx_answers.specs.CallerState.{known_of, granted_under, locked_under, wrote}
+use Rattle.stm_answers.specs.CallerState.{known_of, granted_under, locked_under, wrote}
 use Rattle.stm_tx.specs.Resting.{IsFixed}
 
 -- by what an attempt is irrevocable: it closed the gate and was granted, it has the lock, or it is TML's writer

@@ -14,11 +14,11 @@ use Rattle.rule_base.specs.Own.{Own}
 use Rattle.stm_rule.specs.Attempts.{IsInside, Keeps, Stands, good_by, own_of}
 use Rattle.stm_rule.specs.Callers.{Handle}
 use Rattle.stm_rule.proofs.StandLemmas.{inside-of}
-use Rattle.tx_logs.specs.Filters.{filter_word}
+use Rattle.stm_logs.specs.Filters.{filter_word}
 use Rattle.stm_rule.specs.RecordsKept.{IsLazy, cells_of}
 use Rattle.stm_rule.specs.EagerKept.{IsEager}
 use Rattle.stm_rule.specs.RingKept.{IsRing}
-use Rattle.tx_answers.specs.CallerState.{granted_under, written_under}
+use Rattle.stm_answers.specs.CallerState.{granted_under, written_under}
 use Rattle.stm_gate.proofs.KeptLaws.{member-touched}
 use Rattle.stm_gate.proofs.Standing.{in-of}
 use Rattle.stm_tx.specs.Descs.{known}

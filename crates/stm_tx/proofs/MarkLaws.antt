@@ -12,8 +12,8 @@ use Rattle.rule_base.specs.Bridge.{items}
 use Rattle.stm_rule.specs.declared.local.Local.{Local}
 use Rattle.stm_rule.specs.Attempts.{own_of, IsInside, Keeps}
 use Rattle.stm_rule.specs.RecordsKept.{Buffers, HasMarks, IsWriteSet}
-use Rattle.tx_answers.specs.Answers.{IsMarked, Releases}
-use Rattle.tx_answers.specs.CallerState.{CallerState, known_of, written_under, is_irrevocable}
+use Rattle.stm_answers.specs.Answers.{IsMarked, Releases}
+use Rattle.stm_answers.specs.CallerState.{CallerState, known_of, written_under, is_irrevocable}
 use Rattle.stm_gate.proofs.Cells.{items-cells}
 use Rattle.stm_gate.proofs.Irrevocable.{irrevocable-of}
 use Rattle.stm_gate.proofs.KeptLaws.{kept-same}

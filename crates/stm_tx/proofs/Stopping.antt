@@ -4,13 +4,13 @@ use Rattle.std.specs.Prelude.{Option, Ok, Err, Some, None}
 use Rattle.stm_model.specs.declared.config.Config.{Config}
 use Rattle.stm_model.specs.declared.stop.Stop.{Stop}
 use Rattle.stm_model.specs.declared.stop.Stop.TheVariants as stops
-use Rattle.tx_answers.specs.declared.answers.Read.{Read}
-use Rattle.tx_answers.specs.declared.answers.Read.TheVariants as reads
-use Rattle.tx_answers.specs.declared.answers.Write.{Write}
-use Rattle.tx_answers.specs.declared.answers.Write.TheVariants as writes
-use Rattle.tx_answers.specs.Answers.{HasRead, HasWritten, Stops, Quits}
-use Rattle.tx_answers.specs.CallerState.{CallerState}
-use Rattle.tx_answers.specs.CallerStateLaws.{Carries, carries-refl, carries-quits}
+use Rattle.stm_answers.specs.declared.answers.Read.{Read}
+use Rattle.stm_answers.specs.declared.answers.Read.TheVariants as reads
+use Rattle.stm_answers.specs.declared.answers.Write.{Write}
+use Rattle.stm_answers.specs.declared.answers.Write.TheVariants as writes
+use Rattle.stm_answers.specs.Answers.{HasRead, HasWritten, Stops, Quits}
+use Rattle.stm_answers.specs.CallerState.{CallerState}
+use Rattle.stm_answers.specs.CallerStateLaws.{Carries, carries-refl, carries-quits}
 use Rattle.stm_tx.specs.declared.live.Halt.{Halt}
 use Rattle.stm_tx.specs.Descs.{as_read, as_write, stop_of, Since}
 

@@ -10,9 +10,9 @@ use Rattle.rule_base.specs.Bridge.{addresses}
 use Rattle.rule_base.specs.History.{member, touches}
 use Rattle.rule_base.specs.declared.entries.Cell.{Cell}
 use Rattle.stm_rule.specs.RecordsKept.{cells_of}
-use Rattle.tx_bell.specs.declared.stripes.Stripes.{Stripes}
-use Rattle.tx_bell.specs.Stripes.{Has, Covers}
-use Rattle.tx_logs.specs.Filters.{part_bit, address_word, filter_word}
+use Rattle.stm_bell.specs.declared.stripes.Stripes.{Stripes}
+use Rattle.stm_bell.specs.Stripes.{Has, Covers}
+use Rattle.stm_logs.specs.Filters.{part_bit, address_word, filter_word}
 
 -- the item of an address, by its number
 abbrev pub ItemOf : List (ℕ × ℕ) → ℕ → Type 0

@@ -2,10 +2,10 @@
 use Rattle.std.proofs.Common.{ℕ, ◌≡◌, List, Bool, true, false, refl, sym, ap, subst, ◌∙◌}
 use Rattle.std.specs.Prelude.{max, Option, Some, None, Result, Ok, Err}
 use Rattle.stm_model.specs.declared.stop.Stop.TheVariants as stops
-use Rattle.tx_answers.specs.declared.answers.Read.{Read}
-use Rattle.tx_answers.specs.declared.answers.Read.TheVariants as reads
-use Rattle.tx_answers.specs.declared.answers.Write.{Write}
-use Rattle.tx_answers.specs.declared.answers.Write.TheVariants as writes
+use Rattle.stm_answers.specs.declared.answers.Read.{Read}
+use Rattle.stm_answers.specs.declared.answers.Read.TheVariants as reads
+use Rattle.stm_answers.specs.declared.answers.Write.{Write}
+use Rattle.stm_answers.specs.declared.answers.Write.TheVariants as writes
 use Rattle.stm_model.specs.declared.alg.Alg.{Alg}
 use Rattle.stm_model.specs.declared.alg.Alg.TheVariants.{Cgl, Tml, OrecLazy, OrecEager, RingSw, Serial}
 use Rattle.stm_model.specs.Logs.{IsLog}
@@ -19,9 +19,9 @@ use Rattle.stm_model.specs.declared.config.Config.{Config}
 use Rattle.stm_model.specs.declared.stop.Stop.{Stop}
 use Rattle.stm_tx.specs.declared.live.Halt.{Halt}
 use Rattle.stm_rule.specs.Callers.{Handle, IsSameCaller}
-use Rattle.tx_answers.specs.Answers.{Stops}
-use Rattle.tx_answers.specs.CallerState.{CallerState, known_of, caller_of, written_under}
-use Rattle.tx_answers.specs.CallerStateLaws.{Carries, carries-refl, carries-trans}
+use Rattle.stm_answers.specs.Answers.{Stops}
+use Rattle.stm_answers.specs.CallerState.{CallerState, known_of, caller_of, written_under}
+use Rattle.stm_answers.specs.CallerStateLaws.{Carries, carries-refl, carries-trans}
 
 -- the answers of a read and of a write as an access gives them
 abbrev pub as_read : Read → Result ℕ Stop

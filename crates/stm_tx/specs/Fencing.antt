@@ -1,7 +1,7 @@
 -- A range of words out of the transactions, in the terms of what a caller knows.
 use Rattle.std.specs.Prelude.{ℕ, ◌==◌, ◌&&◌, not, if◌then◌else◌, Option, Some, None}
 use Rattle.rule_base.specs.Encodings.{fence_from, fence_count}
-use Rattle.tx_answers.specs.CallerState.{CallerState}
+use Rattle.stm_answers.specs.CallerState.{CallerState}
 
 -- the range that was out as the running attempt began
 abbrev pub fence_seen : CallerState → Option (ℕ × ℕ)

@@ -1,10 +1,10 @@
 -- Marks, in the terms of what a caller knows.
 use Rattle.std.specs.Prelude.{ℕ, ◌≡◌, ◌&&◌, ◌++◌, not, if◌then◌else◌, false, List}
 use Rattle.stm_model.specs.declared.config.Config.{Config}
-use Rattle.tx_answers.specs.declared.answers.Check.TheVariants.{Marked}
-use Rattle.tx_answers.specs.declared.answers.Roll.TheVariants.{Rolled}
-use Rattle.tx_answers.specs.Answers.{Checks, Rolls}
-use Rattle.tx_answers.specs.CallerState.{CallerState, is_irrevocable}
+use Rattle.stm_answers.specs.declared.answers.Check.TheVariants.{Marked}
+use Rattle.stm_answers.specs.declared.answers.Roll.TheVariants.{Rolled}
+use Rattle.stm_answers.specs.Answers.{Checks, Rolls}
+use Rattle.stm_answers.specs.CallerState.{CallerState, is_irrevocable}
 
 -- marks end with the first commit call, and with the attempt
 abbrev pub live_marks : CallerState → ℕ

@@ -6,8 +6,8 @@ use Rattle.rule_base.specs.Own.{Own}
 use Rattle.rule_base.specs.Rest.{Rest, AtRest}
 use Rattle.rule_base.specs.World.{World}
 use Rattle.stm_rule.specs.Product.{Invariant}
-use Rattle.tx_answers.specs.Answers.{HoldsClosed, SeesQuiet}
-use Rattle.tx_answers.specs.CallerState.{CallerState, known_of, is_irrevocable}
+use Rattle.stm_answers.specs.Answers.{HoldsClosed, SeesQuiet}
+use Rattle.stm_answers.specs.CallerState.{CallerState, known_of, is_irrevocable}
 
 -- an attempt that can't be taken back any more; but where it was granted by closing the gate, it holds the lock
 pub record IsFixed (v : CallerState) : Type 0 where

@@ -4,10 +4,10 @@ use Rattle.rule_base.specs.Bridge.{addresses}
 use Rattle.rule_base.specs.History.{member, touches}
 use Rattle.stm_rule.specs.Callers.{Handle}
 use Rattle.stm_rule.specs.declared.rung.Rung.{Rung}
-use Rattle.tx_answers.specs.declared.answers.Commit.{Commit}
-use Rattle.tx_answers.specs.declared.answers.Commit.TheVariants.{Committed, ReadOnly, Conflict, Again, ClockFull}
-use Rattle.tx_bell.specs.Bells.{rung_for}
-use Rattle.tx_bell.specs.Stripes.{Has}
+use Rattle.stm_answers.specs.declared.answers.Commit.{Commit}
+use Rattle.stm_answers.specs.declared.answers.Commit.TheVariants.{Committed, ReadOnly, Conflict, Again, ClockFull}
+use Rattle.stm_bell.specs.Bells.{rung_for}
+use Rattle.stm_bell.specs.Stripes.{Has}
 use Rattle.stm_tx.specs.Descs.{known}
 
 module _ {K : Type 0} where

@@ -2,13 +2,13 @@
 //! all return. Each adds no more atomic steps than its clause `steps` says: those of an attempt what the table `costs`
 //! has for its algorithm, whatever other callers do.
 ghost use Rattle.stm_rule.specs.Counting.{TakesAtMost};
-ghost use Rattle.tx_answers.specs.Counting.{AddsAtMost};
+ghost use Rattle.stm_answers.specs.Counting.{AddsAtMost};
 ghost use Rattle.stm_tx.specs.Costs.{costs};
 ghost use Rattle.std.specs.Prelude.{◌≡◌, ℕ, ◌<◌, ◌≤◌, ◌&&◌, true, MatchResult, false};
 ghost use Rattle.stm_rule.specs.Callers.{IsOf, IsSameCaller, IsSeatOf};
 ghost use Rattle.stm_rule.specs.Kept.{MovesView, view_of};
-ghost use Rattle.tx_answers.specs.Answers.{Begins, HasRead, HasWritten, KeepsRule, Commits, Cancels, Irrevs};
-ghost use Rattle.tx_answers.specs.CallerState.{IsIdle, IsRunning, is_irrevocable, state_of};
+ghost use Rattle.stm_answers.specs.Answers.{Begins, HasRead, HasWritten, KeepsRule, Commits, Cancels, Irrevs};
+ghost use Rattle.stm_answers.specs.CallerState.{IsIdle, IsRunning, is_irrevocable, state_of};
 ghost use Rattle.stm_gate.specs.Starts.{CanBegin, Starts};
 ghost use Rattle.stm_model.specs.Algorithms.{closes_gate};
 ghost use Rattle.rule_base.specs.Encodings.{fenced};
@@ -21,6 +21,7 @@ use alg_calls::algorithm::Algorithm;
 use alg_seq::cgl::Cgl;
 use rule_base::words::{alg_of, fence_of, holder_of};
 use std::alloc::Global;
+use stm_answers::answers::{Begin, Cancel, Irrev, Read, TxState, Write};
 use stm_gate::direct::{direct_load, direct_store};
 use stm_model::alg::Alg;
 use stm_model::memory::Memory;
@@ -28,7 +29,6 @@ use stm_model::rule::MemRule;
 use stm_rule::desc::Desc;
 use stm_rule::local::Local;
 use stm_rule::stm::{Stm, Token};
-use tx_answers::answers::{Begin, Cancel, Irrev, Read, TxState, Write};
 
 /// Tries to begin an attempt under the algorithm that the gate names. It asks for an idle descriptor.
 ///

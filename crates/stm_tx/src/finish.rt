@@ -19,18 +19,18 @@ ghost use Rattle.stm_rule.specs.Callers.{IsOf, IsSameCaller};
 ghost use Rattle.stm_tx.specs.Costs.{costs};
 ghost use Rattle.stm_tx.specs.Descs.{known, number};
 ghost use Rattle.stm_tx.specs.Rings.{HasRung, HasRungAs, IsLogged, RingsAs};
-ghost use Rattle.tx_answers.specs.Answers.{Commits, KeepsRule};
-ghost use Rattle.tx_answers.specs.Counting.{AddsAtMost};
+ghost use Rattle.stm_answers.specs.Answers.{Commits, KeepsRule};
+ghost use Rattle.stm_answers.specs.Counting.{AddsAtMost};
 
 use crate::stripes::written;
 use alg_calls::algorithm::Algorithm;
+use stm_answers::answers::Commit;
+use stm_bell::stripes::Stripes;
 use stm_model::alg::Alg;
 use stm_model::rule::MemRule;
 use stm_rule::desc::Desc;
 use stm_rule::rung::Rung;
 use stm_rule::stm::Stm;
-use tx_answers::answers::Commit;
-use tx_bell::stripes::Stripes;
 
 /// What a commit came to; and where it wrote, that the caller has rung.
 #[derive(Drop)]

@@ -20,6 +20,9 @@ pub use alg_ring::ring::RingSw;
 pub use alg_seq::cgl::Cgl;
 pub use alg_seq::serial::Serial;
 pub use alg_seq::tml::Tml;
+pub use stm_answers::answers::{
+    Begin, Cancel, Check, CloseGate, Commit, Fence, Give, Irrev, Look, Read, Roll, TxState, Write,
+};
 pub use stm_gate::gate;
 pub use stm_model::access::Access;
 pub use stm_model::alg::{ALGORITHMS, Alg};
@@ -33,6 +36,3 @@ pub use stm_rule::ending::Closed;
 pub use stm_rule::note::Note;
 pub use stm_rule::refusal::NewError;
 pub use stm_rule::stm::Stm;
-pub use tx_answers::answers::{
-    Begin, Cancel, Check, CloseGate, Commit, Fence, Give, Irrev, Look, Read, Roll, TxState, Write,
-};

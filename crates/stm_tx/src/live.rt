@@ -5,12 +5,12 @@ ghost use Rattle.stm_rule.specs.Callers.{IsOf};
 ghost use Rattle.stm_tx.specs.Descs.{known, address_of, as_read, as_write, Serves};
 
 use crate::serving::Calls;
+use stm_answers::answers::{Read, Write};
 use stm_model::access::Access;
 use stm_model::rule::MemRule;
 use stm_model::stop::Stop;
 use stm_rule::desc::Desc;
 use stm_rule::stm::Stm;
-use tx_answers::answers::{Read, Write};
 
 /// Where and why an attempt was stopped: the address of the read or write that was refused.
 #[derive(Clone, Copy, Drop)]

@@ -4,18 +4,18 @@
 ghost use Rattle.alg_calls.specs.Costs.{roll_steps};
 ghost use Rattle.std.specs.Prelude.{◌≡◌, ℕ, ◌≤◌, true, if◌then◌else◌, ◌&&◌, not, ◌+◌, length};
 ghost use Rattle.stm_rule.specs.Callers.{IsOf, IsSameCaller};
-ghost use Rattle.tx_answers.specs.Answers.{Checks, Rolls, Releases};
-ghost use Rattle.tx_answers.specs.Counting.{AddsAtMost};
-ghost use Rattle.tx_answers.specs.CallerState.{IsRunning};
+ghost use Rattle.stm_answers.specs.Answers.{Checks, Rolls, Releases};
+ghost use Rattle.stm_answers.specs.Counting.{AddsAtMost};
+ghost use Rattle.stm_answers.specs.CallerState.{IsRunning};
 ghost use Rattle.stm_tx.specs.Descs.{known, number};
 ghost use Rattle.stm_tx.specs.Nesting.{live_marks, RollsToMark};
 
 use crate::under;
 use alg_calls::algorithm::Algorithm;
+use stm_answers::answers::{Check, Roll};
 use stm_model::rule::MemRule;
 use stm_rule::desc::Desc;
 use stm_rule::stm::Stm;
-use tx_answers::answers::{Check, Roll};
 
 /// Makes a mark at what the attempt has written: `depth` counts those that stand. Once the attempt is irrevocable a
 /// mark is a number, since it can't be rolled back to. `Deep` comes exactly where as many stand as the memory's

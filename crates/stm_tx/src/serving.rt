@@ -3,9 +3,9 @@
 ghost use Rattle.std.specs.Prelude.{◌≡◌, ◌<◌, true, false};
 ghost use Rattle.rule_base.specs.Encodings.{fenced};
 ghost use Rattle.stm_rule.specs.Callers.{IsOf, IsSameCaller};
-ghost use Rattle.tx_answers.specs.Answers.{HasRead, HasWritten, KeepsRule, Commits};
-ghost use Rattle.tx_answers.specs.Counting.{AddsAtMost};
-ghost use Rattle.tx_answers.specs.CallerState.{IsRunning};
+ghost use Rattle.stm_answers.specs.Answers.{HasRead, HasWritten, KeepsRule, Commits};
+ghost use Rattle.stm_answers.specs.Counting.{AddsAtMost};
+ghost use Rattle.stm_answers.specs.CallerState.{IsRunning};
 ghost use Rattle.stm_tx.specs.Costs.{costs};
 ghost use Rattle.stm_tx.specs.Descs.{known, number, Serves};
 ghost use Rattle.stm_tx.specs.Rings.{HasRung};
@@ -15,11 +15,11 @@ use crate::finish::{Finish, commit_by};
 use alg_calls::algorithm::Algorithm;
 use alg_seq::cgl::Cgl;
 use std::marker::PhantomData;
+use stm_answers::answers::{Read, Write};
 use stm_model::alg::Alg;
 use stm_model::rule::MemRule;
 use stm_rule::desc::Desc;
 use stm_rule::stm::Stm;
-use tx_answers::answers::{Read, Write};
 
 /// Reads, writes and commits of the attempts that it serves. What they do, and what they cost, is said at
 /// `calls::read`, `calls::write` and `calls::commit`.

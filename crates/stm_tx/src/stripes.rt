@@ -5,14 +5,14 @@ ghost use Rattle.rule_base.specs.Bridge.{addresses};
 ghost use Rattle.rule_base.specs.History.{member, touches};
 ghost use Rattle.stm_tx.specs.Descs.{known};
 ghost use Rattle.stm_tx.specs.Rings.{HasSeen};
-ghost use Rattle.tx_bell.specs.Stripes.{Has};
+ghost use Rattle.stm_bell.specs.Stripes.{Has};
 
+use stm_bell::stripes::Stripes;
+use stm_logs::filter::Filter;
+use stm_logs::read_log::ReadLog;
 use stm_model::alg::Alg;
 use stm_model::rule::MemRule;
 use stm_rule::desc::Desc;
-use tx_bell::stripes::Stripes;
-use tx_logs::filter::Filter;
-use tx_logs::read_log::ReadLog;
 
 /// Of the words that the running attempt has read. After it has ended it stays so until the next begins.
 pub fn read<K: MemRule>(desc: &Desc<K>) -> Stripes

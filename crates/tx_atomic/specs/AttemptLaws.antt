@@ -8,16 +8,16 @@ use Rattle.stm_rule.specs.Callers.{Handle, IsSameCaller}
 use Rattle.stm_model.specs.declared.config.Config.{Config}
 use Rattle.stm_model.specs.declared.stop.Stop.{Stop}
 use Rattle.stm_model.specs.declared.stop.Stop.TheVariants as stops
-use Rattle.tx_answers.specs.declared.answers.Cancel.{Cancel}
-use Rattle.tx_answers.specs.declared.answers.Cancel.TheVariants.{Cancelled, Irrevocable}
-use Rattle.tx_answers.specs.declared.answers.Commit.{Commit}
-use Rattle.tx_answers.specs.declared.answers.Commit.TheVariants.{Committed, ReadOnly}
-use Rattle.tx_answers.specs.declared.answers.Commit.TheVariants as commits
-use Rattle.tx_answers.specs.declared.answers.Irrev.{Irrev}
-use Rattle.tx_answers.specs.declared.answers.Irrev.TheVariants as grants
-use Rattle.tx_answers.specs.Answers.{Cancels, Commits, Irrevs, Stops}
-use Rattle.tx_answers.specs.CallerState.{CallerState, Grows, IsIdle, caller_of, is_irrevocable}
-use Rattle.tx_answers.specs.CallerStateLaws.{grows-trans}
+use Rattle.stm_answers.specs.declared.answers.Cancel.{Cancel}
+use Rattle.stm_answers.specs.declared.answers.Cancel.TheVariants.{Cancelled, Irrevocable}
+use Rattle.stm_answers.specs.declared.answers.Commit.{Commit}
+use Rattle.stm_answers.specs.declared.answers.Commit.TheVariants.{Committed, ReadOnly}
+use Rattle.stm_answers.specs.declared.answers.Commit.TheVariants as commits
+use Rattle.stm_answers.specs.declared.answers.Irrev.{Irrev}
+use Rattle.stm_answers.specs.declared.answers.Irrev.TheVariants as grants
+use Rattle.stm_answers.specs.Answers.{Cancels, Commits, Irrevs, Stops}
+use Rattle.stm_answers.specs.CallerState.{CallerState, Grows, IsIdle, caller_of, is_irrevocable}
+use Rattle.stm_answers.specs.CallerStateLaws.{grows-trans}
 use Rattle.stm_tx.specs.declared.live.Halt.{Halt}
 use Rattle.stm_tx.specs.Descs.{Since, number, stop_of}
 use Rattle.tx_atomic.specs.Attempts.{TookEffect}

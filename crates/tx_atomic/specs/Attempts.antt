@@ -4,9 +4,9 @@ use Rattle.stm_model.specs.declared.config.Config.{Config}
 use Rattle.stm_model.specs.declared.stop.Stop.{Stop}
 use Rattle.stm_model.specs.declared.stop.Stop.TheVariants as stops
 use Rattle.stm_model.specs.Logs.{Log, Keeps}
-use Rattle.tx_answers.specs.declared.answers.Commit.TheVariants.{Committed, ReadOnly}
-use Rattle.tx_answers.specs.Answers.{Commits}
-use Rattle.tx_answers.specs.CallerState.{CallerState, IsRunning, no_log}
+use Rattle.stm_answers.specs.declared.answers.Commit.TheVariants.{Committed, ReadOnly}
+use Rattle.stm_answers.specs.Answers.{Commits}
+use Rattle.stm_answers.specs.CallerState.{CallerState, IsRunning, no_log}
 use Rattle.tx_atomic.specs.declared.tally.Ended.{Ended}
 use Rattle.tx_atomic.specs.declared.tally.Ended.TheVariants as ends
 use Rattle.tx_atomic.specs.Extends.{Extends}

@@ -8,7 +8,7 @@ use Rattle.stm_model.specs.Histories.{made_by}
 use Rattle.stm_rule.specs.Callers.{Handle, IsOf, AllOpened, AllIdle, BeginsHistory}
 use Rattle.stm_rule.specs.Closings.{AllTold, Ended}
 use Rattle.stm_tx.specs.Descs.{known}
-use Rattle.tx_answers.specs.CallerState.{IsIdle, known_of}
+use Rattle.stm_answers.specs.CallerState.{IsIdle, known_of}
 use Rattle.tx_atomic.specs.Callers.{IsReady, IsThrough, HasWorked, AllReady}
 use Rattle.tx_atomic.specs.Extends.{Extends}
 use Rattle.tx_atomic.specs.ExtendsLaws.{extends-refl, extends-trans}

@@ -4,7 +4,7 @@ use Rattle.rule_base.specs.declared.seats.Role.TheVariants.{Caller}
 use Rattle.stm_rule.specs.declared.stm.Stm.{Stm}
 use Rattle.stm_rule.specs.Callers.{Handle, IsOf, IsSameCaller}
 use Rattle.stm_model.specs.Logs.{Log}
-use Rattle.tx_answers.specs.CallerState.{IsIdle}
+use Rattle.stm_answers.specs.CallerState.{IsIdle}
 use Rattle.stm_tx.specs.Descs.{known, number}
 use Rattle.tx_atomic.specs.Attempts.{TookEffect}
 use Rattle.tx_atomic.specs.Extends.{Extends}

@@ -3,7 +3,7 @@ use Rattle.std.specs.Prelude.{◌≡◌, ◌≤◌, ◌++◌, List}
 use Rattle.stm_model.specs.Histories.{Entry, Ascending}
 use Rattle.stm_model.specs.HistoryLaws.{Within}
 use Rattle.rule_base.specs.declared.views.TracedStep.{TracedStep}
-use Rattle.tx_answers.specs.CallerState.{CallerState}
+use Rattle.stm_answers.specs.CallerState.{CallerState}
 
 -- as `Grows`, but that its logs may be longer: it has seen at least as much, up to a later front; its step trace has
 -- grown, its logs are no shorter, and its fence is as it was

@@ -1,8 +1,8 @@
 -- Laws of how what a caller knows goes on.
 use Rattle.std.proofs.Common.{ℕ, ◌≤◌, ◌++◌, ◌∙◌, [], sym, ap, arith, append_assoc, inl, inr}
 use Rattle.std.proofs.lemmas.List.{append-nil}
-use Rattle.tx_answers.specs.CallerState.{CallerState, Grows}
-use Rattle.tx_answers.specs.CallerStateLaws.{ascending-append, carries-refl, within-append}
+use Rattle.stm_answers.specs.CallerState.{CallerState, Grows}
+use Rattle.stm_answers.specs.CallerStateLaws.{ascending-append, carries-refl, within-append}
 use Rattle.tx_atomic.specs.Extends.{Extends}
 use Rattle.tx_atomic.specs.Lengths.{Lengthens, MayLengthen}
 

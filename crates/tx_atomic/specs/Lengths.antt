@@ -1,6 +1,6 @@
 -- How long the logs of a caller become, between two attempts.
 use Rattle.std.specs.Prelude.{ℕ, ◌≡◌, ◌<◌, ◌*◌, ◌==◌, ◌⊎◌, if◌then◌else◌, max, min}
-use Rattle.tx_answers.specs.CallerState.{CallerState}
+use Rattle.stm_answers.specs.CallerState.{CallerState}
 
 -- twice as long, up to `most`
 abbrev pub doubled : ℕ → ℕ → ℕ

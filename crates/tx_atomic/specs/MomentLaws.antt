@@ -8,10 +8,10 @@ use Rattle.stm_model.specs.HistoryLaws.{memory_at-append, memory_at-early, memor
 use Rattle.stm_model.specs.Logs.{Log}
 use Rattle.stm_model.specs.Memories.{overlay, Explains, is_empty}
 use Rattle.stm_rule.specs.Callers.{BeginsHistory}
-use Rattle.tx_answers.specs.declared.answers.Commit.TheVariants.{Committed, ReadOnly}
-use Rattle.tx_answers.specs.Answers.{Commits, CommitsAt, EndsAt, entry}
-use Rattle.tx_answers.specs.CallerState.{CallerState, wrote, zeros}
-use Rattle.tx_answers.specs.CallerStateLaws.{ascending-append}
+use Rattle.stm_answers.specs.declared.answers.Commit.TheVariants.{Committed, ReadOnly}
+use Rattle.stm_answers.specs.Answers.{Commits, CommitsAt, EndsAt, entry}
+use Rattle.stm_answers.specs.CallerState.{CallerState, wrote, zeros}
+use Rattle.stm_answers.specs.CallerStateLaws.{ascending-append}
 use Rattle.tx_atomic.specs.Attempts.{TookEffect}
 use Rattle.tx_atomic.specs.Extends.{Extends}
 use Rattle.tx_atomic.specs.Moments.{Happened}

@@ -5,7 +5,7 @@ use Rattle.stm_model.specs.Histories.{Entry, memory_at}
 use Rattle.stm_model.specs.Logs.{Log}
 use Rattle.stm_model.specs.Memories.{overlay, Explains, is_empty}
 use Rattle.stm_rule.specs.Callers.{BeginsHistory}
-use Rattle.tx_answers.specs.CallerState.{CallerState, zeros}
+use Rattle.stm_answers.specs.CallerState.{CallerState, zeros}
 use Rattle.tx_atomic.specs.Attempts.{TookEffect}
 use Rattle.tx_atomic.specs.Extends.{Extends}
 

@@ -2,10 +2,10 @@
 use Rattle.std.specs.Prelude.{ℕ, zero, suc, ◌≡◌, ◌+◌, ◌-◌, ◌^◌, min, List}
 use Rattle.stm_model.specs.declared.alg.Alg.{Alg}
 use Rattle.stm_model.specs.declared.config.Config.{Config}
-use Rattle.tx_answers.specs.declared.answers.CloseGate.TheVariants as gates
-use Rattle.tx_answers.specs.declared.answers.Look.TheVariants as looks
-use Rattle.tx_answers.specs.Answers.{Closes, Looks, Installs, Reopens}
-use Rattle.tx_answers.specs.CallerState.{CallerState}
+use Rattle.stm_answers.specs.declared.answers.CloseGate.TheVariants as gates
+use Rattle.stm_answers.specs.declared.answers.Look.TheVariants as looks
+use Rattle.stm_answers.specs.Answers.{Closes, Looks, Installs, Reopens}
+use Rattle.stm_answers.specs.CallerState.{CallerState}
 use Rattle.tx_atomic.specs.declared.switching.Hindrance.{Hindrance}
 use Rattle.tx_atomic.specs.declared.switching.Hindrance.TheVariants.{Taken, Busy}
 

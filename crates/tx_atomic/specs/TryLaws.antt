@@ -10,17 +10,17 @@ use Rattle.stm_model.specs.declared.stop.Stop.TheVariants as stops
 use Rattle.rule_base.specs.declared.layout.At.{At}
 use Rattle.rule_base.specs.declared.layout.At.TheVariants.{Clock}
 use Rattle.stm_model.specs.declared.alg.Alg.{Alg}
-use Rattle.tx_answers.specs.declared.answers.Begin.{Begin}
-use Rattle.tx_answers.specs.declared.answers.Begin.TheVariants as begins
-use Rattle.tx_answers.specs.declared.answers.Commit.{Commit}
-use Rattle.tx_answers.specs.declared.answers.Commit.TheVariants as commits
-use Rattle.tx_answers.specs.declared.answers.Irrev.{Irrev}
-use Rattle.tx_answers.specs.declared.answers.Irrev.TheVariants as grants
-use Rattle.tx_answers.specs.Answers.{Begins, Commits, Irrevs, Stops}
-use Rattle.tx_answers.specs.Causes.{FindsFull}
-use Rattle.tx_answers.specs.Evidence.{Found}
-use Rattle.tx_answers.specs.CallerState.{CallerState, Grows, is_irrevocable}
-use Rattle.tx_answers.specs.CallerStateLaws.{carries-refl, grows-trans}
+use Rattle.stm_answers.specs.declared.answers.Begin.{Begin}
+use Rattle.stm_answers.specs.declared.answers.Begin.TheVariants as begins
+use Rattle.stm_answers.specs.declared.answers.Commit.{Commit}
+use Rattle.stm_answers.specs.declared.answers.Commit.TheVariants as commits
+use Rattle.stm_answers.specs.declared.answers.Irrev.{Irrev}
+use Rattle.stm_answers.specs.declared.answers.Irrev.TheVariants as grants
+use Rattle.stm_answers.specs.Answers.{Begins, Commits, Irrevs, Stops}
+use Rattle.stm_answers.specs.Causes.{FindsFull}
+use Rattle.stm_answers.specs.Evidence.{Found}
+use Rattle.stm_answers.specs.CallerState.{CallerState, Grows, is_irrevocable}
+use Rattle.stm_answers.specs.CallerStateLaws.{carries-refl, grows-trans}
 use Rattle.stm_tx.specs.declared.live.Halt.{Halt}
 use Rattle.stm_tx.specs.Descs.{Since, address_of, stop_of}
 use Rattle.tx_atomic.specs.declared.tally.Ended.{Ended}

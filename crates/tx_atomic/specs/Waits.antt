@@ -5,8 +5,8 @@ use Rattle.stm_rule.specs.declared.stm.Stm.{Stm}
 use Rattle.stm_rule.specs.Callers.{Handle}
 use Rattle.tx_atomic.specs.declared.waiting.Waiting.{Waiting}
 use Rattle.tx_atomic.specs.Callers.{Took}
-use Rattle.tx_bell.specs.Bells.{waits_for}
-use Rattle.tx_bell.specs.declared.stripes.Stripes.{Stripes}
+use Rattle.stm_bell.specs.Bells.{waits_for}
+use Rattle.stm_bell.specs.declared.stripes.Stripes.{Stripes}
 use Rattle.tx_watching.specs.Watches.{CoverReads}
 
 -- for which words a caller waits, and how it stood as it announced that

@@ -1,11 +1,11 @@
 //! A transaction, tried until it commits.
 ghost use Rattle.std.specs.Prelude.{◌≡◌, ℕ, Bool, IfSome, IfNone, Some, None};
 ghost use Rattle.stm_rule.specs.Callers.{IsSameCaller};
-ghost use Rattle.tx_answers.specs.CallerState.{IsIdle};
+ghost use Rattle.stm_answers.specs.CallerState.{IsIdle};
 ghost use Rattle.stm_tx.specs.Descs.{known, number};
 ghost use Rattle.tx_atomic.specs.Accounts.{account, ended_in};
 ghost use Rattle.tx_atomic.specs.Callers.{IsReady, IsThrough, Took};
-ghost use Rattle.tx_answers.specs.Causes.{FindsFull};
+ghost use Rattle.stm_answers.specs.Causes.{FindsFull};
 ghost use Rattle.tx_atomic.specs.Extends.{Extends};
 ghost use Rattle.tx_atomic.specs.Tallies.{CommitsStay, CommitsRise, failed_after, failed_next};
 ghost use Rattle.tx_atomic.specs.declared.tally.Ended.TheVariants.{ClockFull};

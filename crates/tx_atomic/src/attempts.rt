@@ -1,8 +1,8 @@
 //! One attempt at a transaction. Each part begins with what the one before it left.
 ghost use Rattle.std.specs.Prelude.{◌≡◌, ◌≤◌, true, false, IfOk, OnOk, IfErr, OnErr, MatchResult, Some, None};
 ghost use Rattle.stm_rule.specs.Callers.{IsOf, IsSameCaller};
-ghost use Rattle.tx_answers.specs.Answers.{KeepsRule, Commits};
-ghost use Rattle.tx_answers.specs.CallerState.{Grows, IsIdle, is_irrevocable};
+ghost use Rattle.stm_answers.specs.Answers.{KeepsRule, Commits};
+ghost use Rattle.stm_answers.specs.CallerState.{Grows, IsIdle, is_irrevocable};
 ghost use Rattle.stm_tx.specs.Descs.{known, number, Serves};
 ghost use Rattle.tx_atomic.specs.Accounts.{account, told};
 ghost use Rattle.tx_atomic.specs.Tallies.{CommitsStay};
@@ -16,6 +16,7 @@ use crate::pace::{Pacing, Refused};
 use crate::tally::Ended;
 use crate::waking::wake_for;
 use std::sync::Wait;
+use stm_answers::answers::{Begin, Commit, Irrev};
 use stm_model::rule::MemRule;
 use stm_rule::desc::Desc;
 use stm_rule::stm::Stm;
@@ -25,7 +26,6 @@ use stm_tx::finish::Finish;
 use stm_tx::live::Live;
 use stm_tx::serving::{AnyAlgorithm, Calls, Only};
 use stm_tx::{Algorithm, Cgl, under};
-use tx_answers::answers::{Begin, Commit, Irrev};
 use tx_transaction::transaction::Transaction;
 
 /// The word that a commit names where another holds the lock; else it names the clock, which moved.

@@ -1,7 +1,7 @@
 //! How a caller's logs are lengthened, between two attempts at a transaction.
 ghost use Rattle.std.specs.Prelude.{◌≡◌, ◌≤◌, length, max, true, false};
 ghost use Rattle.stm_rule.specs.Callers.{IsSameCaller};
-ghost use Rattle.tx_answers.specs.CallerState.{IsIdle};
+ghost use Rattle.stm_answers.specs.CallerState.{IsIdle};
 ghost use Rattle.stm_tx.specs.Descs.{known};
 ghost use Rattle.tx_atomic.specs.Lengths.{Lengthens, length_wanted};
 

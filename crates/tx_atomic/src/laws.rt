@@ -2,8 +2,8 @@
 ghost use Rattle.tx_atomic.specs.Moments.{HaveMoments};
 ghost use Rattle.tx_watching.specs.Watches.{CoverReads};
 
+use stm_bell::stripes::Stripes;
 use stm_model::rule::MemRule;
-use tx_bell::stripes::Stripes;
 use tx_transaction::transaction::Transaction;
 
 /// Each transaction that took effect (`took` of `atomically`) has its moment in the history that begins with what its

@@ -1,10 +1,10 @@
 //! Waits for a gate that another has closed, for a range that is out, and for others to leave their attempts.
 
 use std::sync::Wait;
+use stm_bell::stripes::Stripes;
 use stm_model::rule::MemRule;
 use stm_rule::stm::Stm;
 use tx_backoff::Backoff;
-use tx_bell::stripes::Stripes;
 
 /// Pauses; and after about a millisecond sleeps by the memory's bell, for another at most. A reopening rings it, and a
 /// commit that wrote; the end of another attempt doesn't, which is why the sleep is no longer.

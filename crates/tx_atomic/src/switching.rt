@@ -2,8 +2,8 @@
 ghost use Rattle.std.specs.Prelude.{◌≡◌, ◌≤◌, ◌+◌, ◌∷◌, ◌++◌, [], true, OnOk, OnErr, IfErr};
 ghost use Rattle.stm_model.specs.Algorithms.{install_rise};
 ghost use Rattle.stm_rule.specs.Callers.{IsOf, IsSameCaller};
-ghost use Rattle.tx_answers.specs.Answers.{HoldsClosed, SeesQuiet};
-ghost use Rattle.tx_answers.specs.CallerState.{Grows};
+ghost use Rattle.stm_answers.specs.Answers.{HoldsClosed, SeesQuiet};
+ghost use Rattle.stm_answers.specs.CallerState.{Grows};
 ghost use Rattle.stm_tx.specs.Descs.{known, number};
 ghost use Rattle.tx_atomic.specs.Callers.{IsReady, IsThrough};
 ghost use Rattle.tx_atomic.specs.Switches.{ComesAlone, IsHindered, SeesLeave, Switches};
@@ -11,12 +11,12 @@ ghost use Rattle.tx_atomic.specs.Switches.{ComesAlone, IsHindered, SeesLeave, Sw
 use crate::napping::nap;
 use crate::waking::wake_for;
 use std::sync::Wait;
+use stm_answers::answers::{CloseGate, Look};
 use stm_model::alg::Alg;
 use stm_model::rule::MemRule;
 use stm_rule::desc::Desc;
 use stm_rule::stm::Stm;
 use stm_tx::gate::{close_gate, install, look, reopen};
-use tx_answers::answers::{CloseGate, Look};
 use tx_backoff::Backoff;
 
 /// Who was in the way of a caller that was to be alone.

@@ -11,7 +11,7 @@
 //! that it read since (`sleep`), and who has written rings (`commit` of stm_tx).
 ghost use Rattle.std.specs.Prelude.{◌≡◌, ℕ, [], IfSome, IfNone, Some, None};
 ghost use Rattle.stm_model.specs.Logs.{Log};
-ghost use Rattle.tx_answers.specs.Causes.{FindsFull};
+ghost use Rattle.stm_answers.specs.Causes.{FindsFull};
 ghost use Rattle.stm_tx.specs.Descs.{known, number};
 ghost use Rattle.tx_atomic.specs.Accounts.{account};
 ghost use Rattle.tx_atomic.specs.Callers.{IsReady, IsThrough, Took};
@@ -25,12 +25,12 @@ use crate::observer::Observer;
 use crate::pace::Pacing;
 use std::snapshot::Snapshot;
 use std::sync::Wait;
+use stm_bell::bell::Announced;
+use stm_bell::stripes::Stripes;
 use stm_model::rule::MemRule;
 use stm_rule::desc::Desc;
 use stm_rule::stm::Stm;
 use tx_backoff::{Backoff, Patience};
-use tx_bell::bell::Announced;
-use tx_bell::stripes::Stripes;
 use tx_transaction::transaction::Transaction;
 use tx_watching::watched::Watched;
 

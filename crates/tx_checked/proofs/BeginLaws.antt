@@ -1,8 +1,8 @@
 -- A begin by what is written down of it.
 use Rattle.std.proofs.Common.{◌≡◌, ◌∙◌, sym, ap, subst}
 use Rattle.std.specs.Prelude.{Option, None, Ok}
-use Rattle.tx_answers.specs.declared.answers.Begin.{Begin}
-use Rattle.tx_answers.specs.declared.answers.Begin.TheVariants as begins
+use Rattle.stm_answers.specs.declared.answers.Begin.{Begin}
+use Rattle.stm_answers.specs.declared.answers.Begin.TheVariants as begins
 use Rattle.tx_checked.specs.declared.calls.Opened.{Opened}
 use Rattle.tx_checked.specs.declared.calls.Opened.TheVariants as opens
 use Rattle.tx_checked.specs.declared.checked_caller.CheckedCaller.{CheckedCaller}

@@ -1,8 +1,8 @@
 -- What a caller knows grows, but for its range.
 use Rattle.std.proofs.Common.{◌≡◌, [], ◌∷◌, refl, ap}
-use Rattle.tx_answers.specs.Fences.{StaysBeside}
-use Rattle.tx_answers.specs.CallerState.{CallerState, Grows}
-use Rattle.tx_answers.specs.CallerStateLaws.{grows-same, grows-trans}
+use Rattle.stm_answers.specs.Fences.{StaysBeside}
+use Rattle.stm_answers.specs.CallerState.{CallerState, Grows}
+use Rattle.stm_answers.specs.CallerStateLaws.{grows-same, grows-trans}
 use Rattle.tx_checked.specs.Ranges.{GrowsBeside}
 
 pub beside-of : (v w : CallerState) → Grows v w → GrowsBeside v w

@@ -14,11 +14,11 @@ use Rattle.rule_base.specs.StepKinds.{Nothing, Tells, view_after}
 use Rattle.rule_base.specs.World.{World}
 use Rattle.stm_rule.specs.Attempts.{IsOutside}
 use Rattle.stm_rule.specs.Findings.{FindsGate}
-use Rattle.tx_answers.specs.declared.answers.CloseGate.{CloseGate}
-use Rattle.tx_answers.specs.declared.answers.CloseGate.TheVariants.{Closed, Taken}
-use Rattle.tx_answers.specs.Answers.{Closes, Stays}
-use Rattle.tx_answers.specs.CallerState.{CallerState, known_of, is_in, is_closing}
-use Rattle.tx_answers.specs.CallerStateLaws.{grows-same, grows-trans}
+use Rattle.stm_answers.specs.declared.answers.CloseGate.{CloseGate}
+use Rattle.stm_answers.specs.declared.answers.CloseGate.TheVariants.{Closed, Taken}
+use Rattle.stm_answers.specs.Answers.{Closes, Stays}
+use Rattle.stm_answers.specs.CallerState.{CallerState, known_of, is_in, is_closing}
+use Rattle.stm_answers.specs.CallerStateLaws.{grows-same, grows-trans}
 use Rattle.stm_gate.specs.InnerLaws.{unlocked-of}
 use Rattle.stm_gate.specs.LeavingLaws.{found-earlier}
 use Rattle.tx_checked.specs.Alone.{HasClosedBy, HasLookedBy, IsHeldUp, IsTakeRefused, LooksAtGate}

@@ -3,11 +3,11 @@ use Rattle.std.proofs.Common.{ℕ, ◌≡◌, List, [], ◌∷◌, ◌++◌, len
 use Rattle.stm_model.specs.declared.config.Config.{Config}
 use Rattle.stm_model.specs.Histories.{Entry, IsLegal}
 use Rattle.stm_model.specs.Memories.{is_empty}
-use Rattle.tx_answers.specs.declared.answers.Give.{Give}
-use Rattle.tx_answers.specs.declared.answers.Give.TheVariants.{Committed, Unchanged, ClockFull}
-use Rattle.tx_answers.specs.Answers.{Stays, entry}
-use Rattle.tx_answers.specs.Fences.{Gives, StaysClosed}
-use Rattle.tx_answers.specs.CallerState.{CallerState, Grows, Fenced, zeros}
+use Rattle.stm_answers.specs.declared.answers.Give.{Give}
+use Rattle.stm_answers.specs.declared.answers.Give.TheVariants.{Committed, Unchanged, ClockFull}
+use Rattle.stm_answers.specs.Answers.{Stays, entry}
+use Rattle.stm_answers.specs.Fences.{Gives, StaysClosed}
+use Rattle.stm_answers.specs.CallerState.{CallerState, Grows, Fenced, zeros}
 use Rattle.tx_checked.specs.Ranges.{GivesBack}
 use Rattle.tx_checked.specs.Phases.{Any}
 

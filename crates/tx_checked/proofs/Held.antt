@@ -1,7 +1,7 @@
 -- What is written down of a caller that has done nothing.
 use Rattle.std.proofs.Common.{◌≡◌, ℕ, [], sym, subst, arith}
 use Rattle.std.specs.Prelude.{Some, None}
-use Rattle.tx_answers.specs.CallerState.{CallerState, Fenced, IsIdle}
+use Rattle.stm_answers.specs.CallerState.{CallerState, Fenced, IsIdle}
 use Rattle.tx_checked.specs.declared.phase.CallerPhase.TheVariants.{Idle, Running, Beside, Committing, Closing}
 use Rattle.tx_checked.specs.Dates.{AllBy, IsDated}
 use Rattle.tx_checked.specs.Phases.{HasRange, IsInPhase}

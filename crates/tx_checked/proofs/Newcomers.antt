@@ -9,7 +9,7 @@ use Rattle.stm_model.specs.declared.rule.AnyMem.{AnyMem}
 use Rattle.stm_rule.specs.declared.stm.Stm.{Stm}
 use Rattle.stm_rule.specs.Callers.{Handle, IsOf, AllOpened}
 use Rattle.stm_tx.specs.Descs.{known, number}
-use Rattle.tx_answers.specs.CallerState.{CallerState, IsIdle, known_of, caller_of}
+use Rattle.stm_answers.specs.CallerState.{CallerState, IsIdle, known_of, caller_of}
 use Rattle.tx_atomic.specs.declared.switching.Hindrance.{Hindrance}
 use Rattle.tx_atomic.specs.declared.switching.Hindrance.TheVariants.{Taken, Busy}
 use Rattle.tx_atomic.specs.Switches.{IsHindered}

@@ -18,7 +18,7 @@ use Rattle.stm_rule.specs.Callers.{BeginsHistory, made_of, seen_of, front_of, ta
 use Rattle.stm_rule.proofs.KindLaws.Lifted.{hears}
 use Rattle.stm_rule.specs.NoteSteps.{hear}
 use Rattle.stm_rule.specs.Product.{Invariant}
-use Rattle.tx_answers.specs.CallerState.{zeros}
+use Rattle.stm_answers.specs.CallerState.{zeros}
 use Rattle.tx_atomic.specs.ExtendsLaws.{grows-extends}
 use Rattle.tx_atomic.specs.MomentLaws.{happened}
 use Rattle.tx_checked.specs.declared.checked_caller.CheckedCaller.{CheckedCaller}

@@ -3,12 +3,12 @@ use Rattle.std.proofs.Common.{ℕ, ◌≡◌, ◌∙◌, List, [], ◌∷◌, su
 use Rattle.std.specs.Prelude.{None, Ok}
 use Rattle.stm_model.specs.declared.alg.Alg.{Alg}
 use Rattle.stm_model.specs.Logs.{Log, Reads}
-use Rattle.tx_answers.specs.Answers.{Commits}
-use Rattle.tx_answers.specs.CallerState.{no_log}
-use Rattle.tx_answers.specs.CallerStateLaws.{grows-trans}
-use Rattle.tx_answers.specs.declared.answers.Begin.{Begin}
-use Rattle.tx_answers.specs.declared.answers.Begin.TheVariants as begins
-use Rattle.tx_answers.specs.declared.answers.Commit.TheVariants as commits
+use Rattle.stm_answers.specs.Answers.{Commits}
+use Rattle.stm_answers.specs.CallerState.{no_log}
+use Rattle.stm_answers.specs.CallerStateLaws.{grows-trans}
+use Rattle.stm_answers.specs.declared.answers.Begin.{Begin}
+use Rattle.stm_answers.specs.declared.answers.Begin.TheVariants as begins
+use Rattle.stm_answers.specs.declared.answers.Commit.TheVariants as commits
 use Rattle.tx_atomic.specs.AttemptLaws.{same-number}
 use Rattle.tx_atomic.specs.ExtendsLaws.{grows-extends}
 use Rattle.tx_checked.specs.declared.calls.Opened.TheVariants as opens

@@ -1,11 +1,11 @@
 -- What the refusals of one call are to another.
 use Rattle.std.proofs.Common.{ℕ, ◌≡◌, Bool, subst}
 use Rattle.stm_model.specs.declared.config.Config.{Config}
-use Rattle.tx_answers.specs.declared.answers.Give.{Give}
-use Rattle.tx_answers.specs.declared.answers.Give.TheVariants as gives
-use Rattle.tx_answers.specs.Answers.{Reopens}
-use Rattle.tx_answers.specs.Fences.{Gives}
-use Rattle.tx_answers.specs.CallerState.{CallerState}
+use Rattle.stm_answers.specs.declared.answers.Give.{Give}
+use Rattle.stm_answers.specs.declared.answers.Give.TheVariants as gives
+use Rattle.stm_answers.specs.Answers.{Reopens}
+use Rattle.stm_answers.specs.Fences.{Gives}
+use Rattle.stm_answers.specs.CallerState.{CallerState}
 use Rattle.tx_checked.specs.Alone.{IsAlone, FindsFullAt}
 use Rattle.tx_checked.specs.Phases.{Any}
 

@@ -5,16 +5,16 @@ use Rattle.rule_base.specs.declared.views.Act.TheVariants.{Load}
 use Rattle.rule_base.specs.declared.views.TracedStep.{TracedStep}
 use Rattle.rule_base.specs.Encodings.{fence_of, gate_word, holder_of}
 use Rattle.stm_model.specs.declared.config.Config.{Config}
-use Rattle.tx_answers.specs.declared.answers.CloseGate.TheVariants as gates
-use Rattle.tx_answers.specs.declared.answers.Give.{Give}
-use Rattle.tx_answers.specs.declared.answers.Give.TheVariants as gives
-use Rattle.tx_answers.specs.declared.answers.Look.TheVariants as looks
-use Rattle.tx_answers.specs.Answers.{Closes, HasOthers, Looks, Reopens, Stays}
-use Rattle.tx_answers.specs.Causes.{NamesOther}
-use Rattle.tx_answers.specs.Counting.{AddsAtMost}
-use Rattle.tx_answers.specs.Evidence.{Untouched}
-use Rattle.tx_answers.specs.Fences.{Gives}
-use Rattle.tx_answers.specs.CallerState.{CallerState}
+use Rattle.stm_answers.specs.declared.answers.CloseGate.TheVariants as gates
+use Rattle.stm_answers.specs.declared.answers.Give.{Give}
+use Rattle.stm_answers.specs.declared.answers.Give.TheVariants as gives
+use Rattle.stm_answers.specs.declared.answers.Look.TheVariants as looks
+use Rattle.stm_answers.specs.Answers.{Closes, HasOthers, Looks, Reopens, Stays}
+use Rattle.stm_answers.specs.Causes.{NamesOther}
+use Rattle.stm_answers.specs.Counting.{AddsAtMost}
+use Rattle.stm_answers.specs.Evidence.{Untouched}
+use Rattle.stm_answers.specs.Fences.{Gives}
+use Rattle.stm_answers.specs.CallerState.{CallerState}
 use Rattle.tx_checked.specs.declared.refusal.Refusal.{Refusal}
 use Rattle.tx_checked.specs.declared.refusal.Refusal.TheVariants as refusals
 use Rattle.tx_checked.specs.Phases.{Any}

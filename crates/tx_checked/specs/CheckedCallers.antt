@@ -7,7 +7,7 @@ use Rattle.stm_model.specs.declared.rule.AnyMem.{AnyMem}
 use Rattle.stm_rule.specs.declared.stm.Stm.{Stm}
 use Rattle.stm_rule.specs.Callers.{IsSameCaller}
 use Rattle.stm_tx.specs.Descs.{Serves, known, number}
-use Rattle.tx_answers.specs.CallerState.{CallerState}
+use Rattle.stm_answers.specs.CallerState.{CallerState}
 use Rattle.tx_checked.specs.declared.checked_caller.CheckedCaller.{CheckedCaller}
 
 abbrev pub memory_of : CheckedCaller → Stm AnyMem

@@ -2,16 +2,16 @@
 use Rattle.std.specs.Prelude.{ℕ, ◌+◌, ◌%◌, ◌^◌}
 use Rattle.stm_model.specs.declared.stop.Cause.{Cause}
 use Rattle.stm_model.specs.declared.stop.Cause.TheVariants as causes
-use Rattle.tx_answers.specs.declared.answers.Begin.{Begin}
-use Rattle.tx_answers.specs.declared.answers.Begin.TheVariants as begins
-use Rattle.tx_answers.specs.declared.answers.Commit.{Commit}
-use Rattle.tx_answers.specs.declared.answers.Commit.TheVariants as commits
-use Rattle.tx_answers.specs.declared.answers.Irrev.{Irrev}
-use Rattle.tx_answers.specs.declared.answers.Irrev.TheVariants as grants
-use Rattle.tx_answers.specs.declared.answers.Read.{Read}
-use Rattle.tx_answers.specs.declared.answers.Read.TheVariants as reads
-use Rattle.tx_answers.specs.declared.answers.Write.{Write}
-use Rattle.tx_answers.specs.declared.answers.Write.TheVariants as writes
+use Rattle.stm_answers.specs.declared.answers.Begin.{Begin}
+use Rattle.stm_answers.specs.declared.answers.Begin.TheVariants as begins
+use Rattle.stm_answers.specs.declared.answers.Commit.{Commit}
+use Rattle.stm_answers.specs.declared.answers.Commit.TheVariants as commits
+use Rattle.stm_answers.specs.declared.answers.Irrev.{Irrev}
+use Rattle.stm_answers.specs.declared.answers.Irrev.TheVariants as grants
+use Rattle.stm_answers.specs.declared.answers.Read.{Read}
+use Rattle.stm_answers.specs.declared.answers.Read.TheVariants as reads
+use Rattle.stm_answers.specs.declared.answers.Write.{Write}
+use Rattle.stm_answers.specs.declared.answers.Write.TheVariants as writes
 use Rattle.tx_checked.specs.declared.counts.Counts.{Counts}
 use Rattle.tx_checked.specs.declared.refusal.Refusal.{Refusal}
 use Rattle.tx_checked.specs.declared.refusal.Refusal.TheVariants as refusals

@@ -1,7 +1,7 @@
 -- When a caller's entries were.
 use Rattle.std.specs.Prelude.{ℕ, ◌≤◌, All, List}
 use Rattle.stm_model.specs.Histories.{Entry}
-use Rattle.tx_answers.specs.CallerState.{CallerState}
+use Rattle.stm_answers.specs.CallerState.{CallerState}
 
 -- none of these entries is later
 abbrev pub AllBy : ℕ → List Entry → Type 0

@@ -2,7 +2,7 @@
 use Rattle.std.specs.Prelude.{ℕ, ◌≡◌, ◌<◌, ◌≤◌, ◌++◌, List, None, true, slice_index, Result, Ok, Err}
 use Rattle.rule_base.specs.Encodings.{fenced}
 use Rattle.stm_model.specs.Histories.{Entry, memory_after, IsLegal}
-use Rattle.tx_answers.specs.CallerState.{zeros}
+use Rattle.stm_answers.specs.CallerState.{zeros}
 use Rattle.tx_checked.specs.Alone.{IsTakeRefused}
 use Rattle.tx_checked.specs.declared.errand.Errand.TheVariants.{End}
 use Rattle.tx_checked.specs.declared.checked_caller.CheckedCaller.{CheckedCaller}

@@ -3,7 +3,7 @@ use Rattle.std.specs.Prelude.{ℕ, Bool, ltb, nat_le, ◌+◌, ◌%◌, ◌==◌
 use Rattle.rule_base.specs.Encodings.{fenced}
 use Rattle.stm_model.specs.declared.config.Config.{Config}
 use Rattle.stm_tx.specs.Nesting.{live_marks}
-use Rattle.tx_answers.specs.Fences.{is_within}
+use Rattle.stm_answers.specs.Fences.{is_within}
 use Rattle.tx_checked.specs.declared.errand.Errand.{Errand}
 use Rattle.tx_checked.specs.declared.errand.Errand.TheVariants.{Take, Give, End}
 use Rattle.tx_checked.specs.declared.checked_caller.CheckedCaller.{CheckedCaller}

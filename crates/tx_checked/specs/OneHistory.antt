@@ -13,7 +13,7 @@ use Rattle.stm_rule.specs.Callers.{BeginsHistory, made_of, taken_of, taken_front
 use Rattle.stm_rule.specs.Product.{Invariant}
 use Rattle.stm_rule.specs.Runs.CoreRuns.{core_kind}
 use Rattle.stm_rule.specs.Runs.CoreRuns.CoreStep.{fences}
-use Rattle.tx_answers.specs.CallerState.{CallerState, zeros}
+use Rattle.stm_answers.specs.CallerState.{CallerState, zeros}
 use Rattle.tx_atomic.specs.Attempts.{TookEffect}
 use Rattle.tx_atomic.specs.Moments.{Happened}
 use Rattle.tx_checked.specs.declared.checked_caller.CheckedCaller.{CheckedCaller}

@@ -1,7 +1,7 @@
 -- A begin without the number that it found, which is written down.
 use Rattle.std.specs.Prelude.{ℕ, ◌≡◌, Option, Some}
-use Rattle.tx_answers.specs.declared.answers.Begin.{Begin}
-use Rattle.tx_answers.specs.declared.answers.Begin.TheVariants as begins
+use Rattle.stm_answers.specs.declared.answers.Begin.{Begin}
+use Rattle.stm_answers.specs.declared.answers.Begin.TheVariants as begins
 use Rattle.tx_checked.specs.declared.calls.Opened.{Opened}
 use Rattle.tx_checked.specs.declared.calls.Opened.TheVariants as opens
 use Rattle.tx_checked.specs.declared.checked_caller.CheckedCaller.{CheckedCaller}

@@ -3,10 +3,10 @@ use Rattle.std.specs.Prelude.{ℕ, ◌≡◌, ◌<◌, ◌^◌, [], ◌∷◌, S
 use Rattle.stm_model.specs.declared.alg.Alg.{Alg}
 use Rattle.stm_model.specs.declared.stop.Cause.{Cause}
 use Rattle.stm_model.specs.Logs.{Log}
-use Rattle.tx_answers.specs.CallerState.{IsIdle}
-use Rattle.tx_answers.specs.declared.answers.Begin.TheVariants as begins
-use Rattle.tx_answers.specs.declared.answers.Commit.TheVariants as commits
-use Rattle.tx_answers.specs.declared.answers.Read.TheVariants as reads
+use Rattle.stm_answers.specs.CallerState.{IsIdle}
+use Rattle.stm_answers.specs.declared.answers.Begin.TheVariants as begins
+use Rattle.stm_answers.specs.declared.answers.Commit.TheVariants as commits
+use Rattle.stm_answers.specs.declared.answers.Read.TheVariants as reads
 use Rattle.tx_atomic.specs.Attempts.{TookEffect}
 use Rattle.tx_checked.specs.declared.checked_caller.CheckedCaller.{CheckedCaller}
 use Rattle.tx_checked.specs.declared.misuse.Misuse.TheVariants as wrong

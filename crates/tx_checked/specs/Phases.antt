@@ -1,9 +1,9 @@
 -- Where a caller stands, as its user may ask.
 use Rattle.std.specs.Prelude.{ℕ, ◌≡◌, ◌≤◌, ◌+◌, true, Option, Some, List}
 use Rattle.rule_base.specs.Encodings.{fenced}
-use Rattle.tx_answers.specs.Answers.{HoldsClosed}
-use Rattle.tx_answers.specs.Fences.{is_within}
-use Rattle.tx_answers.specs.CallerState.{CallerState, Fenced, IsIdle, IsRunning}
+use Rattle.stm_answers.specs.Answers.{HoldsClosed}
+use Rattle.stm_answers.specs.Fences.{is_within}
+use Rattle.stm_answers.specs.CallerState.{CallerState, Fenced, IsIdle, IsRunning}
 use Rattle.tx_checked.specs.declared.checked_caller.Range.{Range}
 use Rattle.tx_checked.specs.declared.phase.CallerPhase.{CallerPhase}
 use Rattle.tx_checked.specs.declared.phase.CallerPhase.TheVariants.{Idle, Running, Beside, Committing, Closing}

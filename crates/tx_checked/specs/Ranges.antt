@@ -5,11 +5,11 @@ use Rattle.stm_model.specs.declared.config.TheConstants.{CLOCK_LIMIT}
 use Rattle.stm_model.specs.Histories.{Entry, IsLegal}
 use Rattle.stm_model.specs.Memories.{is_empty}
 use Rattle.rule_base.specs.Encodings.{fenced}
-use Rattle.tx_answers.specs.Answers.{entry}
-use Rattle.tx_answers.specs.declared.answers.Give.{Give}
-use Rattle.tx_answers.specs.declared.answers.Give.TheVariants as gives
-use Rattle.tx_answers.specs.Fences.{ReadsDirect, WritesDirect, is_within}
-use Rattle.tx_answers.specs.CallerState.{CallerState, Grows, no_log, zeros}
+use Rattle.stm_answers.specs.Answers.{entry}
+use Rattle.stm_answers.specs.declared.answers.Give.{Give}
+use Rattle.stm_answers.specs.declared.answers.Give.TheVariants as gives
+use Rattle.stm_answers.specs.Fences.{ReadsDirect, WritesDirect, is_within}
+use Rattle.stm_answers.specs.CallerState.{CallerState, Grows, no_log, zeros}
 use Rattle.tx_checked.specs.Alone.{IsHeldUp, IsTakeRefused, FindsFullAt}
 use Rattle.tx_checked.specs.Counting.{after_refusal}
 use Rattle.tx_checked.specs.declared.errand.Errand.{Errand}

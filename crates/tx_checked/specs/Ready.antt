@@ -8,7 +8,7 @@ use Rattle.stm_rule.specs.declared.stm.Stm.{Stm}
 use Rattle.stm_rule.specs.Callers.{Handle, IsOf, idle_own}
 use Rattle.stm_rule.specs.Refusals.{first_fault, IsRefusal}
 use Rattle.stm_tx.specs.Descs.{known, number}
-use Rattle.tx_answers.specs.CallerState.{CallerState, IsIdle, known_of}
+use Rattle.stm_answers.specs.CallerState.{CallerState, IsIdle, known_of}
 use Rattle.tx_atomic.specs.declared.switching.Hindrance.{Hindrance}
 use Rattle.tx_atomic.specs.Switches.{IsHindered}
 use Rattle.tx_checked.specs.Counting.{no_counts}

@@ -8,8 +8,8 @@ use crate::checked_caller::CheckedCaller;
 use crate::misuse::Misuse;
 use crate::phase::CallerPhase;
 use crate::refusal::Refusal;
+use stm_answers::answers::{Read, Write};
 use stm_tx::serving::{AnyAlgorithm, Calls};
-use tx_answers::answers::{Read, Write};
 
 impl CheckedCaller {
     /// Reads the word at `a`, as `stm_tx::calls::read` does.

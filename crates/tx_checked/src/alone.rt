@@ -4,17 +4,17 @@
 ghost use Rattle.std.specs.Prelude.{◌≡◌, true, false, OnOk, IfErr};
 ghost use Rattle.stm_rule.specs.Callers.{IsOf, IsSameCaller};
 ghost use Rattle.stm_tx.specs.Descs.{known, number};
-ghost use Rattle.tx_answers.specs.Answers.{HoldsClosed, SeesQuiet};
-ghost use Rattle.tx_answers.specs.CallerState.{Grows, IsIdle};
+ghost use Rattle.stm_answers.specs.Answers.{HoldsClosed, SeesQuiet};
+ghost use Rattle.stm_answers.specs.CallerState.{Grows, IsIdle};
 ghost use Rattle.tx_checked.specs.Alone.{HasClosedBy, IsAlone, IsHeldUp};
 ghost use Rattle.tx_checked.specs.Phases.{Any};
 
 use crate::refusal::Refusal;
+use stm_answers::answers::{CloseGate, Look};
 use stm_model::rule::AnyMem;
 use stm_rule::desc::Desc;
 use stm_rule::stm::Stm;
 use stm_tx::gate::{close_gate, look};
-use tx_answers::answers::{CloseGate, Look};
 
 /// Closes the gate, where this caller isn't `closing` already, and looks once at those that it hasn't seen idle since.
 ///

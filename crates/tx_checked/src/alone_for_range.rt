@@ -4,19 +4,19 @@ ghost use Rattle.std.specs.Prelude.{◌≡◌, ◌≢◌, ℕ, true, false, None
 ghost use Rattle.rule_base.specs.Encodings.{gate_word};
 ghost use Rattle.stm_rule.specs.Callers.{IsOf, IsSameCaller};
 ghost use Rattle.stm_tx.specs.Descs.{known, number};
-ghost use Rattle.tx_answers.specs.Answers.{HoldsClosed, SeesQuiet};
-ghost use Rattle.tx_answers.specs.CallerState.{Grows, IsIdle};
+ghost use Rattle.stm_answers.specs.Answers.{HoldsClosed, SeesQuiet};
+ghost use Rattle.stm_answers.specs.CallerState.{Grows, IsIdle};
 ghost use Rattle.tx_checked.specs.Alone.{HasClosedBy, HasLookedBy, IsTakeRefused, LooksAtGate};
 ghost use Rattle.tx_checked.specs.Phases.{Any};
 
 use crate::alone::close;
 use crate::refusal::Refusal;
 use rule_base::words::{fence_of, gate_word, holder_of};
+use stm_answers::answers::Look;
 use stm_model::rule::AnyMem;
 use stm_rule::desc::Desc;
 use stm_rule::stm::Stm;
 use stm_tx::gate::{look, reopen};
-use tx_answers::answers::Look;
 
 /// Loads the gate, and leaves it as it is.
 fn look_at_gate(desc: &mut Desc<AnyMem>, stm: &Stm<AnyMem>) -> u64

@@ -1,6 +1,6 @@
 //! What a caller with its memory is asked, and how its logs are made longer.
 ghost use Rattle.std.specs.Prelude.{◌≡◌, ◌&&◌, true};
-ghost use Rattle.tx_answers.specs.CallerState.{is_irrevocable, state_of};
+ghost use Rattle.stm_answers.specs.CallerState.{is_irrevocable, state_of};
 ghost use Rattle.tx_checked.specs.CheckedCallers.{is_beside, known_to};
 ghost use Rattle.tx_checked.specs.Misuses.{reserving};
 ghost use Rattle.tx_checked.specs.Tells.{Tells, HasReserved};
@@ -8,12 +8,12 @@ ghost use Rattle.tx_checked.specs.Tells.{Tells, HasReserved};
 use crate::checked_caller::CheckedCaller;
 use crate::misuse::Misuse;
 use std::alloc::Global;
+use stm_answers::answers::TxState;
 use stm_model::alg::Alg;
 use stm_model::config::MOST_LOG;
 use stm_model::memory::Memory;
 use stm_tx::calls;
 use stm_tx::fencing::fence_seen;
-use tx_answers::answers::TxState;
 
 impl CheckedCaller {
     /// Where it stands, and under which algorithm.

@@ -2,8 +2,8 @@
 ghost use Rattle.std.specs.Prelude.{◌≡◌, true, false, None, OnOk, OnErr, IfErr};
 ghost use Rattle.stm_rule.specs.Callers.{IsOf, IsSameCaller};
 ghost use Rattle.stm_tx.specs.Descs.{known, number};
-ghost use Rattle.tx_answers.specs.Answers.{HoldsClosed};
-ghost use Rattle.tx_answers.specs.CallerState.{Grows, IsIdle};
+ghost use Rattle.stm_answers.specs.Answers.{HoldsClosed};
+ghost use Rattle.stm_answers.specs.CallerState.{Grows, IsIdle};
 ghost use Rattle.tx_checked.specs.Alone.{IsHeldUp};
 ghost use Rattle.tx_checked.specs.declared.errand.Errand.TheVariants.{Switch};
 ghost use Rattle.tx_checked.specs.CheckedCallers.{IsServed, known_to};
@@ -17,6 +17,7 @@ use crate::errand::Errand;
 use crate::misuse::Misuse;
 use crate::phase::CallerPhase;
 use crate::refusal::Refusal;
+use stm_answers::answers::{Begin, Cancel, Commit, Irrev};
 use stm_model::alg::Alg;
 use stm_model::rule::AnyMem;
 use stm_rule::desc::Desc;
@@ -26,7 +27,6 @@ use stm_tx::fencing::fence_seen;
 use stm_tx::gate::{install, reopen};
 use stm_tx::serving::{AnyAlgorithm, Calls, Only};
 use stm_tx::{Algorithm, calls, under};
-use tx_answers::answers::{Begin, Cancel, Commit, Irrev};
 
 /// What a begin came to, without what it found.
 #[derive(Clone, Copy, Drop)]

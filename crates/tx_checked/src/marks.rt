@@ -1,7 +1,7 @@
 //! Closed nesting by marks, for a caller with its memory.
 ghost use Rattle.std.specs.Prelude.{◌≡◌, ◌≤◌, None, Some, OnOk, IfErr};
 ghost use Rattle.stm_tx.specs.Nesting.{live_marks};
-ghost use Rattle.tx_answers.specs.CallerState.{IsRunning};
+ghost use Rattle.stm_answers.specs.CallerState.{IsRunning};
 ghost use Rattle.tx_checked.specs.CheckedCallers.{known_to};
 ghost use Rattle.tx_checked.specs.Misuses.{running, at_mark};
 ghost use Rattle.tx_checked.specs.Tells.{Tells, HasMarked, HasRolled, HasDropped};
@@ -9,8 +9,8 @@ ghost use Rattle.tx_checked.specs.Tells.{Tells, HasMarked, HasRolled, HasDropped
 use crate::checked_caller::CheckedCaller;
 use crate::misuse::Misuse;
 use crate::refusal::Refusal;
+use stm_answers::answers::{Check, Roll};
 use stm_tx::nesting;
-use tx_answers::answers::{Check, Roll};
 
 impl CheckedCaller {
     /// Whether it is in an attempt at which mark `depth` stands.

@@ -1,6 +1,6 @@
 //! One word, outside an attempt.
 ghost use Rattle.std.specs.Prelude.{◌≡◌, ◌<◌, None, [], false, OnOk, IfErr};
-ghost use Rattle.tx_answers.specs.CallerState.{IsRunning, no_log};
+ghost use Rattle.stm_answers.specs.CallerState.{IsRunning, no_log};
 ghost use Rattle.tx_checked.specs.CheckedCallers.{IsSameCheckedCaller, IsServed, config_of, known_to};
 ghost use Rattle.tx_checked.specs.Misuses.{looking, outside};
 ghost use Rattle.tx_checked.specs.Peeking.{HasEndedUnread, HasPeeked, HasReadOnce};
@@ -9,10 +9,10 @@ ghost use Rattle.tx_checked.specs.Tells.{Tells};
 use crate::calls::Opened;
 use crate::checked_caller::CheckedCaller;
 use crate::misuse::Misuse;
+use stm_answers::answers::Read;
 use stm_model::alg::Alg;
 use stm_tx::Algorithm;
 use stm_tx::serving::{AnyAlgorithm, Calls, Only};
-use tx_answers::answers::Read;
 
 /// What came of a look at a word. What was in the way is written down.
 #[derive(Clone, Copy, Drop, Debug, PartialEq, Eq)]

@@ -5,9 +5,9 @@ ghost use Rattle.stm_model.specs.Configs.{IsSmall, AreBlocks};
 ghost use Rattle.rule_base.specs.Encodings.{fenced};
 ghost use Rattle.stm_rule.specs.Callers.{IsOf, IsSameCaller};
 ghost use Rattle.stm_tx.specs.Descs.{known, number};
-ghost use Rattle.tx_answers.specs.Answers.{HoldsClosed};
-ghost use Rattle.tx_answers.specs.Fences.{is_within};
-ghost use Rattle.tx_answers.specs.CallerState.{Grows, IsIdle};
+ghost use Rattle.stm_answers.specs.Answers.{HoldsClosed};
+ghost use Rattle.stm_answers.specs.Fences.{is_within};
+ghost use Rattle.stm_answers.specs.CallerState.{Grows, IsIdle};
 ghost use Rattle.tx_checked.specs.Alone.{IsHeldUp, IsTakeRefused, FindsFullAt};
 ghost use Rattle.tx_checked.specs.Errands.{is_closing};
 ghost use Rattle.tx_checked.specs.CheckedCallers.{config_of, known_to};
@@ -22,13 +22,13 @@ use crate::errand::Errand;
 use crate::misuse::Misuse;
 use crate::phase::CallerPhase;
 use crate::refusal::Refusal;
+use stm_answers::answers::{Fence, Give};
 use stm_model::config::{BLOCK, Config, SMALL_CALLERS, SMALL_WORDS};
 use stm_model::rule::AnyMem;
 use stm_rule::desc::Desc;
 use stm_rule::stm::Stm;
 use stm_tx::fencing;
 use stm_tx::gate::reopen;
-use tx_answers::answers::{Fence, Give};
 
 /// Takes words out of the transactions, and reopens the gate.
 pub(crate) fn take_out(

@@ -2,8 +2,8 @@
 ghost use Rattle.std.specs.Prelude.{◌≡◌, ◌≢◌, ◌<◌, None, Some, true, false, OnOk, IfOk, IfErr};
 ghost use Rattle.std.specs.Arc.{arc_value};
 ghost use Rattle.rule_base.specs.Encodings.{fenced};
-ghost use Rattle.tx_answers.specs.Answers.{HoldsClosed};
-ghost use Rattle.tx_answers.specs.CallerState.{IsIdle, IsRunning};
+ghost use Rattle.stm_answers.specs.Answers.{HoldsClosed};
+ghost use Rattle.stm_answers.specs.CallerState.{IsIdle, IsRunning};
 ghost use Rattle.tx_checked.specs.Errands.{is_closing};
 ghost use Rattle.tx_checked.specs.CheckedCallers.{known_to};
 ghost use Rattle.tx_checked.specs.declared.phase.CallerPhase.TheVariants.{Idle};
@@ -13,9 +13,9 @@ use crate::checked_caller::CheckedCaller;
 use crate::errand::Errand;
 use crate::misuse::Misuse;
 use crate::phase::CallerPhase;
+use stm_answers::answers::TxState;
 use stm_tx::calls;
 use stm_tx::fencing::spares;
-use tx_answers::answers::TxState;
 
 impl CheckedCaller {
     /// Whether it is in no attempt.

@@ -4,7 +4,7 @@ pub use Rattle.stm_model.specs.declared.config.Config.{Config}
 pub use Rattle.stm_model.specs.Histories.{Entry, IsLegal, made_by, memory_at, memory_after}
 pub use Rattle.stm_model.specs.Logs.{Log, SameMemories}
 pub use Rattle.stm_model.specs.Memories.{overlay, written}
-pub use Rattle.tx_effects.specs.Effects.{Effect, DoesOver, Under}
+pub use Rattle.data_effects.specs.Effects.{Effect, DoesOver, Under}
 pub use Rattle.tx_jobs.specs.Known.{Known, Seat, Grows}
 pub use Rattle.tx_jobs.specs.Moments.{Took, Happened, zeros}
 pub use Rattle.tx_jobs.specs.MomentLaws.{happened, stood, took-at}

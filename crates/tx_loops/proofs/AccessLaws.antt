@@ -4,13 +4,13 @@ use Rattle.std.specs.Prelude.{Bool, MatchOption, Option, Some, None, Result, Ok,
 use Rattle.stm_model.specs.declared.alg.Alg.{Alg}
 use Rattle.stm_model.specs.Memories.{item_at}
 use Rattle.stm_tx.specs.Descs.{serves-on}
-use Rattle.tx_answers.specs.Answers.{GoesOn, HasRead}
-use Rattle.tx_answers.specs.CallerState.{CallerState}
-use Rattle.tx_answers.specs.Causes.Asked.{ForWord}
-use Rattle.tx_answers.specs.declared.answers.Read.{Read}
-use Rattle.tx_answers.specs.declared.answers.Read.TheVariants.{Value}
-use Rattle.tx_answers.specs.declared.answers.Write.{Write}
-use Rattle.tx_answers.specs.declared.answers.Write.TheVariants as writes
+use Rattle.stm_answers.specs.Answers.{GoesOn, HasRead}
+use Rattle.stm_answers.specs.CallerState.{CallerState}
+use Rattle.stm_answers.specs.Causes.Asked.{ForWord}
+use Rattle.stm_answers.specs.declared.answers.Read.{Read}
+use Rattle.stm_answers.specs.declared.answers.Read.TheVariants.{Value}
+use Rattle.stm_answers.specs.declared.answers.Write.{Write}
+use Rattle.stm_answers.specs.declared.answers.Write.TheVariants as writes
 use Rattle.tx_checked.specs.CheckedCallers.{IsSameCheckedCaller, IsServed, config_of, known_to, number_of}
 use Rattle.tx_checked.specs.declared.checked_caller.CheckedCaller.{CheckedCaller}
 use Rattle.tx_checked.specs.declared.misuse.Misuse.{Misuse}

@@ -3,9 +3,9 @@ use Rattle.std.proofs.Common.{ℕ, ◌≡◌, ◌≢◌, ◌∙◌, List, [], tr
 use Rattle.std.specs.Prelude.{Bool, Ok}
 use Rattle.stm_model.specs.Logs.{Log}
 use Rattle.stm_model.specs.Memories.{Once}
-use Rattle.tx_answers.specs.Answers.{TriesIrrevocable}
-use Rattle.tx_answers.specs.CallerState.{CallerState, IsIdle, IsRunning, is_irrevocable}
-use Rattle.tx_answers.specs.declared.answers.Irrev.TheVariants as grants
+use Rattle.stm_answers.specs.Answers.{TriesIrrevocable}
+use Rattle.stm_answers.specs.CallerState.{CallerState, IsIdle, IsRunning, is_irrevocable}
+use Rattle.stm_answers.specs.declared.answers.Irrev.TheVariants as grants
 use Rattle.tx_checked.specs.CheckedCallers.{config_of, known_to, number_of}
 use Rattle.tx_checked.specs.declared.checked_caller.CheckedCaller.{CheckedCaller}
 use Rattle.tx_checked.specs.Misuses.{running}

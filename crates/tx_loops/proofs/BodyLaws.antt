@@ -3,13 +3,13 @@ use Rattle.std.proofs.Common.{ℕ, ◌≡◌, ◌∙◌, ◌<◌, List, [], ◌�
 use Rattle.std.proofs.lemmas.List.{get_or-map, length-map}
 use Rattle.std.proofs.lemmas.List.Elements.{All-cons, All-get_or, All-head, All-nil, All-tail}
 use Rattle.std.specs.Prelude.{Bool, Option, None, not, if◌then◌else◌, ◌==◌}
-use Rattle.tx_logs.specs.LogStates.{firsts}
+use Rattle.stm_logs.specs.LogStates.{firsts}
 use Rattle.stm_model.specs.declared.config.Config.{Config}
 use Rattle.stm_model.specs.Memories.{is_empty, put}
-use Rattle.tx_answers.specs.declared.answers.Commit.{Commit}
-use Rattle.tx_answers.specs.declared.answers.Commit.TheVariants as commits
-use Rattle.tx_answers.specs.Answers.{Commits}
-use Rattle.tx_answers.specs.CallerState.{CallerState, Grows, IsIdle, IsRunning, wrote}
+use Rattle.stm_answers.specs.declared.answers.Commit.{Commit}
+use Rattle.stm_answers.specs.declared.answers.Commit.TheVariants as commits
+use Rattle.stm_answers.specs.Answers.{Commits}
+use Rattle.stm_answers.specs.CallerState.{CallerState, Grows, IsIdle, IsRunning, wrote}
 use Rattle.tx_checked.specs.declared.phase.CallerPhase.{CallerPhase}
 use Rattle.tx_checked.specs.declared.phase.CallerPhase.TheVariants as phases
 use Rattle.tx_checked.specs.Misuses.{access_at, inside_at}

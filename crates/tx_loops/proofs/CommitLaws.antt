@@ -5,12 +5,12 @@ use Rattle.stm_model.specs.declared.config.Config.{Config}
 use Rattle.stm_model.specs.Logs.{Log}
 use Rattle.stm_model.specs.Memories.{item_at, Once}
 use Rattle.stm_model.specs.declared.stop.Cause.{Cause}
-use Rattle.tx_answers.specs.declared.answers.Cancel.{Cancel}
-use Rattle.tx_answers.specs.declared.answers.Cancel.TheVariants as cancels
-use Rattle.tx_answers.specs.declared.answers.Commit.{Commit}
-use Rattle.tx_answers.specs.declared.answers.Commit.TheVariants as commits
-use Rattle.tx_answers.specs.CallerState.{CallerState, IsIdle, is_irrevocable}
-use Rattle.tx_answers.specs.CallerStateLaws.{grows-trans}
+use Rattle.stm_answers.specs.declared.answers.Cancel.{Cancel}
+use Rattle.stm_answers.specs.declared.answers.Cancel.TheVariants as cancels
+use Rattle.stm_answers.specs.declared.answers.Commit.{Commit}
+use Rattle.stm_answers.specs.declared.answers.Commit.TheVariants as commits
+use Rattle.stm_answers.specs.CallerState.{CallerState, IsIdle, is_irrevocable}
+use Rattle.stm_answers.specs.CallerStateLaws.{grows-trans}
 use Rattle.tx_atomic.specs.AttemptLaws.{same-number, still-revocable, took-since}
 use Rattle.tx_atomic.specs.ExtendsLaws.{extends-refl, grows-extends}
 use Rattle.tx_atomic.specs.TryLaws.{grows-refl}

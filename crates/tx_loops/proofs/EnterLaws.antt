@@ -4,12 +4,12 @@ use Rattle.std.proofs.lemmas.Bool.{le-leb}
 use Rattle.std.specs.Prelude.{Option, None, Some, Ok, nat_le}
 use Rattle.stm_model.specs.declared.alg.Alg.{Alg}
 use Rattle.stm_model.specs.declared.stop.Cause.{Cause}
-use Rattle.tx_answers.specs.Answers.{Quits, Stays, Waits}
-use Rattle.tx_answers.specs.CallerState.{IsIdle}
-use Rattle.tx_answers.specs.declared.answers.Begin.{Begin}
-use Rattle.tx_answers.specs.declared.answers.Begin.TheVariants as begins
-use Rattle.tx_answers.specs.declared.answers.Irrev.{Irrev}
-use Rattle.tx_answers.specs.declared.answers.Irrev.TheVariants as grants
+use Rattle.stm_answers.specs.Answers.{Quits, Stays, Waits}
+use Rattle.stm_answers.specs.CallerState.{IsIdle}
+use Rattle.stm_answers.specs.declared.answers.Begin.{Begin}
+use Rattle.stm_answers.specs.declared.answers.Begin.TheVariants as begins
+use Rattle.stm_answers.specs.declared.answers.Irrev.{Irrev}
+use Rattle.stm_answers.specs.declared.answers.Irrev.TheVariants as grants
 use Rattle.tx_atomic.specs.TryLaws.{grows-refl}
 use Rattle.tx_checked.specs.CheckedCallers.{config_of, known_to, number_of}
 use Rattle.tx_checked.specs.declared.checked_caller.CheckedCaller.{CheckedCaller}

@@ -2,7 +2,7 @@
 use Rattle.std.proofs.Common.{◌≡◌, ◌≤◌, ◌∙◌, true, false, refl, sym, ap, subst, inl, inr, arith}
 use Rattle.std.specs.Prelude.{◌⊎◌, Option, Ok}
 use Rattle.stm_model.specs.Logs.{Log}
-use Rattle.tx_answers.specs.CallerState.{IsIdle}
+use Rattle.stm_answers.specs.CallerState.{IsIdle}
 use Rattle.tx_checked.specs.CheckedCallers.{known_to}
 use Rattle.tx_checked.specs.declared.checked_caller.CheckedCaller.{CheckedCaller}
 use Rattle.tx_checked.specs.declared.refusal.Refusal.{Refusal}

@@ -1,10 +1,10 @@
 -- Laws of the marks of an attempt that can't be taken back.
 use Rattle.std.proofs.Common.{◌≡◌, refl, sym, subst}
 use Rattle.std.specs.Prelude.{Result, Ok, Err}
-use Rattle.tx_answers.specs.Answers.{Checks}
-use Rattle.tx_answers.specs.CallerState.{CallerState, Grows, is_irrevocable}
-use Rattle.tx_answers.specs.declared.answers.Check.{Check}
-use Rattle.tx_answers.specs.declared.answers.Check.TheVariants as checks
+use Rattle.stm_answers.specs.Answers.{Checks}
+use Rattle.stm_answers.specs.CallerState.{CallerState, Grows, is_irrevocable}
+use Rattle.stm_answers.specs.declared.answers.Check.{Check}
+use Rattle.stm_answers.specs.declared.answers.Check.TheVariants as checks
 use Rattle.tx_atomic.specs.TryLaws.{grows-refl}
 use Rattle.tx_checked.specs.CheckedCallers.{known_to}
 use Rattle.tx_checked.specs.declared.checked_caller.CheckedCaller.{CheckedCaller}

@@ -2,8 +2,8 @@
 use Rattle.std.proofs.Common.{ℕ, ◌≡◌, refl, sym, subst}
 use Rattle.std.specs.Prelude.{Option, None, Some, MatchOption, Result, Ok}
 use Rattle.stm_model.specs.Memories.{item_at}
-use Rattle.tx_answers.specs.declared.answers.Read.{Read}
-use Rattle.tx_answers.specs.declared.answers.Read.TheVariants as reads
+use Rattle.stm_answers.specs.declared.answers.Read.{Read}
+use Rattle.stm_answers.specs.declared.answers.Read.TheVariants as reads
 use Rattle.tx_checked.specs.declared.misuse.Misuse.{Misuse}
 use Rattle.tx_loops.specs.Accesses.{ReadsAt, ReadsBelow, ReadsHere, ReadsOn, ReadSays}
 use Rattle.tx_loops.specs.declared.looping_caller.LoopingCaller.{LoopingCaller}

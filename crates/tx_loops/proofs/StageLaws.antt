@@ -12,7 +12,7 @@ use Rattle.rule_base.specs.Own.{Own}
 use Rattle.stm_model.specs.Logs.{Log}
 use Rattle.stm_model.specs.declared.alg.Alg.{Alg}
 use Rattle.stm_model.specs.declared.alg.Alg.TheVariants.{Cgl, Tml, OrecLazy, OrecEager, RingSw, Serial}
-use Rattle.tx_answers.specs.CallerState.{CallerState, written_under}
+use Rattle.stm_answers.specs.CallerState.{CallerState, written_under}
 use Rattle.tx_checked.specs.CheckedCallers.{config_of, known_to}
 use Rattle.tx_checked.specs.declared.checked_caller.CheckedCaller.{CheckedCaller}
 use Rattle.tx_checked.specs.declared.errand.Errand.{Errand}

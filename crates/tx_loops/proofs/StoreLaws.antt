@@ -5,12 +5,12 @@ use Rattle.std.specs.Prelude.{Bool, None, Some, Result, Ok, Err, ◌==◌, if◌
 use Rattle.stm_model.specs.declared.config.Config.{Config}
 use Rattle.stm_model.specs.Logs.{Writes}
 use Rattle.stm_model.specs.Memories.{item_at, Once}
-use Rattle.tx_answers.specs.Answers.{GoesOn, Quits}
-use Rattle.tx_answers.specs.CallerState.{IsIdle, IsRunning, is_irrevocable}
-use Rattle.tx_answers.specs.CallerStateLaws.{carries-wrote, in-attempt}
-use Rattle.tx_answers.specs.Causes.Asked.{ForWord}
-use Rattle.tx_answers.specs.declared.answers.Write.{Write}
-use Rattle.tx_answers.specs.declared.answers.Write.TheVariants as writes
+use Rattle.stm_answers.specs.Answers.{GoesOn, Quits}
+use Rattle.stm_answers.specs.CallerState.{IsIdle, IsRunning, is_irrevocable}
+use Rattle.stm_answers.specs.CallerStateLaws.{carries-wrote, in-attempt}
+use Rattle.stm_answers.specs.Causes.Asked.{ForWord}
+use Rattle.stm_answers.specs.declared.answers.Write.{Write}
+use Rattle.stm_answers.specs.declared.answers.Write.TheVariants as writes
 use Rattle.tx_checked.specs.CheckedCallers.{config_of, known_to}
 use Rattle.tx_checked.specs.declared.checked_caller.CheckedCaller.{CheckedCaller}
 use Rattle.tx_checked.specs.declared.misuse.Misuse.{Misuse}

@@ -2,8 +2,8 @@
 use Rattle.std.proofs.Common.{ℕ, ◌≡◌, ◌∙◌, List, true, false, refl, sym, ap, subst}
 use Rattle.std.specs.Prelude.{Ok}
 use Rattle.stm_model.specs.Memories.{put}
-use Rattle.tx_answers.specs.declared.answers.Write.TheVariants as writes
-use Rattle.tx_answers.specs.CallerState.{CallerState}
+use Rattle.stm_answers.specs.declared.answers.Write.TheVariants as writes
+use Rattle.stm_answers.specs.CallerState.{CallerState}
 use Rattle.tx_checked.specs.CheckedCallers.{config_of, known_to}
 use Rattle.tx_checked.specs.declared.checked_caller.CheckedCaller.{CheckedCaller}
 use Rattle.tx_checked.specs.Misuses.{access}

@@ -3,17 +3,17 @@
 use Rattle.std.specs.Prelude.{ℕ, ◌≡◌, ◌≤◌, ◌+◌, ◌-◌, ◌++◌, ◌∷◌, [], take, length, if◌then◌else◌, nat_le, MatchOption, Bool, false, ◌&&◌, Option, Some, None, Result, Ok, Err}
 use Rattle.stm_model.specs.Memories.{item_at, put}
 use Rattle.stm_tx.specs.Nesting.{live_marks}
-use Rattle.tx_answers.specs.CallerState.{IsIdle, is_irrevocable}
-use Rattle.tx_answers.specs.declared.answers.Check.{Check}
-use Rattle.tx_answers.specs.declared.answers.Check.TheVariants as checks
-use Rattle.tx_answers.specs.declared.answers.Irrev.{Irrev}
-use Rattle.tx_answers.specs.declared.answers.Irrev.TheVariants as grants
-use Rattle.tx_answers.specs.declared.answers.Read.{Read}
-use Rattle.tx_answers.specs.declared.answers.Read.TheVariants as reads
-use Rattle.tx_answers.specs.declared.answers.Roll.{Roll}
-use Rattle.tx_answers.specs.declared.answers.Roll.TheVariants as rolls
-use Rattle.tx_answers.specs.declared.answers.Write.{Write}
-use Rattle.tx_answers.specs.declared.answers.Write.TheVariants as writes
+use Rattle.stm_answers.specs.CallerState.{IsIdle, is_irrevocable}
+use Rattle.stm_answers.specs.declared.answers.Check.{Check}
+use Rattle.stm_answers.specs.declared.answers.Check.TheVariants as checks
+use Rattle.stm_answers.specs.declared.answers.Irrev.{Irrev}
+use Rattle.stm_answers.specs.declared.answers.Irrev.TheVariants as grants
+use Rattle.stm_answers.specs.declared.answers.Read.{Read}
+use Rattle.stm_answers.specs.declared.answers.Read.TheVariants as reads
+use Rattle.stm_answers.specs.declared.answers.Roll.{Roll}
+use Rattle.stm_answers.specs.declared.answers.Roll.TheVariants as rolls
+use Rattle.stm_answers.specs.declared.answers.Write.{Write}
+use Rattle.stm_answers.specs.declared.answers.Write.TheVariants as writes
 use Rattle.tx_checked.specs.CheckedCallers.{known_to}
 use Rattle.tx_checked.specs.declared.checked_caller.CheckedCaller.{CheckedCaller}
 use Rattle.tx_checked.specs.declared.misuse.Misuse.{Misuse}
@@ -24,7 +24,7 @@ use Rattle.tx_checked.specs.Tells.{Tells, IsIrrevocable, HasDropped, HasMarked, 
 use Rattle.tx_loops.specs.declared.looping_caller.LoopingCaller.{LoopingCaller}
 use Rattle.tx_loops.specs.declared.stage.Stage.{Stage}
 use Rattle.tx_loops.specs.declared.stage.Stage.TheVariants.{Free, Direct, Bound, Lapsed, Buffered, Asking, Committing}
-use Rattle.tx_logs.specs.LogStates.{rolled}
+use Rattle.stm_logs.specs.LogStates.{rolled}
 use Rattle.tx_loops.specs.Loops.{MadeNothing, log_of}
 use Rattle.tx_parts.specs.Laying.{SameLog}
 use Rattle.tx_loops.specs.Stages.{lapsed}

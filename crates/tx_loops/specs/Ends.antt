@@ -1,9 +1,9 @@
 -- What a commit comes to, and a write.
 use Rattle.std.specs.Prelude.{Bool, true, false, Result, Ok, Err}
-use Rattle.tx_answers.specs.declared.answers.Commit.{Commit}
-use Rattle.tx_answers.specs.declared.answers.Commit.TheVariants as commits
-use Rattle.tx_answers.specs.declared.answers.Write.{Write}
-use Rattle.tx_answers.specs.declared.answers.Write.TheVariants as writes
+use Rattle.stm_answers.specs.declared.answers.Commit.{Commit}
+use Rattle.stm_answers.specs.declared.answers.Commit.TheVariants as commits
+use Rattle.stm_answers.specs.declared.answers.Write.{Write}
+use Rattle.stm_answers.specs.declared.answers.Write.TheVariants as writes
 use Rattle.tx_checked.specs.declared.misuse.Misuse.{Misuse}
 use Rattle.tx_loops.specs.declared.ends.CommitOutcome.{CommitOutcome}
 use Rattle.tx_loops.specs.declared.ends.CommitOutcome.TheVariants.{Done, Again, Refused}

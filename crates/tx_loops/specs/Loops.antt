@@ -2,7 +2,7 @@
 use Rattle.std.specs.Prelude.{ℕ, ◌≡◌, ◌≢◌, ◌≤◌, ◌⊎◌, ◌==◌, ◌||◌, max, [], Bool, true, false, is_some, MatchBool, List, Option, Some, None, Result, Ok, Err}
 use Rattle.stm_model.specs.Logs.{Log}
 use Rattle.stm_model.specs.Memories.{item_at}
-use Rattle.tx_answers.specs.CallerState.{Grows, IsIdle, IsRunning, is_irrevocable, no_log}
+use Rattle.stm_answers.specs.CallerState.{Grows, IsIdle, IsRunning, is_irrevocable, no_log}
 use Rattle.tx_atomic.specs.Attempts.{TookEffect}
 use Rattle.tx_checked.specs.CheckedCallers.{IsSameCheckedCaller, config_of, known_to, number_of}
 use Rattle.tx_checked.specs.declared.checked_caller.CheckedCaller.{CheckedCaller}

@@ -6,7 +6,7 @@ use Rattle.tx_atomic.specs.declared.switching.Hindrance.{Hindrance}
 use Rattle.tx_checked.specs.CheckedCallers.{config_of}
 use Rattle.tx_checked.specs.declared.checked_caller.CheckedCaller.{CheckedCaller}
 use Rattle.tx_checked.specs.Ready.{AreHindered, AreNew, IsOpenError}
-use Rattle.tx_logs.specs.LogStates.{empty_at}
+use Rattle.stm_logs.specs.LogStates.{empty_at}
 use Rattle.tx_loops.specs.declared.looping_caller.LoopingCaller.{LoopingCaller}
 use Rattle.tx_loops.specs.declared.opening.NotOpened.{NotOpened}
 use Rattle.tx_loops.specs.declared.stage.Stage.TheVariants.{Free}

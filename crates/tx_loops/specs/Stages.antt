@@ -4,8 +4,8 @@ use Rattle.rule_base.specs.Encodings.{fenced}
 use Rattle.stm_model.specs.declared.alg.Alg.{Alg}
 use Rattle.stm_model.specs.declared.alg.Alg.TheVariants.{Cgl, Tml, OrecLazy, OrecEager, RingSw, Serial}
 use Rattle.stm_model.specs.Logs.{Log}
-use Rattle.tx_answers.specs.CallerState.{CallerState, IsRunning, is_irrevocable, no_log}
-use Rattle.tx_logs.specs.LogStates.{firsts}
+use Rattle.stm_answers.specs.CallerState.{CallerState, IsRunning, is_irrevocable, no_log}
+use Rattle.stm_logs.specs.LogStates.{firsts}
 use Rattle.tx_loops.specs.declared.stage.Stage.{Stage}
 use Rattle.tx_loops.specs.declared.stage.Stage.TheVariants.{Free, Direct, Bound, Lapsed, Buffered, Asking, Committing}
 

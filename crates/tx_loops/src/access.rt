@@ -1,6 +1,6 @@
 //! The reads and writes of a caller that may be in a loop.
 ghost use Rattle.std.specs.Prelude.{◌≡◌, [], true, false, Some, None, OnOk, IfErr, IfSome, IfNone};
-ghost use Rattle.tx_answers.specs.CallerState.{IsIdle, IsRunning};
+ghost use Rattle.stm_answers.specs.CallerState.{IsIdle, IsRunning};
 ghost use Rattle.tx_checked.specs.CheckedCallers.{IsServed, config_of, known_to};
 ghost use Rattle.tx_checked.specs.Misuses.{access};
 ghost use Rattle.tx_checked.specs.declared.refusal.Refusal.TheVariants as refusals;
@@ -12,14 +12,14 @@ ghost use Rattle.tx_loops.specs.declared.stage.Stage.TheVariants.{Buffered, Dire
 use crate::ends::end_blank;
 use crate::looping_caller::LoopingCaller;
 use crate::stage::Stage;
+use stm_answers::answers::{Read, Write};
+use stm_logs::push::Push;
 use stm_tx::fencing::spares;
 use stm_tx::serving::{AnyAlgorithm, Calls};
-use tx_answers::answers::{Read, Write};
 use tx_checked::checked_caller::CheckedCaller;
 use tx_checked::misuse::Misuse;
 use tx_checked::phase::CallerPhase;
 use tx_checked::refusal::Refusal;
-use tx_logs::push::Push;
 
 impl LoopingCaller {
     /// Reads the word at `a`: the buffer's write of it, else as the caller does by these calls.

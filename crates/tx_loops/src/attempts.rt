@@ -1,6 +1,6 @@
 //! The calls of an attempt that is none of a loop's; and how a body comes to be irrevocable.
 ghost use Rattle.std.specs.Prelude.{◌≡◌, true, OnOk, IfErr, None, Some};
-ghost use Rattle.tx_answers.specs.CallerState.{IsRunning, is_irrevocable};
+ghost use Rattle.stm_answers.specs.CallerState.{IsRunning, is_irrevocable};
 ghost use Rattle.tx_checked.specs.CheckedCallers.{IsServed, config_of, known_to};
 ghost use Rattle.tx_checked.specs.Misuses.{inside, looking, outside, running};
 ghost use Rattle.tx_checked.specs.Peeking.{HasPeeked};
@@ -14,13 +14,13 @@ ghost use Rattle.tx_parts.specs.Laying.{SameLog};
 use crate::looping_caller::LoopingCaller;
 use crate::stage::Stage;
 use crate::storing::store_through;
+use stm_answers::answers::{Begin, Cancel, Commit, Irrev};
+use stm_logs::write_log::WriteLog;
 use stm_tx::Algorithm;
 use stm_tx::serving::Calls;
-use tx_answers::answers::{Begin, Cancel, Commit, Irrev};
 use tx_checked::checked_caller::CheckedCaller;
 use tx_checked::misuse::Misuse;
 use tx_checked::peeking::Peek;
-use tx_logs::write_log::WriteLog;
 
 impl LoopingCaller {
     /// Whether no body of a loop runs, which alone ends its attempt.

@@ -1,13 +1,13 @@
 //! How an attempt of a body ends.
 ghost use Rattle.std.specs.Prelude.{◌≡◌, [], true, false};
-ghost use Rattle.tx_answers.specs.CallerState.{IsIdle, is_irrevocable};
+ghost use Rattle.stm_answers.specs.CallerState.{IsIdle, is_irrevocable};
 ghost use Rattle.tx_checked.specs.CheckedCallers.{IsServed, known_to};
 ghost use Rattle.tx_loops.specs.Ends.{outcome_of};
 ghost use Rattle.tx_loops.specs.Hindrances.{HindersCommit};
 ghost use Rattle.tx_loops.specs.Loops.{AsksAgain, EndsBy, IsRefused, IsThrough, MadeNothing};
 
+use stm_answers::answers::Commit;
 use stm_tx::serving::Calls;
-use tx_answers::answers::Commit;
 use tx_checked::checked_caller::CheckedCaller;
 use tx_checked::misuse::Misuse;
 

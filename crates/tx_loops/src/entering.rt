@@ -1,6 +1,6 @@
 //! The begin of a loop, and of each of its attempts.
 ghost use Rattle.std.specs.Prelude.{◌≡◌, ◌<◌, true, false, None};
-ghost use Rattle.tx_answers.specs.CallerState.{IsIdle, IsRunning, no_log};
+ghost use Rattle.stm_answers.specs.CallerState.{IsIdle, IsRunning, no_log};
 ghost use Rattle.tx_checked.specs.CheckedCallers.{known_to};
 ghost use Rattle.tx_loops.specs.Loops.{AskSays, EnterSays, LengthenSays, MadeNothing, MayRun, OpenSays};
 ghost use Rattle.tx_loops.specs.Turns.{IsPause};
@@ -15,11 +15,11 @@ use crate::plan::LogKind;
 use crate::stage::Stage;
 use crate::turn::Turn;
 use std::alloc::Global;
+use stm_answers::answers::{Begin, Irrev};
 use stm_model::alg::Alg;
 use stm_model::memory::Memory;
 use stm_tx::serving::{AnyAlgorithm, Only};
 use stm_tx::{Algorithm, under};
-use tx_answers::answers::{Begin, Irrev};
 use tx_checked::misuse::Misuse;
 
 impl LoopingCaller {

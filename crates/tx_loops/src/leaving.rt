@@ -15,10 +15,10 @@ use crate::looping_caller::LoopingCaller;
 use crate::stage::Stage;
 use crate::storing::store_through;
 use crate::turn::{How, Turn};
+use stm_bell::stripes::Stripes;
 use stm_tx::fencing::fence_seen;
 use stm_tx::serving::{AnyAlgorithm, Calls};
 use stm_tx::stripes;
-use tx_bell::stripes::Stripes;
 use tx_checked::checked_caller::CheckedCaller;
 use tx_checked::misuse::Misuse;
 

@@ -4,8 +4,8 @@ ghost use Rattle.tx_loops.specs.Stages.{IsAtStage};
 
 use crate::plan::Plan;
 use crate::stage::Stage;
+use stm_logs::write_log::WriteLog;
 use tx_checked::checked_caller::CheckedCaller;
-use tx_logs::write_log::WriteLog;
 
 /// A caller with the log of a body's writes, and what its loop has come to.
 #[derive(Drop)]

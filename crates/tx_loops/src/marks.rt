@@ -4,7 +4,7 @@ ghost use Rattle.tx_loops.specs.Accesses.{DropSays, MarkSays, RollSays, buffer_m
 
 use crate::looping_caller::LoopingCaller;
 use crate::stage::Stage;
-use tx_answers::answers::{Check, Roll};
+use stm_answers::answers::{Check, Roll};
 use tx_checked::misuse::Misuse;
 use tx_checked::refusal::Refusal;
 

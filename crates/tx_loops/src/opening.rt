@@ -7,12 +7,12 @@ use crate::looping_caller::LoopingCaller;
 use crate::plan::Plan;
 use crate::stage::Stage;
 use std::alloc::Global;
+use stm_logs::write_log::WriteLog;
 use stm_model::alg::Alg;
 use stm_model::config::Config;
 use stm_model::memory::Memory;
 use tx_checked::checked_caller::CheckedCaller;
 use tx_checked::opening::OpenError;
-use tx_logs::write_log::WriteLog;
 
 /// A memory that wasn't opened as asked. At `Busy` it is open, under CGL, and these are its callers; else there are
 /// none.

@@ -1,6 +1,6 @@
 //! The calls that a loop has no part in.
 ghost use Rattle.std.specs.Prelude.{◌≡◌, length, true, IfErr, OnOk, None, Some};
-ghost use Rattle.tx_answers.specs.CallerState.{state_of};
+ghost use Rattle.stm_answers.specs.CallerState.{state_of};
 ghost use Rattle.tx_checked.specs.CheckedCallers.{is_beside, known_to};
 ghost use Rattle.tx_checked.specs.Endings.{HasEnded};
 ghost use Rattle.tx_checked.specs.Learning.{HasLearned, IsAsked, TellsSameMemory, meeting};
@@ -12,9 +12,9 @@ ghost use Rattle.tx_loops.specs.Accesses.{Passes, SameLoop, leaving};
 
 use crate::looping_caller::LoopingCaller;
 use std::alloc::Global;
+use stm_answers::answers::{Give, TxState};
 use stm_model::alg::Alg;
 use stm_model::memory::Memory;
-use tx_answers::answers::{Give, TxState};
 use tx_checked::misuse::Misuse;
 use tx_checked::refusal::Refusal;
 

@@ -6,8 +6,8 @@ ghost use Rattle.tx_loops.specs.declared.turn.How.TheVariants as hows;
 
 use crate::turn::{How, Turn};
 use crate::watch::Watch;
+use stm_bell::stripes::Stripes;
 use stm_model::config::MOST_LOG;
-use tx_bell::stripes::Stripes;
 use tx_checked::refusal::Refusal;
 
 /// After so many attempts that failed the next ones ask to be irrevocable.

@@ -1,6 +1,6 @@
 //! How a buffer's writes reach the attempt.
 ghost use Rattle.std.specs.Prelude.{◌≡◌, ◌≤◌, true, false, []};
-ghost use Rattle.tx_answers.specs.CallerState.{IsIdle, IsRunning, is_irrevocable};
+ghost use Rattle.stm_answers.specs.CallerState.{IsIdle, IsRunning, is_irrevocable};
 ghost use Rattle.tx_checked.specs.CheckedCallers.{config_of, known_to};
 ghost use Rattle.tx_loops.specs.Ends.{is_written};
 ghost use Rattle.tx_loops.specs.Loops.{EndsBy, HindersStoring, MadeNothing};
@@ -8,10 +8,10 @@ ghost use Rattle.stm_model.specs.Memories.{Once};
 ghost use Rattle.tx_loops.specs.Stages.{EachSpared};
 ghost use Rattle.tx_parts.specs.Laying.{Lays};
 
-use tx_answers::answers::Write;
+use stm_answers::answers::Write;
+use stm_logs::write_log::WriteLog;
 use tx_checked::checked_caller::CheckedCaller;
 use tx_checked::misuse::Misuse;
-use tx_logs::write_log::WriteLog;
 
 /// Writes all that lies in the log, in the order of the first writes. False where the attempt has ended, and nothing
 /// stands. Of an empty log it is a test.

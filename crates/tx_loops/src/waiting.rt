@@ -7,8 +7,8 @@ use crate::looping_caller::LoopingCaller;
 use crate::plan::Plan;
 use crate::turn::Turn;
 use crate::watch::Watch;
+use stm_bell::stripes::Stripes;
 use stm_tx::stripes;
-use tx_bell::stripes::Stripes;
 use tx_checked::misuse::Misuse;
 
 impl LoopingCaller {

@@ -2,8 +2,8 @@
 ghost use Rattle.std.specs.Prelude.{◌≡◌};
 
 use std::snapshot::Snapshot;
-use tx_bell::bell::Announced;
-use tx_bell::stripes::Stripes;
+use stm_bell::bell::Announced;
+use stm_bell::stripes::Stripes;
 use tx_checked::checked_caller::CheckedCaller;
 
 /// A wait for words of some stripes, announced before the attempt that finds out whether its user has to wait: a commit

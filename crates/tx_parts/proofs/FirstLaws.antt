@@ -2,7 +2,7 @@
 use Rattle.std.proofs.Common.{ℕ, ◌≡◌, List, subst}
 use Rattle.std.specs.Prelude.{Option, Result, Ok, Err, IfOk}
 use Rattle.stm_model.specs.Logs.{Log, Reads}
-use Rattle.tx_effects.specs.FreshLaws.{nothing}
+use Rattle.data_effects.specs.FreshLaws.{nothing}
 use Rattle.tx_parts.specs.Laying.{Comes, ComesFirst, one_read}
 use Rattle.tx_parts.specs.declared.wholly.PartOutcome.{PartOutcome}
 use Rattle.tx_parts.specs.declared.wholly.PartOutcome.TheVariants.{Done, GaveWay, NoRoom, NoMemory}

@@ -5,7 +5,7 @@ use Rattle.std.specs.List.{AllByRecursion, IsDistinct, list_any}
 use Rattle.std.proofs.lemmas.Bool.Decides.{nat_tests}
 use Rattle.std.proofs.lemmas.Map.Steps.{length-le_from_distinct_below}
 use Rattle.stm_model.specs.Memories.{item_at, Once}
-use Rattle.tx_logs.specs.LogStates.{firsts}
+use Rattle.stm_logs.specs.LogStates.{firsts}
 use Rattle.tx_parts.specs.Laying.{Within, Overflows}
 
 absent-cons : (a : ℕ) (w : ℕ × ℕ) (ws : List (ℕ × ℕ)) (t : Bool) → (w.0 == a) ≡ t → (if t then Some w.1 else item_at a ws) ≡ None

@@ -6,8 +6,8 @@ use Rattle.stm_model.specs.declared.stop.Stop.{Stop}
 use Rattle.stm_model.specs.declared.stop.Stop.TheVariants.{Full}
 use Rattle.stm_model.specs.Memories.{item_at, put, Once}
 use Rattle.stm_model.specs.Logs.{Log, SameMemories, IsExplained}
-use Rattle.tx_effects.specs.Effects.{Under}
-use Rattle.tx_logs.specs.LogStates.{LogState, firsts, renewed}
+use Rattle.data_effects.specs.Effects.{Under}
+use Rattle.stm_logs.specs.LogStates.{LogState, firsts, renewed}
 use Rattle.tx_parts.specs.declared.whole.Undone.{Undone}
 use Rattle.tx_parts.specs.declared.whole.Undone.TheVariants as undone
 use Rattle.tx_parts.specs.declared.wholly.PartOutcome.{PartOutcome}

@@ -8,8 +8,8 @@ use Rattle.stm_model.specs.Memories.{item_at, put, Once, Explains, overlay}
 use Rattle.stm_model.specs.Overlays.{overlay-same}
 use Rattle.stm_model.specs.PlainLaws.{put-item}
 use Rattle.stm_model.specs.Logs.{Log, IsLog, Reads, Writes, SameMemories}
-use Rattle.tx_effects.specs.Effects.{Under}
-use Rattle.tx_logs.specs.LogStates.{firsts}
+use Rattle.data_effects.specs.Effects.{Under}
+use Rattle.stm_logs.specs.LogStates.{firsts}
 use Rattle.tx_parts.specs.Laying.{laid, over, IsFull, Top, Within, ReadsMore, SameLog, Lays, OnlyReads, OnTop}
 
 -- ITEMS. The first that is there

@@ -5,8 +5,8 @@ use Rattle.std.specs.Prelude.{◌⊎◌, Option, Some, None, IfSome, Ok}
 use Rattle.stm_model.specs.Logs.{Log, SameMemories}
 use Rattle.stm_model.specs.Memories.{overlay, Explains}
 use Rattle.stm_model.specs.Overlays.{overlay-same, overlay-length}
-use Rattle.tx_effects.specs.Effects.{Effect, DoesOver, Under}
-use Rattle.tx_effects.specs.FreshLaws.{nothing}
+use Rattle.data_effects.specs.Effects.{Effect, DoesOver, Under}
+use Rattle.data_effects.specs.FreshLaws.{nothing}
 use Rattle.tx_parts.specs.declared.wholly.PartOutcome.TheVariants.{Done}
 use Rattle.tx_parts.specs.Laying.{EitherTells, Comes, ComesAwaited, ReadsMore}
 use Rattle.tx_parts.specs.LayingLaws.{explains-front}

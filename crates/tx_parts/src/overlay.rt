@@ -1,16 +1,16 @@
 //! The writes of a part, kept apart from what lies below until the part is kept.
 ghost use Rattle.std.specs.Prelude.{◌≡◌, ◌<◌, None, OnOk, IfSome, IfNone};
 ghost use Rattle.stm_model.specs.Logs.{IsExplained};
-ghost use Rattle.tx_effects.specs.Accesses.{LeadsOn};
-ghost use Rattle.tx_logs.specs.LogStates.{firsts};
+ghost use Rattle.data_effects.specs.Accesses.{LeadsOn};
+ghost use Rattle.stm_logs.specs.LogStates.{firsts};
 ghost use Rattle.tx_parts.specs.Laying.{Lays, Within, IsFilled};
 
 use crate::nesting::Nesting;
 use std::marker::Model;
+use stm_logs::push::Push;
+use stm_logs::write_log::WriteLog;
 use stm_model::access::Access;
 use stm_model::stop::Stop;
-use tx_logs::push::Push;
-use tx_logs::write_log::WriteLog;
 
 /// An access whose writes lie in a log of its own, over those of the access below it, which it only reads. Where the
 /// log has its length and one more address is written, it is stopped by `Full`, and the access below could go on.

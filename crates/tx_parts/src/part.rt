@@ -1,7 +1,7 @@
 //! A part of a transaction, as a value.
 ghost use Rattle.std.specs.Prelude.{◌≡◌, ◌≤◌, ◌+◌, None, Some, IfOk, OnOk, IfErr, IfSome};
 ghost use Rattle.stm_model.specs.Logs.{SameMemories, IsExplained};
-ghost use Rattle.tx_effects.specs.Effects.{Under};
+ghost use Rattle.data_effects.specs.Effects.{Under};
 ghost use Rattle.stm_model.specs.declared.config.TheConstants.{MOST_MARKS};
 
 use crate::nesting::Nesting;

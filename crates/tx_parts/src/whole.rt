@@ -4,11 +4,11 @@ ghost use Rattle.stm_model.specs.declared.config.TheConstants.{MOST_MARKS};
 use crate::part::Part;
 use crate::wholly::{PartOutcome, wholly};
 use std::alloc::Global;
+use stm_logs::write_log::WriteLog;
 use stm_model::access::Access;
 use stm_model::config::MOST_MARKS;
 use stm_model::rule::MemRule;
 use stm_model::stop::Stop;
-use tx_logs::write_log::WriteLog;
 use tx_transaction::transaction::Transaction;
 
 /// The transaction that is this part, done wholly or not at all.

@@ -1,18 +1,18 @@
 //! A part that is done wholly or not at all.
 ghost use Rattle.std.specs.Prelude.{◌≡◌, ◌≤◌, None, IfOk, OnOk, IfErr};
 ghost use Rattle.stm_model.specs.Logs.{SameMemories, IsExplained};
-ghost use Rattle.tx_effects.specs.Accesses.{LeadsOn};
-ghost use Rattle.tx_effects.specs.Effects.{Under};
+ghost use Rattle.data_effects.specs.Accesses.{LeadsOn};
+ghost use Rattle.data_effects.specs.Effects.{Under};
 ghost use Rattle.stm_model.specs.declared.config.TheConstants.{MOST_MARKS};
 ghost use Rattle.tx_parts.specs.Laying.{Comes, Leaves, Left, Shows, IsEmptied};
 
 use crate::lent::Lent;
 use crate::overlay::Overlay;
 use crate::part::Part;
+use stm_logs::write_log::WriteLog;
 use stm_model::access::Access;
 use stm_model::rule::MemRule;
 use stm_model::stop::Stop;
-use tx_logs::write_log::WriteLog;
 
 /// What came of a part.
 #[derive(Clone, Copy, Drop, Debug, PartialEq, Eq)]

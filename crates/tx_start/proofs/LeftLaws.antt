@@ -7,7 +7,7 @@ use Rattle.rule_base.specs.Bridge.{public_history}
 use Rattle.stm_rule.specs.declared.stm.Stm.{Stm}
 use Rattle.stm_rule.specs.Callers.{Handle, AllOpened}
 use Rattle.stm_rule.specs.Closings.{Ended, Told, AllTold, installs_of}
-use Rattle.tx_answers.specs.CallerState.{caller_of}
+use Rattle.stm_answers.specs.CallerState.{caller_of}
 use Rattle.stm_tx.specs.Descs.{known, number}
 use Rattle.tx_atomic.specs.Callers.{AllReady, IsThrough}
 use Rattle.tx_atomic.specs.CallerLaws.{ready-each}

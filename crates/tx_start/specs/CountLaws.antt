@@ -7,7 +7,7 @@ use Rattle.stm_model.specs.declared.config.TheConstants.{MOST_LOG}
 use Rattle.stm_rule.specs.declared.stm.Stm.{Stm}
 use Rattle.stm_rule.specs.Callers.{Handle}
 use Rattle.stm_tx.specs.Descs.{known, number}
-use Rattle.tx_answers.specs.CallerState.{CallerState}
+use Rattle.stm_answers.specs.CallerState.{CallerState}
 use Rattle.tx_atomic.specs.declared.tally.Tally.{Tally}
 use Rattle.tx_atomic.specs.Accounts.{Account}
 use Rattle.tx_atomic.specs.AttemptLaws.{same-number}

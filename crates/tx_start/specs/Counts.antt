@@ -5,7 +5,7 @@ use Rattle.stm_model.specs.declared.alg.Alg.{Alg}
 use Rattle.stm_model.specs.declared.config.Config.{Config}
 use Rattle.stm_model.specs.Histories.{made_by}
 use Rattle.stm_rule.specs.Closings.{Ended}
-use Rattle.tx_answers.specs.CallerState.{CallerState}
+use Rattle.stm_answers.specs.CallerState.{CallerState}
 use Rattle.tx_atomic.specs.declared.tally.Tally.{Tally}
 use Rattle.tx_atomic.specs.Accounts.{Account}
 use Rattle.tx_atomic.specs.Courses.{HasCourse}

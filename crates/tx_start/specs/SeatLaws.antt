@@ -12,10 +12,10 @@ use Rattle.rule_base.specs.declared.views.TracedStep.{TracedStep}
 use Rattle.rule_base.specs.StepsRule.{ClocksWithin}
 use Rattle.stm_rule.specs.Callers.{Handle}
 use Rattle.stm_tx.specs.Descs.{known}
-use Rattle.tx_answers.specs.declared.answers.Commit.TheVariants.{Committed, ReadOnly}
-use Rattle.tx_answers.specs.Answers.{Commits}
-use Rattle.tx_answers.specs.Causes.{FindsFull}
-use Rattle.tx_answers.specs.CallerState.{CallerState, clock_in, top_of}
+use Rattle.stm_answers.specs.declared.answers.Commit.TheVariants.{Committed, ReadOnly}
+use Rattle.stm_answers.specs.Answers.{Commits}
+use Rattle.stm_answers.specs.Causes.{FindsFull}
+use Rattle.stm_answers.specs.CallerState.{CallerState, clock_in, top_of}
 use Rattle.tx_atomic.specs.Attempts.{TookEffect}
 use Rattle.tx_atomic.specs.Extends.{Extends}
 use Rattle.tx_atomic.specs.ExtendsLaws.{extends-refl}

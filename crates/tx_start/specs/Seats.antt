@@ -3,7 +3,7 @@ use Rattle.std.specs.Prelude.{ℕ}
 use Rattle.stm_rule.specs.declared.stm.Stm.{Stm}
 use Rattle.stm_rule.specs.Callers.{Handle}
 use Rattle.stm_tx.specs.Descs.{number}
-use Rattle.tx_answers.specs.CallerState.{CallerState}
+use Rattle.stm_answers.specs.CallerState.{CallerState}
 use Rattle.tx_jobs.specs.Known.{Seat, Known}
 
 -- with its count of commits

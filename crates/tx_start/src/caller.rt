@@ -2,7 +2,7 @@
 ghost use Rattle.std.specs.Prelude.{◌≡◌, ◌<◌};
 ghost use Rattle.stm_model.specs.declared.config.TheConstants.{MOST_LOG};
 ghost use Rattle.stm_rule.specs.Callers.{IsOf};
-ghost use Rattle.tx_answers.specs.CallerState.{IsIdle};
+ghost use Rattle.stm_answers.specs.CallerState.{IsIdle};
 ghost use Rattle.stm_tx.specs.Descs.{known, number};
 
 use std::sync::Wait;
@@ -30,7 +30,7 @@ impl<'a, R: Wait, K: MemRule> Calls<R, K> for Caller<'a, R, K> {
     ghost use Rattle.std.specs.Prelude.{ℕ, ◌≡◌, refl};
     ghost use Rattle.std.proofs.Common.{◌∙◌};
     ghost use Rattle.stm_tx.specs.Descs.{known, number};
-    ghost use Rattle.tx_answers.specs.Causes.{FindsFull};
+    ghost use Rattle.stm_answers.specs.Causes.{FindsFull};
     ghost use Rattle.tx_atomic.specs.Callers.{HasWorked};
     ghost use Rattle.tx_atomic.specs.CallerLaws.{worked-refl, worked-trans};
     ghost use Rattle.tx_atomic.specs.TryLaws.{full-earlier};

@@ -1,9 +1,9 @@
 //! The smallest transactions: places become what a function makes of their values.
 
+use data_places::place::Place;
+use data_places::word::Word;
 use stm_tx::{Access, AnyMem, Stop};
 use tx_atomic::transaction::Transaction;
-use tx_places::place::Place;
-use tx_places::word::Word;
 
 /// The place's value becomes what `by` makes of it, and that is the answer.
 #[derive(Drop)]
@@ -14,8 +14,8 @@ pub struct Update<T, F> {
 
 impl<T: Word, F: Fn(T) -> T> Transaction<AnyMem> for Update<T, F> {
     ghost use Rattle.std.specs.Prelude.{◌<◌};
-    ghost use Rattle.tx_answers.specs.CallerState.{no_log};
-    ghost use Rattle.tx_places.specs.Codes.{Updates};
+    ghost use Rattle.stm_answers.specs.CallerState.{no_log};
+    ghost use Rattle.data_places.specs.Codes.{Updates};
 
     type Output = T;
 

@@ -1,6 +1,6 @@
 pub mod Words
 pub mod WordLaws
 pub mod RangeLaws
-pub use Rattle.tx_effects.specs.Effects
-pub use Rattle.tx_effects.specs.EffectLaws
-pub use Rattle.tx_effects.specs.FreshLaws
+pub use Rattle.data_effects.specs.Effects
+pub use Rattle.data_effects.specs.EffectLaws
+pub use Rattle.data_effects.specs.FreshLaws

@@ -5,10 +5,10 @@ use Rattle.stm_model.specs.declared.stop.Stop.{Stop}
 use Rattle.stm_model.specs.Logs.{Log, SameMemories, IsExplained, Keeps}
 use Rattle.stm_model.specs.Memories.{AreWords, overlay, written, Explains}
 use Rattle.stm_model.specs.Overlays.{reads-see, overlay-length}
-use Rattle.tx_effects.specs.Accesses.{LeadsOn}
-use Rattle.tx_effects.specs.Effects.{Effect, unchanged, changed, DoesOver, Turns}
-use Rattle.tx_effects.specs.EffectLaws.{does-stay, does-change, shows-then, turns-write, turns-then}
-use Rattle.tx_effects.specs.FreshLaws.{nothing, IsSound, sound-first, has-effect, reads-keep}
+use Rattle.data_effects.specs.Accesses.{LeadsOn}
+use Rattle.data_effects.specs.Effects.{Effect, unchanged, changed, DoesOver, Turns}
+use Rattle.data_effects.specs.EffectLaws.{does-stay, does-change, shows-then, turns-write, turns-then}
+use Rattle.data_effects.specs.FreshLaws.{nothing, IsSound, sound-first, has-effect, reads-keep}
 use Rattle.tx_transaction.specs.Words.{ReadEach, WrittenEach, AllRead, AllWritten, RangeRead, Found, placed, words_in}
 
 -- FROM READS TO WHAT THEY FOUND

@@ -1,7 +1,7 @@
 -- Words read or written one after the other, and what that tells of the memory.
 use Rattle.std.specs.Prelude.{ℕ, suc, ◌≡◌, ◌<◌, ◌≤◌, ◌+◌, ◌-◌, ◌^◌, Bool, List, [], ◌∷◌, length, get_or, take, drop, sum, count_by}
 use Rattle.stm_model.specs.Logs.{Log, Reads, Writes, IsExplained}
-use Rattle.tx_effects.specs.Effects.{Shows}
+use Rattle.data_effects.specs.Effects.{Shows}
 
 -- each address is one of the memory's words
 abbrev pub AllBelow : ℕ → List ℕ → Type 0

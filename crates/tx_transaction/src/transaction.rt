@@ -1,7 +1,7 @@
 //! A transaction as a value.
 ghost use Rattle.std.specs.Prelude.{◌≡◌, None, Some, IfOk, OnOk, IfErr};
 ghost use Rattle.stm_model.specs.Logs.{Keeps, SameMemories};
-ghost use Rattle.tx_effects.specs.FreshLaws.{nothing};
+ghost use Rattle.data_effects.specs.FreshLaws.{nothing};
 
 use stm_model::access::Access;
 use stm_model::rule::MemRule;

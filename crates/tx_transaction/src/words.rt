@@ -3,7 +3,7 @@
 //! `leads` says of `frame` what a caller's own is found by, without the law that calls come one after the other.
 ghost use Rattle.std.specs.Prelude.{◌≡◌, ◌<◌, ◌≤◌, ◌%◌, ◌^◌, ℕ, Bool, sum, count_by, map, None, IfOk, OnOk};
 ghost use Rattle.stm_model.specs.Memories.{Explains};
-ghost use Rattle.tx_effects.specs.Accesses.{LeadsOn};
+ghost use Rattle.data_effects.specs.Accesses.{LeadsOn};
 ghost use Rattle.tx_transaction.specs.Words.{AllBelow, AllRead, AllWritten, RangeRead, Decides, Found, valued, sum_in, count_in};
 
 use std::ops::Range;

@@ -1,9 +1,9 @@
 //! A transaction, watched.
 use crate::watching::Watching;
+use stm_bell::stripes::Stripes;
 use stm_model::access::Access;
 use stm_model::rule::MemRule;
 use stm_model::stop::Stop;
-use tx_bell::stripes::Stripes;
 use tx_transaction::transaction::Transaction;
 
 /// The transaction, which answers the stripes of the words that it read beside what it answers. That costs three

@@ -2,9 +2,9 @@
 ghost use Rattle.std.specs.Prelude.{◌≡◌, None};
 ghost use Rattle.tx_watching.specs.Watches.{CoverReads};
 
+use stm_bell::stripes::Stripes;
 use stm_model::access::Access;
 use stm_model::stop::Stop;
-use tx_bell::stripes::Stripes;
 
 /// The access behind a reference, and the stripes of the words that were read by it. They are exact under every
 /// algorithm, whatever log that one keeps.

@@ -21,7 +21,7 @@ use Rattle.stm_gate.specs.Logging.{item-touched}
 use Rattle.stm_gate.proofs.Peeling.{no-items}
 use Rattle.stm_rule.specs.declared.local.Local.{Local}
 use Rattle.stm_rule.specs.Attempts.{IsOutside}
-use Rattle.steps_orec.specs.RecordFindings.{FindsClock}
+use Rattle.alg_orec.specs.RecordFindings.{FindsClock}
 use Rattle.alg_orec.specs.EagerEnding.{restoring, AllBelow, CanRestoreAll, RestoresAll, IsNewest, CanReleaseAbove, CanGiveBack, GivesBack, CanAbortEager, AbortsEager}
 use Rattle.alg_orec.specs.Locking.{holding_still, ReleasesAll}
 

@@ -9,7 +9,7 @@ use Rattle.stm_rule.specs.declared.local.Local.{Local}
 use Rattle.stm_rule.specs.Attempts.{Stands, good_by, own_of, IsInside}
 use Rattle.stm_rule.specs.Callers.{Handle}
 use Rattle.stm_rule.specs.EagerKept.{IsEager}
-use Rattle.tx_answers.specs.CallerState.{IsRunning}
+use Rattle.stm_answers.specs.CallerState.{IsRunning}
 use Rattle.stm_gate.specs.Knowing.{known}
 use Rattle.stm_gate.proofs.Standing.{runs-of}
 use Rattle.alg_orec.proofs.Eager.EagerProving.{eager-of, plain-of}

@@ -38,17 +38,17 @@ use Rattle.stm_rule.specs.declared.local.Local.{Local}
 use Rattle.stm_rule.specs.Attempts.{own_of, IsInside, IsOutside, HasRoom, Stands, StandsBy}
 use Rattle.stm_rule.specs.Attempts as attempts
 use Rattle.stm_rule.specs.EagerKept.{IsEager}
-use Rattle.steps_orec.proofs.OthersLaws.{clock-others}
-use Rattle.steps_orec.specs.RecordFindings.{FindsClock, FindsCommit, Enters}
-use Rattle.tx_answers.specs.declared.answers.Cancel.TheVariants.{Cancelled}
-use Rattle.tx_answers.specs.declared.answers.Commit.TheVariants as commits
-use Rattle.tx_answers.specs.Answers.{KeepsRule, Commits, CommitsAt, Cancels, EndsAt, entry}
-use Rattle.tx_answers.specs.Causes.{Conflicts, IsStaleAt, has_item, is_some}
-use Rattle.tx_answers.specs.Causes.Asked.{ToCommit}
-use Rattle.tx_answers.specs.Evidence.{Found}
-use Rattle.tx_answers.specs.CallerState.{Grows, known_of, granted_under, written_under, wrote, has_written}
-use Rattle.tx_answers.specs.CallerStateLaws.{grows-same}
-use Rattle.tx_logs.specs.LogStates.{LogState}
+use Rattle.alg_orec.proofs.OthersLaws.{clock-others}
+use Rattle.alg_orec.specs.RecordFindings.{FindsClock, FindsCommit, Enters}
+use Rattle.stm_answers.specs.declared.answers.Cancel.TheVariants.{Cancelled}
+use Rattle.stm_answers.specs.declared.answers.Commit.TheVariants as commits
+use Rattle.stm_answers.specs.Answers.{KeepsRule, Commits, CommitsAt, Cancels, EndsAt, entry}
+use Rattle.stm_answers.specs.Causes.{Conflicts, IsStaleAt, has_item, is_some}
+use Rattle.stm_answers.specs.Causes.Asked.{ToCommit}
+use Rattle.stm_answers.specs.Evidence.{Found}
+use Rattle.stm_answers.specs.CallerState.{Grows, known_of, granted_under, written_under, wrote, has_written}
+use Rattle.stm_answers.specs.CallerStateLaws.{grows-same}
+use Rattle.stm_logs.specs.LogStates.{LogState}
 use Rattle.alg_orec.proofs.AgainLaws as again
 use Rattle.alg_orec.proofs.AgainLaws.{tried}
 use Rattle.alg_orec.proofs.CommitOpening.{Unpromoted}

@@ -30,15 +30,15 @@ use Rattle.stm_gate.specs.LeavingLaws.{Carried, IsRaised, commits-left, ended-ra
 use Rattle.stm_gate.specs.Logging.{wrote-some}
 use Rattle.stm_gate.specs.Opacity.{opaque-inside}
 use Rattle.stm_gate.proofs.Peeling.{no-items}
-use Rattle.steps_orec.specs.RecordFindings.{FindsStill}
+use Rattle.alg_orec.specs.RecordFindings.{FindsStill}
 use Rattle.rule_promoted.specs.RaisingSteps.{direct_raise_clock, CanDirectRaiseClock}
 use Rattle.stm_rule.specs.declared.local.Local.{Local}
 use Rattle.stm_rule.specs.Attempts.{Keeps, IsInside}
 use Rattle.stm_rule.specs.EagerKept.{IsEagerPromoted}
-use Rattle.tx_answers.specs.declared.answers.Commit.TheVariants.{ReadOnly}
-use Rattle.tx_answers.specs.Answers.{CommitsAt}
-use Rattle.tx_answers.specs.Answers as answers
-use Rattle.tx_answers.specs.CallerState.{known_of, granted_under, written_under, wrote, has_written}
+use Rattle.stm_answers.specs.declared.answers.Commit.TheVariants.{ReadOnly}
+use Rattle.stm_answers.specs.Answers.{CommitsAt}
+use Rattle.stm_answers.specs.Answers as answers
+use Rattle.stm_answers.specs.CallerState.{known_of, granted_under, written_under, wrote, has_written}
 use Rattle.alg_orec.proofs.CommitOpening.{Promoted}
 use Rattle.alg_orec.proofs.Eager.EagerBackLaws.{length-none, raise_clock_item, newest-low, newest-most, newest-one}
 use Rattle.alg_orec.proofs.Eager.EagerProving.{none-saved, rose-by}

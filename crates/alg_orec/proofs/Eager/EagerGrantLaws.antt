@@ -11,8 +11,8 @@ use Rattle.rule_base.specs.Lemmas.BridgeLemmas.{item-some}
 use Rattle.stm_rule.specs.declared.local.Local.{Local}
 use Rattle.stm_rule.specs.Attempts.{Stands, ended, own_of}
 use Rattle.stm_rule.specs.EagerKept.{IsEager}
-use Rattle.tx_answers.specs.declared.answers.Irrev.TheVariants as irrevs
-use Rattle.tx_answers.specs.CallerState.{known_of, has_written}
+use Rattle.stm_answers.specs.declared.answers.Irrev.TheVariants as irrevs
+use Rattle.stm_answers.specs.CallerState.{known_of, has_written}
 use Rattle.stm_gate.specs.Granting.{Grants}
 use Rattle.stm_gate.proofs.Peeling.{no-items}
 use Rattle.alg_orec.specs.EagerEnding.{CanAbortEager, AbortsEager}

@@ -26,11 +26,11 @@ use Rattle.stm_rule.specs.declared.local.Local.{Local}
 use Rattle.stm_rule.specs.Attempts.{own_of, IsInside}
 use Rattle.stm_rule.specs.Attempts as attempts
 use Rattle.stm_rule.specs.EagerKept.{IsEager}
-use Rattle.steps_orec.specs.RecordFindings.{FindsStart}
-use Rattle.tx_answers.specs.declared.answers.Read.TheVariants as answers
-use Rattle.tx_answers.specs.Answers.{HasRead, Quits}
-use Rattle.tx_answers.specs.CallerState.{known_of, is_irrevocable, has_written}
-use Rattle.tx_logs.specs.LogStates.{LogState}
+use Rattle.alg_orec.specs.RecordFindings.{FindsStart}
+use Rattle.stm_answers.specs.declared.answers.Read.TheVariants as answers
+use Rattle.stm_answers.specs.Answers.{HasRead, Quits}
+use Rattle.stm_answers.specs.CallerState.{known_of, is_irrevocable, has_written}
+use Rattle.stm_logs.specs.LogStates.{LogState}
 use Rattle.stm_gate.specs.Logging.{put-new}
 use Rattle.stm_gate.specs.Starts.{CanBegin, StartsAt}
 use Rattle.alg_orec.proofs.Eager.EagerCalls.{RunsEager}

@@ -5,7 +5,7 @@ use Rattle.stm_model.specs.declared.config.Config.{Config}
 use Rattle.rule_base.specs.declared.views.View.{View}
 use Rattle.stm_rule.specs.declared.local.Local.{Local}
 use Rattle.stm_rule.specs.EagerKept.{IsEager}
-use Rattle.tx_answers.specs.CallerState.{CallerState}
+use Rattle.stm_answers.specs.CallerState.{CallerState}
 use Rattle.alg_orec.proofs.Eager.EagerProving.{eager-of}
 use Rattle.alg_orec.proofs.NestingOpening.{GoesOn}
 

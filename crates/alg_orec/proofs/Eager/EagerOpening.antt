@@ -9,12 +9,12 @@ use Rattle.stm_rule.specs.declared.local.Local.{Local}
 use Rattle.stm_rule.specs.declared.stm.Stm.{Stm}
 use Rattle.stm_rule.specs.Attempts.{HasRoom, Stands, good_by, own_of}
 use Rattle.stm_rule.specs.Callers.{Handle, IsOf, IsTied}
-use Rattle.tx_answers.specs.declared.answers.Read.TheVariants as reads
-use Rattle.tx_answers.specs.declared.answers.Write.TheVariants as writes
-use Rattle.tx_answers.specs.Causes.{writes_full}
-use Rattle.tx_answers.specs.Answers.{HasRead, HasWritten}
-use Rattle.tx_answers.specs.CallerState.{CallerState, IsRunning, known_of}
-use Rattle.tx_logs.specs.LogStates.{LogState}
+use Rattle.stm_answers.specs.declared.answers.Read.TheVariants as reads
+use Rattle.stm_answers.specs.declared.answers.Write.TheVariants as writes
+use Rattle.stm_answers.specs.Causes.{writes_full}
+use Rattle.stm_answers.specs.Answers.{HasRead, HasWritten}
+use Rattle.stm_answers.specs.CallerState.{CallerState, IsRunning, known_of}
+use Rattle.stm_logs.specs.LogStates.{LogState}
 use Rattle.stm_gate.specs.Knowing.{known, number}
 use Rattle.stm_gate.proofs.Opening.{opened, shows, tells-of}
 use Rattle.alg_orec.proofs.Eager.EagerCalls.{RunsEager, runs-eager}

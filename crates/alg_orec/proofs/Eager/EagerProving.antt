@@ -18,9 +18,9 @@ use Rattle.stm_gate.proofs.Peeling.{no-items}
 use Rattle.stm_rule.specs.declared.local.Local.{Local}
 use Rattle.stm_rule.specs.Attempts.{Keeps, IsInside}
 use Rattle.stm_rule.specs.EagerKept.{IsEager}
-use Rattle.tx_answers.specs.Answers.{Quits}
-use Rattle.tx_answers.specs.Causes.{Asked, Conflicts}
-use Rattle.tx_answers.specs.CallerState.{CallerState, known_of, granted_under, kept_under, written_under, is_irrevocable, is_none, wrote, has_written}
+use Rattle.stm_answers.specs.Answers.{Quits}
+use Rattle.stm_answers.specs.Causes.{Asked, Conflicts}
+use Rattle.stm_answers.specs.CallerState.{CallerState, known_of, granted_under, kept_under, written_under, is_irrevocable, is_none, wrote, has_written}
 use Rattle.alg_orec.proofs.Proving.{conflicts-by-records, quits-own, unmade-trans, with_commit}
 use Rattle.alg_orec.specs.EagerEnding.{AbortsEager}
 

@@ -36,23 +36,23 @@ use Rattle.stm_rule.specs.declared.local.Local.{Local}
 use Rattle.stm_rule.specs.Attempts.{own_of, IsInside}
 use Rattle.stm_rule.specs.Callers.{Handle, IsSameCaller}
 use Rattle.stm_rule.specs.EagerKept.{IsEager}
-use Rattle.steps_orec.proofs.OthersLaws.{left-found, moved-others}
-use Rattle.steps_orec.specs.RecordFindings.{FindsAgain}
-use Rattle.tx_answers.specs.declared.answers.Read.{Read}
-use Rattle.tx_answers.specs.declared.answers.Read.TheVariants as reads
-use Rattle.tx_answers.specs.Answers.{GoesOn, HasRead, Quits, StartMoves, write_rise}
-use Rattle.tx_answers.specs.Causes.{Asked, Conflicts, FindsNewer, has_item, reads_full}
-use Rattle.tx_answers.specs.Causes.Asked.{ForWord}
-use Rattle.tx_answers.specs.Evidence.{Found}
-use Rattle.tx_answers.specs.CallerState.{CallerState, caller_of, known_of, is_irrevocable, is_none, has_written}
-use Rattle.tx_answers.specs.CallerStateLaws.{grows-trans, lock-trans}
+use Rattle.alg_orec.proofs.OthersLaws.{left-found, moved-others}
+use Rattle.alg_orec.specs.RecordFindings.{FindsAgain}
+use Rattle.stm_answers.specs.declared.answers.Read.{Read}
+use Rattle.stm_answers.specs.declared.answers.Read.TheVariants as reads
+use Rattle.stm_answers.specs.Answers.{GoesOn, HasRead, Quits, StartMoves, write_rise}
+use Rattle.stm_answers.specs.Causes.{Asked, Conflicts, FindsNewer, has_item, reads_full}
+use Rattle.stm_answers.specs.Causes.Asked.{ForWord}
+use Rattle.stm_answers.specs.Evidence.{Found}
+use Rattle.stm_answers.specs.CallerState.{CallerState, caller_of, known_of, is_irrevocable, is_none, has_written}
+use Rattle.stm_answers.specs.CallerStateLaws.{grows-trans, lock-trans}
 use Rattle.alg_orec.proofs.Eager.EagerCalls.{RunsEager}
 use Rattle.alg_orec.proofs.Eager.EagerLaws as laws
 use Rattle.alg_orec.proofs.Eager.EagerProving.{ended-by, written}
 use Rattle.alg_orec.proofs.Eager.EagerTakingLaws as taking
 use Rattle.stm_gate.proofs.KeptLaws.{kept-same}
 use Rattle.alg_orec.proofs.LoadLaws.{free-word, untouched-loads}
-use Rattle.tx_logs.specs.Probing.{IsPlace}
+use Rattle.stm_logs.specs.Probing.{IsPlace}
 use Rattle.alg_orec.proofs.RecordReads as records
 use Rattle.alg_orec.proofs.LockingLaws.{unheld-of}
 use Rattle.alg_orec.specs.EagerEnding.{CanAbortEager, AbortsEager}

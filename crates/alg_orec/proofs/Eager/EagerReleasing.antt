@@ -18,7 +18,7 @@ use Rattle.rule_orec.specs.OrecSteps.{orec_restore}
 use Rattle.rule_promoted.specs.PromotedSteps.{direct_release}
 use Rattle.rule_promoted.specs.RaisingSteps.{direct_up}
 use Rattle.stm_gate.proofs.Peeling.{drop-all, untouched-none}
-use Rattle.tx_answers.specs.Causes.{has_item, is_some}
+use Rattle.stm_answers.specs.Causes.{has_item, is_some}
 use Rattle.alg_orec.specs.EagerEnding.{restoring, AllBelow, IsNewest}
 use Rattle.alg_orec.specs.Locking.{holding_still}
 use Rattle.alg_orec.proofs.Releasing.{release_item}

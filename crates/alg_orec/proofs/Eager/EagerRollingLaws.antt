@@ -20,11 +20,11 @@ use Rattle.rule_orec.specs.OrecSteps.{HasOpen, orec_place}
 use Rattle.stm_rule.specs.declared.local.Local.{Local}
 use Rattle.stm_rule.specs.Attempts.{own_of, IsInside, Keeps, Stands}
 use Rattle.stm_rule.specs.EagerKept.{IsEager}
-use Rattle.tx_answers.specs.declared.answers.Roll.TheVariants.{Rolled}
-use Rattle.tx_answers.specs.Answers.{Rolls, kept_rolled}
-use Rattle.tx_answers.specs.Causes.{has_item}
-use Rattle.tx_answers.specs.CallerState.{CallerState, known_of, kept_under, written_under}
-use Rattle.tx_logs.specs.LogStates.{LogState, rolled, firsts}
+use Rattle.stm_answers.specs.declared.answers.Roll.TheVariants.{Rolled}
+use Rattle.stm_answers.specs.Answers.{Rolls, kept_rolled}
+use Rattle.stm_answers.specs.Causes.{has_item}
+use Rattle.stm_answers.specs.CallerState.{CallerState, known_of, kept_under, written_under}
+use Rattle.stm_logs.specs.LogStates.{LogState, rolled, firsts}
 use Rattle.stm_gate.proofs.Peeling.{has-touched}
 use Rattle.stm_gate.proofs.RollItems.{has-by, has-take, first-addresses, first-fewer}
 use Rattle.stm_gate.proofs.Told.{stands-on}

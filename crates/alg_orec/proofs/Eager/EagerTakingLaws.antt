@@ -37,15 +37,15 @@ use Rattle.stm_gate.specs.LeavingLaws.{found-earlier}
 use Rattle.stm_gate.specs.Logging.{put-new}
 use Rattle.stm_rule.specs.Alone.{left_at}
 use Rattle.stm_rule.specs.declared.local.Local.{Local}
-use Rattle.steps_orec.proofs.OthersLaws.{left-found, moved-others}
-use Rattle.steps_orec.specs.RecordFindings.{FindsClock, FindsRecord}
-use Rattle.tx_answers.specs.Causes.{Conflicts, IsInTheWay}
-use Rattle.tx_answers.specs.Causes.Asked.{ForWord}
-use Rattle.tx_answers.specs.Evidence.{Untouched}
-use Rattle.tx_answers.specs.CallerState.{known_of}
-use Rattle.tx_logs.specs.declared.push.Push.{Push}
-use Rattle.tx_logs.specs.declared.push.Push.TheVariants as pushes
-use Rattle.tx_logs.specs.LogStates.{LogState, Pushes, keep}
+use Rattle.alg_orec.proofs.OthersLaws.{left-found, moved-others}
+use Rattle.alg_orec.specs.RecordFindings.{FindsClock, FindsRecord}
+use Rattle.stm_answers.specs.Causes.{Conflicts, IsInTheWay}
+use Rattle.stm_answers.specs.Causes.Asked.{ForWord}
+use Rattle.stm_answers.specs.Evidence.{Untouched}
+use Rattle.stm_answers.specs.CallerState.{known_of}
+use Rattle.stm_logs.specs.declared.push.Push.{Push}
+use Rattle.stm_logs.specs.declared.push.Push.TheVariants as pushes
+use Rattle.stm_logs.specs.LogStates.{LogState, Pushes, keep}
 use Rattle.alg_orec.proofs.LoadLaws.{free-word, owed-earlier, owed-later, untouched-loads}
 use Rattle.alg_orec.proofs.LockingLaws.{pushes-new, held-of}
 use Rattle.alg_orec.specs.EagerTaking.{CanLoadWord, CanTake, HasTaken, FindsLimit, CanStoreFirst, StoresFirst}

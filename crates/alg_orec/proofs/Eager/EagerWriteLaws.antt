@@ -37,16 +37,16 @@ use Rattle.stm_rule.specs.declared.local.Local.{Local}
 use Rattle.stm_rule.specs.Attempts.{own_of, IsInside, HasRoom}
 use Rattle.stm_rule.specs.Attempts as attempts
 use Rattle.stm_rule.specs.EagerKept.{IsEager}
-use Rattle.tx_answers.specs.declared.answers.Write.{Write}
-use Rattle.tx_answers.specs.declared.answers.Write.TheVariants as writes
-use Rattle.tx_answers.specs.Answers.{HasWritten, StartMoves, kept_with}
-use Rattle.tx_answers.specs.Causes.{Conflicts, FindsNewer, has_item, is_some, writes_full}
-use Rattle.tx_answers.specs.Causes.Asked.{ForWord}
-use Rattle.tx_answers.specs.Evidence.{Found}
-use Rattle.tx_answers.specs.CallerState.{Grows, known_of, kept_under, written_under, is_in, is_closing, is_irrevocable}
-use Rattle.tx_logs.specs.declared.push.Push.{Push}
-use Rattle.tx_logs.specs.declared.push.Push.TheVariants as pushes
-use Rattle.tx_logs.specs.LogStates.{LogState, Pushes}
+use Rattle.stm_answers.specs.declared.answers.Write.{Write}
+use Rattle.stm_answers.specs.declared.answers.Write.TheVariants as writes
+use Rattle.stm_answers.specs.Answers.{HasWritten, StartMoves, kept_with}
+use Rattle.stm_answers.specs.Causes.{Conflicts, FindsNewer, has_item, is_some, writes_full}
+use Rattle.stm_answers.specs.Causes.Asked.{ForWord}
+use Rattle.stm_answers.specs.Evidence.{Found}
+use Rattle.stm_answers.specs.CallerState.{Grows, known_of, kept_under, written_under, is_in, is_closing, is_irrevocable}
+use Rattle.stm_logs.specs.declared.push.Push.{Push}
+use Rattle.stm_logs.specs.declared.push.Push.TheVariants as pushes
+use Rattle.stm_logs.specs.LogStates.{LogState, Pushes}
 use Rattle.alg_orec.proofs.Eager.EagerCalls.{RunsEager}
 use Rattle.alg_orec.proofs.Eager.EagerLaws as laws
 use Rattle.alg_orec.proofs.Eager.EagerProving as proving

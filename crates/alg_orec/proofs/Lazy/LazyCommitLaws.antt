@@ -27,15 +27,15 @@ use Rattle.rule_base.specs.Own.{Own}
 use Rattle.rule_base.specs.Ranks.{home_of}
 use Rattle.rule_orec.specs.OrecReading.{no_check}
 use Rattle.rule_orec.specs.OrecSteps.{HasOpen}
-use Rattle.tx_logs.specs.LogStates.{LogState}
+use Rattle.stm_logs.specs.LogStates.{LogState}
 use Rattle.stm_rule.specs.declared.local.Local.{Local}
 use Rattle.stm_rule.specs.Attempts.{Keeps, IsInside, own_of}
 use Rattle.stm_rule.specs.RecordsKept.{cells_of, IsLazy}
-use Rattle.tx_answers.specs.Causes.{Conflicts, IsStaleAt, OwesValidation, has_item}
-use Rattle.tx_answers.specs.Causes.Asked.{ToCommit}
-use Rattle.tx_answers.specs.Evidence.{Found, Untouched}
-use Rattle.tx_answers.specs.CallerState.{Grows, known_of, granted_under, written_under, is_irrevocable, wrote}
-use Rattle.tx_answers.specs.CallerStateLaws.{grows-same}
+use Rattle.stm_answers.specs.Causes.{Conflicts, IsStaleAt, OwesValidation, has_item}
+use Rattle.stm_answers.specs.Causes.Asked.{ToCommit}
+use Rattle.stm_answers.specs.Evidence.{Found, Untouched}
+use Rattle.stm_answers.specs.CallerState.{Grows, known_of, granted_under, written_under, is_irrevocable, wrote}
+use Rattle.stm_answers.specs.CallerStateLaws.{grows-same}
 use Rattle.stm_gate.specs.LeavingLaws.{IsUnmade}
 use Rattle.stm_gate.specs.Opacity.{later-seen}
 use Rattle.stm_gate.proofs.Peeling.{has-touched}

@@ -12,10 +12,10 @@ use Rattle.rule_base.specs.Own.{Own}
 use Rattle.stm_rule.specs.declared.local.Local.{Local}
 use Rattle.stm_rule.specs.Attempts.{IsInside}
 use Rattle.stm_rule.specs.RecordsKept.{cells_of, IsLazy}
-use Rattle.tx_answers.specs.declared.answers.Cancel.TheVariants.{Cancelled}
-use Rattle.tx_answers.specs.declared.answers.Commit.TheVariants.{ReadOnly}
-use Rattle.tx_answers.specs.Answers.{Commits, Cancels, EndsAt}
-use Rattle.tx_answers.specs.CallerState.{known_of, granted_under, written_under, is_irrevocable, wrote}
+use Rattle.stm_answers.specs.declared.answers.Cancel.TheVariants.{Cancelled}
+use Rattle.stm_answers.specs.declared.answers.Commit.TheVariants.{ReadOnly}
+use Rattle.stm_answers.specs.Answers.{Commits, Cancels, EndsAt}
+use Rattle.stm_answers.specs.CallerState.{known_of, granted_under, written_under, is_irrevocable, wrote}
 use Rattle.stm_gate.specs.Leaving.{CanLeave, left}
 use Rattle.stm_gate.specs.LeavingLaws.{unmade-refl, ended-left}
 use Rattle.stm_gate.specs.Opacity.{opaque-inside}

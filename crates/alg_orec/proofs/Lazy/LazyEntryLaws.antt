@@ -34,12 +34,12 @@ use Rattle.rule_orec.specs.OrecSteps.{HasOrec, orec_limit, orec_entry, orec_comm
 use Rattle.stm_rule.specs.declared.local.Local.{Local}
 use Rattle.stm_rule.specs.Attempts.{IsInside, IsOutside, HasRoom, Stands, StandsBy, ended}
 use Rattle.stm_rule.specs.RecordsKept.{cells_of, IsLazy}
-use Rattle.steps_orec.proofs.OthersLaws.{clock-others}
-use Rattle.steps_orec.specs.RecordFindings.{FindsClock, FindsCommit, Enters}
-use Rattle.tx_answers.specs.Answers.{Quits, Commits, CommitsAt, KeepsRule, entry}
-use Rattle.tx_answers.specs.declared.answers.Commit.TheVariants as commits
-use Rattle.tx_answers.specs.Causes.Asked.{ToCommit}
-use Rattle.tx_answers.specs.CallerState.{Grows, known_of, fenced_of, granted_under, kept_under, written_under, is_in, is_closing, wrote, zeros, locked_under}
+use Rattle.alg_orec.proofs.OthersLaws.{clock-others}
+use Rattle.alg_orec.specs.RecordFindings.{FindsClock, FindsCommit, Enters}
+use Rattle.stm_answers.specs.Answers.{Quits, Commits, CommitsAt, KeepsRule, entry}
+use Rattle.stm_answers.specs.declared.answers.Commit.TheVariants as commits
+use Rattle.stm_answers.specs.Causes.Asked.{ToCommit}
+use Rattle.stm_answers.specs.CallerState.{Grows, known_of, fenced_of, granted_under, kept_under, written_under, is_in, is_closing, wrote, zeros, locked_under}
 use Rattle.stm_gate.specs.LeavingLaws.{IsUnmade, found-later, finds-full}
 use Rattle.stm_gate.specs.Opacity.{opaque-inside}
 use Rattle.alg_orec.specs.Committing.{CanCommit, CanFinish, readied, IsReady, IsStopped}

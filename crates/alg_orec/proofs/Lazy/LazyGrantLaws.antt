@@ -17,8 +17,8 @@ use Rattle.rule_base.specs.History.{over, touches, Inside, Small}
 use Rattle.stm_rule.specs.declared.local.Local.{Local}
 use Rattle.stm_rule.specs.Attempts.{Stands, emptied, ended, own_of}
 use Rattle.stm_rule.specs.RecordsKept.{cells_of, IsLazy}
-use Rattle.tx_answers.specs.declared.answers.Irrev.TheVariants as irrevs
-use Rattle.tx_answers.specs.CallerState.{known_of}
+use Rattle.stm_answers.specs.declared.answers.Irrev.TheVariants as irrevs
+use Rattle.stm_answers.specs.CallerState.{known_of}
 use Rattle.stm_gate.specs.Granting.{Grants}
 use Rattle.alg_orec.specs.Ending.{CanAbortLazy, GivesUp}
 use Rattle.alg_orec.specs.Granting.{CanPromote, promoted_at, IsPromoted, IsNotPromoted, CanStoreAll, StoresAll}

@@ -26,16 +26,16 @@ use Rattle.stm_rule.specs.declared.local.Local.{Local}
 use Rattle.stm_rule.specs.Attempts.{own_of, IsInside}
 use Rattle.stm_rule.specs.Attempts as attempts
 use Rattle.stm_rule.specs.RecordsKept.{Apart, cells_of, IsLazy, HasMarks}
-use Rattle.steps_orec.specs.RecordFindings.{FindsStart}
-use Rattle.tx_answers.specs.declared.answers.Read.TheVariants as answers
-use Rattle.tx_answers.specs.declared.answers.Write.TheVariants as writes
-use Rattle.tx_answers.specs.Answers.{HasRead, HasWritten, Quits, StartMoves, kept_with}
-use Rattle.tx_answers.specs.Causes.{is_some, writes_full}
-use Rattle.tx_answers.specs.Causes.Asked.{ForWord}
-use Rattle.tx_answers.specs.CallerState.{known_of, granted_under, kept_under, written_under, is_irrevocable, is_in, is_closing}
-use Rattle.tx_answers.specs.CallerStateLaws.{grows-same}
-use Rattle.tx_logs.specs.declared.push.Push.TheVariants as pushes
-use Rattle.tx_logs.specs.LogStates.{LogState, Pushes}
+use Rattle.alg_orec.specs.RecordFindings.{FindsStart}
+use Rattle.stm_answers.specs.declared.answers.Read.TheVariants as answers
+use Rattle.stm_answers.specs.declared.answers.Write.TheVariants as writes
+use Rattle.stm_answers.specs.Answers.{HasRead, HasWritten, Quits, StartMoves, kept_with}
+use Rattle.stm_answers.specs.Causes.{is_some, writes_full}
+use Rattle.stm_answers.specs.Causes.Asked.{ForWord}
+use Rattle.stm_answers.specs.CallerState.{known_of, granted_under, kept_under, written_under, is_irrevocable, is_in, is_closing}
+use Rattle.stm_answers.specs.CallerStateLaws.{grows-same}
+use Rattle.stm_logs.specs.declared.push.Push.TheVariants as pushes
+use Rattle.stm_logs.specs.LogStates.{LogState, Pushes}
 use Rattle.stm_gate.proofs.KeptLaws.{kept-put, length-addresses, member-item}
 use Rattle.stm_gate.specs.Logging.{put-new}
 use Rattle.stm_gate.specs.Opacity.{opaque-inside}

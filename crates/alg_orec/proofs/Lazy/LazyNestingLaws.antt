@@ -12,10 +12,10 @@ use Rattle.rule_base.specs.Bridge.{items}
 use Rattle.stm_rule.specs.declared.local.Local.{Local}
 use Rattle.stm_rule.specs.Attempts.{Keeps, Stands, own_of}
 use Rattle.stm_rule.specs.RecordsKept.{IsLazy, IsWriteSet, HasMarks}
-use Rattle.tx_answers.specs.declared.answers.Roll.TheVariants.{Rolled}
-use Rattle.tx_answers.specs.Answers.{Rolls, kept_rolled}
-use Rattle.tx_answers.specs.CallerState.{CallerState, known_of, kept_under, written_under}
-use Rattle.tx_logs.specs.LogStates.{LogState, rolled}
+use Rattle.stm_answers.specs.declared.answers.Roll.TheVariants.{Rolled}
+use Rattle.stm_answers.specs.Answers.{Rolls, kept_rolled}
+use Rattle.stm_answers.specs.CallerState.{CallerState, known_of, kept_under, written_under}
+use Rattle.stm_logs.specs.LogStates.{LogState, rolled}
 use Rattle.stm_gate.proofs.MarkLaws.{marks-take}
 use Rattle.stm_gate.proofs.Cells.{items-cells}
 use Rattle.alg_orec.proofs.NestingOpening.{GoesOn, inside-with, stands-with, rolls-log}

@@ -8,7 +8,7 @@ use Rattle.stm_rule.specs.Attempts.{IsInside, Stands, good_by, own_of}
 use Rattle.stm_rule.specs.Callers.{Handle, IsOf, IsTied}
 use Rattle.stm_rule.specs.RecordsKept.{IsLazy}
 use Rattle.stm_rule.proofs.StandLemmas.{inside-of}
-use Rattle.tx_answers.specs.CallerState.{CallerState, IsRunning}
+use Rattle.stm_answers.specs.CallerState.{CallerState, IsRunning}
 use Rattle.stm_gate.specs.Knowing.{known}
 use Rattle.stm_gate.proofs.Opening.{opened}
 use Rattle.stm_gate.proofs.Standing.{in-of}

@@ -1,6 +1,6 @@
 use Rattle.std.proofs.Common.{◌∙◌, ℕ, List, refl, ap, inl, arith, sym, subst}
 use Rattle.std.specs.Prelude.{slice_index}
-use Rattle.bank_jobs.specs.Banks.{IsPaid}
+use Rattle.example_bank_jobs.specs.Banks.{IsPaid}
 use Rattle.example_bank.proofs.run.Goals as goal
 
 pub with_memory-requires-clause-good : goal.with_memory-requires-clause-good

@@ -1,8 +1,8 @@
 use Rattle.std.proofs.Common.{◌∙◌}
 use Rattle.nekchhaul.specs.StoryLaws.{by-came}
-use Rattle.mailbox.proofs.MailLaws.{zeros-well}
-use Rattle.mail_jobs.specs.declared.day.TheConstants.{MAILBOX}
-use Rattle.mail_jobs.proofs.DayLaws.{closed-day}
+use Rattle.example_mailbox.proofs.MailLaws.{zeros-well}
+use Rattle.example_mail_jobs.specs.declared.day.TheConstants.{MAILBOX}
+use Rattle.example_mail_jobs.proofs.DayLaws.{closed-day}
 use Rattle.example_mail.proofs.run.Goals as goal
 
 pub with_memory-requires-clause-good : goal.with_memory-requires-clause-good

@@ -10,10 +10,10 @@ use Rattle.stm_rule.specs.Attempts.{own_of}
 use Rattle.stm_rule.specs.Callers.{Handle}
 use Rattle.stm_rule.specs.Kept.{good_of}
 use Rattle.stm_rule.proofs.StandLemmas.{tells-of}
-use Rattle.tx_answers.specs.declared.answers.Commit.TheVariants.{Committed, ReadOnly}
-use Rattle.tx_answers.specs.Answers.{KeepsRule}
-use Rattle.tx_answers.specs.Answers as answers
-use Rattle.tx_answers.specs.CallerState.{CallerState}
+use Rattle.stm_answers.specs.declared.answers.Commit.TheVariants.{Committed, ReadOnly}
+use Rattle.stm_answers.specs.Answers.{KeepsRule}
+use Rattle.stm_answers.specs.Answers as answers
+use Rattle.stm_answers.specs.CallerState.{CallerState}
 use Rattle.stm_gate.proofs.DirectLaws as direct
 use Rattle.stm_gate.proofs.Opening.{Opened, opened, of-view, shows}
 use Rattle.alg_orec.proofs.CommitOpening.{Promoted, promoted}

@@ -8,10 +8,10 @@ use Rattle.rule_orec.specs.OrecSteps.{orec_limit, orec_commit}
 use Rattle.stm_rule.specs.declared.local.Local.{Local}
 use Rattle.stm_rule.specs.Attempts.{own_of, ended, Stands}
 use Rattle.stm_rule.specs.Kept.{good_of}
-use Rattle.steps_orec.specs.RecordFindings.{FindsClock, FindsCommit}
-use Rattle.tx_answers.specs.declared.answers.Commit.TheVariants as commits
-use Rattle.tx_answers.specs.Answers as answers
-use Rattle.tx_answers.specs.CallerState.{known_of}
+use Rattle.alg_orec.specs.RecordFindings.{FindsClock, FindsCommit}
+use Rattle.stm_answers.specs.declared.answers.Commit.TheVariants as commits
+use Rattle.stm_answers.specs.Answers as answers
+use Rattle.stm_answers.specs.CallerState.{known_of}
 use Rattle.alg_orec.specs.EagerCommitting.{CanCommitPlaced}
 use Rattle.alg_orec.proofs.Eager.EagerCommitLaws as laws
 use Rattle.alg_orec.proofs.eager_committing.commit_placed.Goals.{In_default, After-limit-clock, After-commit_placed-now}

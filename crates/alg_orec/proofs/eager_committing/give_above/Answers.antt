@@ -6,7 +6,7 @@ use Rattle.rule_base.specs.declared.views.View.{View}
 use Rattle.rule_base.specs.Encodings.{free_record}
 use Rattle.rule_base.specs.History.{over, touches, without}
 use Rattle.rule_promoted.specs.RaisingSteps.{direct_raise_clock}
-use Rattle.steps_orec.specs.RecordFindings.{FindsStill}
+use Rattle.alg_orec.specs.RecordFindings.{FindsStill}
 use Rattle.stm_gate.proofs.Peeling.{peeled}
 use Rattle.stm_rule.proofs.StandLemmas.{tells-of}
 use Rattle.alg_orec.specs.EagerEnding.{AllBelow}

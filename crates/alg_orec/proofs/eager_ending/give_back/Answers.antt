@@ -1,7 +1,7 @@
 use Rattle.std.proofs.Common.{◌≡◌, ◌<◌, ◌+◌, length, refl, arith, rules}
 use Rattle.rule_orec.specs.OrecSteps.{orec_raise_clock}
 use Rattle.stm_rule.proofs.StandLemmas.{tells-of}
-use Rattle.steps_orec.specs.RecordFindings.{FindsClock}
+use Rattle.alg_orec.specs.RecordFindings.{FindsClock}
 use Rattle.alg_orec.proofs.Eager.EagerBackLaws as laws
 use Rattle.alg_orec.proofs.eager_ending.give_back.Goals as goal
 

@@ -5,7 +5,7 @@ use Rattle.rule_base.specs.declared.views.View.{View}
 use Rattle.rule_base.specs.History.{over, touches, without}
 use Rattle.rule_orec.specs.OrecSteps.{HasOrec}
 use Rattle.stm_gate.proofs.Peeling.{has-touched}
-use Rattle.tx_answers.specs.Causes.{has_item}
+use Rattle.stm_answers.specs.Causes.{has_item}
 use Rattle.alg_orec.specs.EagerEnding.{restoring}
 use Rattle.alg_orec.proofs.Eager.EagerReleasing.{IsAhead, ahead-more, ahead-none, old-value, restore_item, restored-step}
 use Rattle.alg_orec.proofs.eager_ending.restore_all.Goals.{After-item-a}

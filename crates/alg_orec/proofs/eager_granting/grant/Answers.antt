@@ -4,8 +4,8 @@ use Rattle.rule_base.specs.declared.seats.SeatView.{SeatView}
 use Rattle.stm_rule.specs.declared.local.Local.{Local}
 use Rattle.stm_rule.specs.Attempts.{own_of}
 use Rattle.stm_rule.specs.Callers.{Handle}
-use Rattle.tx_answers.specs.declared.answers.Irrev.TheVariants as irrevs
-use Rattle.tx_answers.specs.CallerState.{CallerState, known_of}
+use Rattle.stm_answers.specs.declared.answers.Irrev.TheVariants as irrevs
+use Rattle.stm_answers.specs.CallerState.{CallerState, known_of}
 use Rattle.stm_gate.specs.Granting.{Grants}
 use Rattle.stm_gate.specs.Knowing.{known}
 use Rattle.stm_gate.proofs.Opening.{opened, stands-after, tells-of}

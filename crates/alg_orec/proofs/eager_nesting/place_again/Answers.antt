@@ -6,7 +6,7 @@ use Rattle.rule_base.specs.History.{touches, Small}
 use Rattle.rule_base.specs.Lemmas.HistoryLemmas.{small-more}
 use Rattle.rule_base.specs.Bridge.{items}
 use Rattle.rule_orec.specs.OrecSteps.{HasOpen}
-use Rattle.tx_answers.specs.Causes.{has_item}
+use Rattle.stm_answers.specs.Causes.{has_item}
 use Rattle.stm_gate.proofs.RollItems.{there-item, stored-next, stored-all}
 use Rattle.alg_orec.proofs.Eager.EagerReleasing.{restore_item}
 use Rattle.alg_orec.proofs.Eager.EagerRollingLaws.{again-step}

@@ -10,7 +10,7 @@ use Rattle.rule_base.specs.Lemmas.BridgeLemmas.{item-some}
 use Rattle.rule_orec.specs.OrecSteps.{HasOrec}
 use Rattle.stm_gate.proofs.Peeling.{has-touched}
 use Rattle.stm_gate.proofs.RollItems.{peeled-last, take-whole, there-item}
-use Rattle.tx_answers.specs.Causes.{has_item, is_some}
+use Rattle.stm_answers.specs.Causes.{has_item, is_some}
 use Rattle.alg_orec.proofs.Eager.EagerReleasing.{restore_item, restored-step}
 use Rattle.alg_orec.proofs.Eager.EagerRollingLaws.{small-without}
 use Rattle.alg_orec.proofs.eager_nesting.restore_after.Goals as goal

@@ -3,10 +3,10 @@ use Rattle.std.specs.Prelude.{nat_lt}
 use Rattle.rule_base.specs.declared.seats.SeatView.{SeatView}
 use Rattle.stm_rule.specs.declared.local.Local.{Local}
 use Rattle.stm_rule.specs.Attempts.{own_of}
-use Rattle.tx_answers.specs.declared.answers.Roll.TheVariants.{Rolled}
-use Rattle.tx_answers.specs.Answers.{Rolls}
-use Rattle.tx_answers.specs.CallerState.{CallerState, known_of}
-use Rattle.tx_logs.specs.LogStates.{LogState, rolled}
+use Rattle.stm_answers.specs.declared.answers.Roll.TheVariants.{Rolled}
+use Rattle.stm_answers.specs.Answers.{Rolls}
+use Rattle.stm_answers.specs.CallerState.{CallerState, known_of}
+use Rattle.stm_logs.specs.LogStates.{LogState, rolled}
 use Rattle.stm_gate.proofs.MarkLaws.{some-by}
 use Rattle.stm_gate.proofs.Opening.{opened, stands-after, tells-of}
 use Rattle.alg_orec.specs.EagerNesting.{RestoresAfter}

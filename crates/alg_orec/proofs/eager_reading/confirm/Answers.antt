@@ -9,9 +9,9 @@ use Rattle.stm_rule.specs.Attempts.{own_of}
 use Rattle.stm_rule.specs.Callers.{handle_of}
 use Rattle.stm_rule.specs.Kept.{good_of}
 use Rattle.stm_rule.proofs.StandLemmas.{tells-of}
-use Rattle.steps_orec.specs.RecordFindings.{FindsAgain}
-use Rattle.tx_answers.specs.declared.answers.Read.TheVariants as reads
-use Rattle.tx_answers.specs.CallerState.{CallerState}
+use Rattle.alg_orec.specs.RecordFindings.{FindsAgain}
+use Rattle.stm_answers.specs.declared.answers.Read.TheVariants as reads
+use Rattle.stm_answers.specs.CallerState.{CallerState}
 use Rattle.stm_gate.proofs.Opening.{of-view, of-seen}
 use Rattle.alg_orec.proofs.Eager.EagerOpening.{EagerOpening, answers-read, counts, opens-eager, stays-read}
 use Rattle.alg_orec.proofs.RecordOpening.{answers-ended, place-here}

@@ -6,7 +6,7 @@ use Rattle.rule_orec.specs.OrecSteps.{orec_load}
 use Rattle.stm_rule.specs.Attempts.{own_of}
 use Rattle.stm_rule.specs.Callers.{handle_of}
 use Rattle.stm_rule.proofs.StandLemmas.{tells-of}
-use Rattle.tx_answers.specs.CallerState.{CallerState}
+use Rattle.stm_answers.specs.CallerState.{CallerState}
 use Rattle.stm_gate.proofs.Opening.{of-view, of-seen, shows}
 use Rattle.alg_orec.proofs.Eager.EagerOpening.{EagerOpening, opens-eager}
 use Rattle.alg_orec.proofs.RecordOpening.{stays-tied}

@@ -6,9 +6,9 @@ use Rattle.rule_base.specs.declared.views.View.{View}
 use Rattle.stm_rule.specs.declared.local.Local.{Local}
 use Rattle.stm_rule.specs.Attempts.{own_of}
 use Rattle.stm_rule.specs.Callers.{handle_of}
-use Rattle.tx_answers.specs.declared.answers.Read.TheVariants as reads
-use Rattle.tx_answers.specs.Answers.{HasRead}
-use Rattle.tx_answers.specs.CallerState.{CallerState, known_of}
+use Rattle.stm_answers.specs.declared.answers.Read.TheVariants as reads
+use Rattle.stm_answers.specs.Answers.{HasRead}
+use Rattle.stm_answers.specs.CallerState.{CallerState, known_of}
 use Rattle.stm_gate.proofs.Opening.{is-known, shows}
 use Rattle.alg_orec.proofs.Eager.EagerLaws as eager
 use Rattle.alg_orec.proofs.Eager.EagerOpening.{EagerOpening, counts, opens-eager}

@@ -9,8 +9,8 @@ use Rattle.rule_orec.specs.OrecSteps.{orec_limit, orec_lock, CanOrecLock}
 use Rattle.stm_rule.specs.declared.local.Local.{Local}
 use Rattle.stm_rule.specs.Kept.{good_of}
 use Rattle.stm_rule.proofs.StandLemmas.{tells-of}
-use Rattle.steps_orec.specs.RecordFindings.{FindsRecord, FindsClock}
-use Rattle.tx_logs.specs.LogStates.{Pushes, keep}
+use Rattle.alg_orec.specs.RecordFindings.{FindsRecord, FindsClock}
+use Rattle.stm_logs.specs.LogStates.{Pushes, keep}
 use Rattle.alg_orec.proofs.LockingLaws.{unheld-of}
 use Rattle.alg_orec.proofs.Eager.EagerTakingLaws as laws
 use Rattle.alg_orec.proofs.eager_taking.take_record.Goals.{After-limit-clock, In-Ok, After-lock-found}

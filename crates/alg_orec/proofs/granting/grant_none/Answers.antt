@@ -2,7 +2,7 @@ use Rattle.std.proofs.Common.{rules}
 use Rattle.rule_orec.specs.OrecSteps.{orec_grant_all}
 use Rattle.stm_rule.specs.Kept.{good_of}
 use Rattle.stm_rule.proofs.StandLemmas.{tells-of}
-use Rattle.steps_orec.specs.RecordFindings.{FindsAll}
+use Rattle.alg_orec.specs.RecordFindings.{FindsAll}
 use Rattle.alg_orec.proofs.PromotingLaws as laws
 use Rattle.alg_orec.proofs.granting.grant_none.Goals as goal
 

@@ -7,9 +7,9 @@ use Rattle.rule_orec.specs.OrecSteps.{orec_clock, orec_grant}
 use Rattle.stm_rule.specs.Findings.{FindsWithin}
 use Rattle.stm_rule.specs.Kept.{good_of}
 use Rattle.stm_rule.proofs.StandLemmas.{tells-of}
-use Rattle.steps_orec.specs.RecordFindings.{FindsClock, FindsGrant}
-use Rattle.steps_orec.specs.Validating.{to_validate}
-use Rattle.tx_answers.specs.declared.answers.Irrev.TheVariants as irrevs
+use Rattle.alg_orec.specs.RecordFindings.{FindsClock, FindsGrant}
+use Rattle.alg_orec.specs.Vouching.{to_validate}
+use Rattle.stm_answers.specs.declared.answers.Irrev.TheVariants as irrevs
 use Rattle.alg_orec.specs.Granting.{IsNotPromoted}
 use Rattle.alg_orec.proofs.PromotingLaws as laws
 use Rattle.alg_orec.proofs.Validity as validity

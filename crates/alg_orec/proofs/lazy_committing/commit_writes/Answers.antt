@@ -7,10 +7,10 @@ use Rattle.stm_rule.specs.declared.local.Local.{Local}
 use Rattle.stm_rule.specs.Attempts.{own_of, Stands}
 use Rattle.stm_rule.specs.Kept.{good_of}
 use Rattle.stm_rule.specs.RecordsKept.{cells_of}
-use Rattle.steps_orec.specs.RecordFindings.{FindsClock, FindsCommit}
-use Rattle.tx_answers.specs.declared.answers.Commit.TheVariants as commits
-use Rattle.tx_answers.specs.Answers as answers
-use Rattle.tx_answers.specs.CallerState.{known_of}
+use Rattle.alg_orec.specs.RecordFindings.{FindsClock, FindsCommit}
+use Rattle.stm_answers.specs.declared.answers.Commit.TheVariants as commits
+use Rattle.stm_answers.specs.Answers as answers
+use Rattle.stm_answers.specs.CallerState.{known_of}
 use Rattle.alg_orec.specs.Committing.{CanCommit}
 use Rattle.alg_orec.proofs.Lazy.LazyEntryLaws as laws
 use Rattle.alg_orec.proofs.Proving.{own-ready, own-stopped, lazy-of}

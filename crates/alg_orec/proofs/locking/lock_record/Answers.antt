@@ -5,8 +5,8 @@ use Rattle.rule_base.specs.Encodings.{is_owned, version_of}
 use Rattle.rule_base.specs.History.{touches}
 use Rattle.rule_base.specs.StepKinds.{Tells}
 use Rattle.rule_orec.specs.OrecSteps.{orec_look, orec_lock}
-use Rattle.steps_orec.specs.RecordFindings.{FindsRecord}
-use Rattle.tx_logs.specs.LogStates.{Pushes, keep}
+use Rattle.alg_orec.specs.RecordFindings.{FindsRecord}
+use Rattle.stm_logs.specs.LogStates.{Pushes, keep}
 use Rattle.alg_orec.specs.Locking.{LocksOne}
 use Rattle.alg_orec.proofs.LockingLaws as laws
 use Rattle.alg_orec.proofs.locking.lock_record.Goals.{After-look-word, After-lock-found}

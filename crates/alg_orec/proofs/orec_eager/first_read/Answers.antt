@@ -3,8 +3,8 @@ use Rattle.std.specs.Prelude.{Option, Ok}
 use Rattle.stm_model.specs.declared.alg.Alg.TheVariants.{OrecEager}
 use Rattle.rule_base.specs.Encodings.{fenced}
 use Rattle.stm_rule.specs.Callers.{Handle}
-use Rattle.tx_answers.specs.Answers.{HasRead}
-use Rattle.tx_answers.specs.CallerState.{IsRunning}
+use Rattle.stm_answers.specs.Answers.{HasRead}
+use Rattle.stm_answers.specs.CallerState.{IsRunning}
 use Rattle.stm_gate.specs.Knowing.{known, number}
 use Rattle.alg_orec.proofs.Eager.EagerReadLaws as laws
 use Rattle.alg_orec.specs.EagerReading.{HoldsRecord, IsNew, Samples}

@@ -7,9 +7,9 @@ use Rattle.rule_base.specs.declared.views.GateView.{GateView}
 use Rattle.stm_rule.specs.declared.local.Local.{Local}
 use Rattle.stm_rule.specs.Attempts.{own_of}
 use Rattle.stm_rule.specs.Callers.{handle_of}
-use Rattle.tx_answers.specs.declared.answers.Write.TheVariants as writes
-use Rattle.tx_answers.specs.Answers.{HasWritten}
-use Rattle.tx_answers.specs.CallerState.{CallerState}
+use Rattle.stm_answers.specs.declared.answers.Write.TheVariants as writes
+use Rattle.stm_answers.specs.Answers.{HasWritten}
+use Rattle.stm_answers.specs.CallerState.{CallerState}
 use Rattle.stm_gate.proofs.Opening.{is-known, of-view}
 use Rattle.alg_orec.proofs.Eager.EagerCalls.{RunsEager}
 use Rattle.alg_orec.proofs.Eager.EagerLaws as reading

@@ -3,9 +3,9 @@ use Rattle.std.specs.Prelude.{None}
 use Rattle.stm_model.specs.Memories.{item_at}
 use Rattle.stm_rule.specs.Attempts.{own_of}
 use Rattle.stm_rule.specs.Callers.{handle_of}
-use Rattle.tx_answers.specs.declared.answers.Read.TheVariants as reads
-use Rattle.tx_answers.specs.Answers.{HasRead}
-use Rattle.tx_answers.specs.CallerState.{CallerState}
+use Rattle.stm_answers.specs.declared.answers.Read.TheVariants as reads
+use Rattle.stm_answers.specs.Answers.{HasRead}
+use Rattle.stm_answers.specs.CallerState.{CallerState}
 use Rattle.stm_gate.proofs.Opening.{is-known}
 use Rattle.alg_orec.proofs.Eager.EagerLaws as laws
 use Rattle.alg_orec.proofs.RecordReads as records

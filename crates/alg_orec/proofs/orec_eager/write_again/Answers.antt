@@ -6,8 +6,8 @@ use Rattle.rule_orec.specs.OrecSteps.{orec_place}
 use Rattle.stm_rule.specs.Attempts.{own_of}
 use Rattle.stm_rule.specs.Callers.{handle_of}
 use Rattle.stm_rule.proofs.StandLemmas.{tells-of}
-use Rattle.tx_answers.specs.Causes.{is_some}
-use Rattle.tx_answers.specs.CallerState.{CallerState}
+use Rattle.stm_answers.specs.Causes.{is_some}
+use Rattle.stm_answers.specs.CallerState.{CallerState}
 use Rattle.stm_gate.proofs.Opening.{of-view}
 use Rattle.alg_orec.proofs.Eager.EagerOpening.{EagerOpening, answers-stored, opens-eager, stays-stored}
 use Rattle.alg_orec.proofs.Eager.EagerWriteLaws as laws

@@ -7,13 +7,13 @@ use Rattle.rule_base.specs.Bridge.{items}
 use Rattle.stm_rule.specs.declared.local.Local.{Local}
 use Rattle.stm_rule.specs.Attempts.{own_of}
 use Rattle.stm_rule.specs.Callers.{handle_of}
-use Rattle.tx_answers.specs.declared.answers.Read.TheVariants as reads
-use Rattle.tx_answers.specs.Answers.{HasRead}
-use Rattle.tx_answers.specs.CallerState.{CallerState}
+use Rattle.stm_answers.specs.declared.answers.Read.TheVariants as reads
+use Rattle.stm_answers.specs.Answers.{HasRead}
+use Rattle.stm_answers.specs.CallerState.{CallerState}
 use Rattle.stm_gate.specs.Knowing.{known}
 use Rattle.stm_gate.proofs.Opening.{shows}
-use Rattle.tx_logs.specs.LogStates.{LogState}
-use Rattle.tx_logs.specs.Probing.{IsPlace}
+use Rattle.stm_logs.specs.LogStates.{LogState}
+use Rattle.stm_logs.specs.Probing.{IsPlace}
 use Rattle.alg_orec.proofs.Lazy.LazyLaws as laws
 use Rattle.alg_orec.proofs.Lazy.LazyOpening.{LazyOpening, opens-lazy}
 use Rattle.alg_orec.proofs.ReadCalls.{own-read}

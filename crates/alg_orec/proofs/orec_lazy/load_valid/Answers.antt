@@ -6,7 +6,7 @@ use Rattle.rule_base.specs.StepKinds.{Nothing, Tells}
 use Rattle.rule_orec.specs.OrecSteps.{orec_load, orec_confirm, CanOrecConfirm}
 use Rattle.stm_rule.specs.Kept.{good_of}
 use Rattle.stm_rule.proofs.StandLemmas.{tells-of}
-use Rattle.steps_orec.specs.RecordFindings.{FindsAgain}
+use Rattle.alg_orec.specs.RecordFindings.{FindsAgain}
 use Rattle.alg_orec.proofs.LoadLaws as laws
 use Rattle.alg_orec.proofs.orec_lazy.load_valid.Goals as goal
 

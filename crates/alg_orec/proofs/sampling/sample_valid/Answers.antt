@@ -7,7 +7,7 @@ use Rattle.rule_orec.specs.OrecSteps.{orec_sample}
 use Rattle.stm_rule.specs.declared.local.Local.{Local}
 use Rattle.stm_rule.specs.Kept.{good_of}
 use Rattle.stm_rule.proofs.StandLemmas.{tells-of}
-use Rattle.steps_orec.specs.RecordFindings.{FindsRecord}
+use Rattle.alg_orec.specs.RecordFindings.{FindsRecord}
 use Rattle.alg_orec.proofs.LoadLaws as laws
 use Rattle.alg_orec.specs.Loading.{RefusesRead, TellsSeen}
 use Rattle.alg_orec.proofs.sampling.sample_valid.Goals.{After-sample-word}

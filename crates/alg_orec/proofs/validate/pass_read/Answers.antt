@@ -6,7 +6,7 @@ use Rattle.stm_model.specs.Memories.{item_at}
 use Rattle.rule_orec.specs.OrecSteps.{orec_pass}
 use Rattle.stm_rule.specs.declared.local.Local.{Local}
 use Rattle.stm_rule.proofs.StandLemmas.{tells-of}
-use Rattle.steps_orec.specs.RecordFindings.{FindsRead}
+use Rattle.alg_orec.specs.RecordFindings.{FindsRead}
 use Rattle.alg_orec.proofs.Passing as passing
 use Rattle.alg_orec.specs.Validating.{MustLoad, Refuses}
 use Rattle.alg_orec.proofs.validate.pass_read.Goals as goal

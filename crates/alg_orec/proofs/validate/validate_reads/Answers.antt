@@ -7,8 +7,8 @@ use Rattle.rule_base.specs.StepKinds.{Tells}
 use Rattle.rule_orec.specs.OrecSteps.{orec_clock, orec_clock_all, orec_last}
 use Rattle.stm_rule.specs.Kept.{good_of}
 use Rattle.stm_rule.proofs.StandLemmas.{tells-of}
-use Rattle.steps_orec.specs.RecordFindings.{FindsAll, FindsClock, FindsLast}
-use Rattle.steps_orec.specs.Validating.{to_validate}
+use Rattle.alg_orec.specs.RecordFindings.{FindsAll, FindsClock, FindsLast}
+use Rattle.alg_orec.specs.Vouching.{to_validate}
 use Rattle.alg_orec.proofs.Validity as validity
 use Rattle.alg_orec.specs.Validating.{Refuses}
 use Rattle.alg_orec.proofs.validate.validate_reads.Goals.{After-clock-now, After-last-word}

@@ -1,7 +1,7 @@
 use Rattle.std.proofs.Common.{ℕ, sym, subst}
 use Rattle.std.specs.Prelude.{Ok}
 use Rattle.rule_ring.specs.RingSteps.{ring_move}
-use Rattle.steps_ring.specs.RingFindings.{FindsMove}
+use Rattle.alg_ring.specs.RingFindings.{FindsMove}
 use Rattle.stm_rule.specs.Kept.{good_of}
 use Rattle.stm_rule.proofs.StandLemmas.{tells-of}
 use Rattle.alg_ring.specs.Checking as checking

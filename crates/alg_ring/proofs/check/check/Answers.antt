@@ -1,6 +1,6 @@
 use Rattle.std.proofs.Common.{rules}
 use Rattle.rule_ring.specs.RingSteps.{ring_look}
-use Rattle.steps_ring.specs.RingFindings.{FindsLook}
+use Rattle.alg_ring.specs.RingFindings.{FindsLook}
 use Rattle.stm_rule.specs.Kept.{good_of}
 use Rattle.stm_rule.proofs.StandLemmas.{tells-of}
 use Rattle.alg_ring.proofs.Checks.{check-passes}

@@ -1,7 +1,7 @@
 use Rattle.std.proofs.Common.{ℕ, sym, subst, rules}
 use Rattle.std.specs.Prelude.{Ok}
 use Rattle.rule_promoted.specs.PromotedSteps.{ring_look_grant, ring_move_grant}
-use Rattle.steps_ring.specs.RingFindings.{FindsLook, FindsLevel}
+use Rattle.alg_ring.specs.RingFindings.{FindsLook, FindsLevel}
 use Rattle.stm_rule.specs.Kept.{good_of}
 use Rattle.stm_rule.proofs.StandLemmas.{tells-of}
 use Rattle.alg_ring.specs.Checking as checking

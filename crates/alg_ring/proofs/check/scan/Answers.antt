@@ -1,6 +1,6 @@
 use Rattle.std.proofs.Common.{◌≤◌, ◌+◌, arith}
 use Rattle.rule_ring.specs.RingSteps.{ring_again}
-use Rattle.steps_ring.specs.RingFindings.{FindsAgain}
+use Rattle.alg_ring.specs.RingFindings.{FindsAgain}
 use Rattle.stm_rule.specs.Kept.{good_of}
 use Rattle.stm_rule.proofs.StandLemmas.{tells-of}
 use Rattle.alg_ring.proofs.Checks.{scans-far, scans-later, scans-met, scans-ok}

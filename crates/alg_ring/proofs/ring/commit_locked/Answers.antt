@@ -4,7 +4,7 @@ use Rattle.rule_base.specs.StepKinds.{Nothing}
 use Rattle.rule_ring.specs.RingSteps.{ring_tick, ring_done}
 use Rattle.stm_rule.specs.Kept.{good_of}
 use Rattle.stm_rule.proofs.StandLemmas.{tells-of}
-use Rattle.steps_ring.specs.RingFindings.{FindsTick}
+use Rattle.alg_ring.specs.RingFindings.{FindsTick}
 use Rattle.alg_ring.proofs.Finishing as laws
 use Rattle.alg_ring.proofs.ring.commit_locked.Goals as goal
 

@@ -1,6 +1,6 @@
 use Rattle.std.proofs.Common.{sym, subst}
 use Rattle.stm_rule.specs.declared.local.Local.{Local}
-use Rattle.tx_answers.specs.Answers.{Commits}
+use Rattle.stm_answers.specs.Answers.{Commits}
 use Rattle.alg_ring.specs.Calls.{CanFinish, StandsTold, TookTurn}
 use Rattle.alg_ring.proofs.ring.commit_writes.Goals as goal
 

@@ -1,11 +1,11 @@
 use Rattle.std.proofs.Common.{ap, sym, subst, ◌∙◌, rules}
 use Rattle.rule_base.specs.StepKinds.{Nothing}
 use Rattle.rule_ring.specs.RingSteps.{ring_load, ring_look}
-use Rattle.steps_ring.specs.RingFindings.{FindsLook}
+use Rattle.alg_ring.specs.RingFindings.{FindsLook}
 use Rattle.stm_rule.specs.declared.local.Local.{Local}
 use Rattle.stm_rule.specs.Kept.{good_of}
 use Rattle.stm_rule.proofs.StandLemmas.{tells-of}
-use Rattle.tx_answers.specs.declared.answers.Read.TheVariants.{Conflict}
+use Rattle.stm_answers.specs.declared.answers.Read.TheVariants.{Conflict}
 use Rattle.alg_ring.specs.Calls.{LoadsNew}
 use Rattle.alg_ring.proofs.Checks as checks
 use Rattle.alg_ring.proofs.Ending.{ring-of}

@@ -8,10 +8,10 @@ use Rattle.rule_base.specs.declared.seats.Who.{Who}
 use Rattle.rule_base.specs.declared.views.View.{View}
 use Rattle.stm_rule.specs.Attempts.{HasRoom, good_by, own_of}
 use Rattle.stm_rule.specs.Callers.{Handle}
-use Rattle.tx_answers.specs.declared.answers.Roll.TheVariants as rolls
-use Rattle.tx_answers.specs.Answers.{Rolls}
-use Rattle.tx_answers.specs.CallerState.{is_irrevocable}
-use Rattle.tx_logs.specs.LogStates.{LogState}
+use Rattle.stm_answers.specs.declared.answers.Roll.TheVariants as rolls
+use Rattle.stm_answers.specs.Answers.{Rolls}
+use Rattle.stm_answers.specs.CallerState.{is_irrevocable}
+use Rattle.stm_logs.specs.LogStates.{LogState}
 use Rattle.stm_gate.specs.Knowing.{known}
 use Rattle.stm_gate.proofs.Standing.{runs-of}
 use Rattle.stm_gate.proofs.Told.{told, stands-in, running-by}

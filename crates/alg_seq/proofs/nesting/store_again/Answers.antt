@@ -8,7 +8,7 @@ use Rattle.rule_base.specs.Encodings.{fenced}
 use Rattle.rule_base.specs.History.{touches}
 use Rattle.rule_base.specs.Bridge.{items}
 use Rattle.rule_seq.specs.CglSteps.{HasLock}
-use Rattle.tx_answers.specs.Causes.{has_item}
+use Rattle.stm_answers.specs.Causes.{has_item}
 use Rattle.stm_gate.proofs.RollItems.{there-item, stored-next, stored-all}
 use Rattle.alg_seq.proofs.Undoing.{stored-step}
 use Rattle.alg_seq.proofs.nesting.store_again.Goals as goal

@@ -11,7 +11,7 @@ use Rattle.rule_base.specs.History.{over, touches, without}
 use Rattle.rule_base.specs.Bridge.{items}
 use Rattle.rule_base.specs.Lemmas.BridgeLemmas.{items-once, item-some}
 use Rattle.rule_seq.specs.CglSteps.{HasLock}
-use Rattle.tx_answers.specs.Causes.{has_item, is_some}
+use Rattle.stm_answers.specs.Causes.{has_item, is_some}
 use Rattle.stm_gate.proofs.Peeling.{has-touched}
 use Rattle.stm_gate.proofs.RollItems.{peeled-last, take-whole, there-item}
 use Rattle.alg_seq.proofs.Undoing.{taken-step}

@@ -5,8 +5,8 @@ use Rattle.rule_base.specs.declared.views.Act.TheVariants.{Load}
 use Rattle.rule_base.specs.declared.views.View.{View}
 use Rattle.rule_seq.specs.CglSteps.{load_limit, LoadsLimit}
 use Rattle.stm_rule.proofs.StandLemmas.{tells-of}
-use Rattle.tx_answers.specs.Evidence.{Found}
-use Rattle.tx_answers.specs.CallerState.{known_of}
+use Rattle.stm_answers.specs.Evidence.{Found}
+use Rattle.stm_answers.specs.CallerState.{known_of}
 use Rattle.alg_seq.specs.Storing.{IsClocked}
 use Rattle.alg_seq.proofs.serial.below_limit.Goals as goal
 

@@ -6,7 +6,7 @@ use Rattle.rule_base.specs.StepKinds.{Nothing}
 use Rattle.rule_seq.specs.CglSteps.{load_undo}
 use Rattle.stm_rule.specs.Attempts.{IsLocked}
 use Rattle.stm_rule.proofs.StandLemmas.{tells-of}
-use Rattle.tx_answers.specs.Causes.{is_some}
+use Rattle.stm_answers.specs.Causes.{is_some}
 use Rattle.alg_seq.proofs.Locked.{locked}
 use Rattle.alg_seq.proofs.Pushing.{in-undo, pushed, fresh-undo, new-write, logs-else, logs-then}
 use Rattle.alg_seq.proofs.serial.log_old.Goals.{Start, Else-is_some}

@@ -2,7 +2,7 @@ use Rattle.std.proofs.Common.{ℕ, ◌≡◌, ◌+◌, List, [], ◌∷◌, drop
 use Rattle.std.specs.Prelude.{Option, Some, None, option_map}
 use Rattle.std.specs.Borrow.{Bor}
 use Rattle.std.proofs.lemmas.List.{drop_more}
-use Rattle.stm_check.specs.Grammar.{◌>>=◌}
+use Rattle.work_check.specs.Grammar.{◌>>=◌}
 use Rattle.draw_core.specs.Asking.{Asked, Text, ask_of, asked, complete, nothing, taken_all, texts_of}
 use Rattle.draw_core.proofs.asking.asked.Goals as goal
 

@@ -1,7 +1,7 @@
 use Rattle.std.proofs.Common.{ℕ, ◌+◌, List, drop, sym, ap, ◌∙◌}
 use Rattle.std.specs.Prelude.{Option}
-use Rattle.stm_check.specs.Grammar.{◌>>=◌}
-use Rattle.draw_core.specs.declared.part.Callers.{Callers}
+use Rattle.work_check.specs.Grammar.{◌>>=◌}
+use Rattle.draw_pictures.specs.declared.part.Callers.{Callers}
 use Rattle.draw_core.specs.Chosen.{parted_by, with_words}
 use Rattle.draw_core.proofs.Cutting.{words-last, words-more}
 use Rattle.draw_core.proofs.chosen.callers_of.Goals as goal

@@ -1,9 +1,9 @@
 use Rattle.std.proofs.Common.{ℕ, ◌≡◌, ◌<◌, List, length, get_or, sym, ap, ◌∙◌, arith}
 use Rattle.std.specs.Prelude.{Option, Some, drop}
 use Rattle.std.proofs.lemmas.List.{drop_more}
-use Rattle.stm_script.specs.declared.op.Op.{Op}
-use Rattle.stm_script.specs.declared.op.Op.TheVariants.{Irrev}
-use Rattle.stm_script.specs.Reports.{scripts_of}
+use Rattle.work_script.specs.declared.op.Op.{Op}
+use Rattle.work_script.specs.declared.op.Op.TheVariants.{Irrev}
+use Rattle.work_script.specs.Reports.{scripts_of}
 use Rattle.draw_core.specs.Turns.{Stand, past_next}
 use Rattle.draw_core.specs.Walks.{opened}
 use Rattle.draw_core.proofs.Walking.{past-open}

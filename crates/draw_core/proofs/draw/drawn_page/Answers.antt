@@ -1,8 +1,8 @@
 use Rattle.std.proofs.Common.{List, ap, ◌∙◌}
-use Rattle.draw_core.specs.declared.row.Row.{Row}
-use Rattle.draw_core.specs.Outcomes.{leaf_by}
-use Rattle.draw_core.specs.Shapes.{boxes_of}
-use Rattle.draw_core.specs.Texts.{svg_of}
+use Rattle.draw_pictures.specs.declared.row.Row.{Row}
+use Rattle.draw_pictures.specs.Parts.{leaf_by}
+use Rattle.draw_pictures.specs.Shapes.{boxes_of}
+use Rattle.draw_pictures.specs.Texts.{svg_of}
 use Rattle.draw_core.proofs.PageDrawn.{drawn-by}
 use Rattle.draw_core.proofs.draw.drawn_page.Goals as goal
 

@@ -1,8 +1,8 @@
 use Rattle.std.proofs.Common.{◌≡◌, ◌+◌, ◌-◌, List, [], ◌∷◌, ◌++◌, length, length-drop, drop, refl, sym, ap, subst, ◌∙◌, arith}
 use Rattle.std.specs.Prelude.{Ok}
-use Rattle.stm_text.specs.Lines.{lines_of}
-use Rattle.stm_check.specs.Grammar.{report_of}
-use Rattle.stm_trace.specs.declared.line.Line.{Line}
+use Rattle.work_text.specs.Lines.{lines_of}
+use Rattle.work_check.specs.Grammar.{report_of}
+use Rattle.work_trace.specs.declared.line.Line.{Line}
 use Rattle.draw_core.specs.Grammar.{read, reported, closed, IsFault}
 use Rattle.draw_core.specs.Walks.{HasRead}
 use Rattle.draw_core.proofs.ReadLaws.{ok-then, err-then, read-report, read-clock, read-wrong, read-more, read-last}

@@ -1,4 +1,4 @@
-use Rattle.draw_core.proofs.Boxes.{no-words}
+use Rattle.draw_core.proofs.ReadLaws.{no-words}
 use Rattle.draw_core.proofs.said.is_last.Goals as goal
 
 pub returns : goal.returns

@@ -1,6 +1,6 @@
 use Rattle.std.proofs.Common.{◌≡◌, ◌<◌, length, sym, ap, ◌∙◌, arith}
 use Rattle.std.specs.Prelude.{slice_set}
-use Rattle.stm_trace.specs.declared.line.Line.TheVariants.{Of}
+use Rattle.work_trace.specs.declared.line.Line.TheVariants.{Of}
 use Rattle.draw_core.specs.Walks.{deed_of, goes, stand_of, stands_of}
 use Rattle.draw_core.proofs.Walking.{length-stands, stand-of, set-stand, within-at, within-set, goes-out, goes-none, goes-some, none-goes, step-same}
 use Rattle.draw_core.proofs.walk.step_of.Goals as goal

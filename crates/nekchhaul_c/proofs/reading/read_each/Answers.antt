@@ -1,8 +1,8 @@
 use Rattle.std.proofs.Common.{◌≡◌, ◌<◌, ◌∙◌, length, get_or, sym, ap, subst, arith}
 use Rattle.std.proofs.lemmas.List.{length-set}
 use Rattle.std.specs.Prelude.{Ok, Err}
-use Rattle.tx_answers.specs.declared.answers.Read.{Read}
-use Rattle.tx_answers.specs.declared.answers.Read.TheVariants.{Value}
+use Rattle.stm_answers.specs.declared.answers.Read.{Read}
+use Rattle.stm_answers.specs.declared.answers.Read.TheVariants.{Value}
 use Rattle.nekchhaul_c.specs.Codes.{read_code}
 use Rattle.nekchhaul_c.specs.Reads.{ReadTells}
 use Rattle.nekchhaul_c.proofs.InTurn.{kept-more, read-more, same-after, stopped, misuse-high}

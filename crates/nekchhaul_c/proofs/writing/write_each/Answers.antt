@@ -1,7 +1,7 @@
 use Rattle.std.proofs.Common.{◌∙◌, get_or, sym, subst, arith}
 use Rattle.std.specs.Prelude.{Result, Ok}
-use Rattle.tx_answers.specs.declared.answers.Write.{Write}
-use Rattle.tx_answers.specs.declared.answers.Write.TheVariants.{Done}
+use Rattle.stm_answers.specs.declared.answers.Write.{Write}
+use Rattle.stm_answers.specs.declared.answers.Write.TheVariants.{Done}
 use Rattle.tx_checked.specs.declared.misuse.Misuse.{Misuse}
 use Rattle.nekchhaul_c.specs.Writes.{WriteTells}
 use Rattle.nekchhaul_c.proofs.WritesInTurn.{is-done, same-after-write, stopped-write, write-more}

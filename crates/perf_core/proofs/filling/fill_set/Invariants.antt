@@ -1,5 +1,5 @@
 use Rattle.stm_rule.specs.Callers.{IsSameCaller}
-use Rattle.tx_answers.specs.CallerState.{IsIdle}
+use Rattle.stm_answers.specs.CallerState.{IsIdle}
 use Rattle.stm_tx.specs.Descs.{known}
 use Rattle.perf_core.proofs.filling.fill_set.Given as goal
 

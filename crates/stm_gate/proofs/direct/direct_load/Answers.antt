@@ -3,14 +3,14 @@ use Rattle.stm_model.specs.Algorithms.{closes_gate}
 use Rattle.stm_rule.specs.Attempts.{own_of}
 use Rattle.stm_rule.specs.Callers.{Handle}
 use Rattle.stm_rule.proofs.StandLemmas.{tells-of}
-use Rattle.tx_answers.specs.CallerState.{CallerState, caller_of}
+use Rattle.stm_answers.specs.CallerState.{CallerState, caller_of}
 use Rattle.stm_gate.specs.Knowing.{known}
 use Rattle.stm_gate.proofs.Standing.{runs-of, shown-of}
 use Rattle.rule_seq.specs.CglSteps.{Loads}
 use Rattle.rule_promoted.specs.PromotedSteps.{direct_load}
 use Rattle.stm_rule.specs.Kept.{good_of}
-use Rattle.tx_answers.specs.declared.answers.Read.TheVariants.{Value}
-use Rattle.tx_answers.specs.Answers.{HasRead}
+use Rattle.stm_answers.specs.declared.answers.Read.TheVariants.{Value}
+use Rattle.stm_answers.specs.Answers.{HasRead}
 use Rattle.stm_gate.proofs.DirectLaws.{tells-load}
 use Rattle.stm_gate.proofs.direct.direct_load.Goals as goal
 

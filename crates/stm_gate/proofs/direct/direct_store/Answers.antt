@@ -3,13 +3,13 @@ use Rattle.stm_model.specs.Algorithms.{closes_gate}
 use Rattle.stm_rule.specs.Attempts.{own_of}
 use Rattle.stm_rule.specs.Callers.{Handle}
 use Rattle.stm_rule.proofs.StandLemmas.{tells-of}
-use Rattle.tx_answers.specs.CallerState.{CallerState, caller_of}
+use Rattle.stm_answers.specs.CallerState.{CallerState, caller_of}
 use Rattle.stm_gate.specs.Knowing.{known}
 use Rattle.stm_gate.proofs.Standing.{runs-of, shown-of}
 use Rattle.rule_base.specs.StepKinds.{Nothing}
 use Rattle.rule_promoted.specs.PromotedSteps.{direct_store}
-use Rattle.tx_answers.specs.declared.answers.Write.TheVariants.{Done}
-use Rattle.tx_answers.specs.Answers.{HasWritten}
+use Rattle.stm_answers.specs.declared.answers.Write.TheVariants.{Done}
+use Rattle.stm_answers.specs.Answers.{HasWritten}
 use Rattle.stm_gate.proofs.DirectLaws.{tells-store}
 use Rattle.stm_gate.proofs.direct.direct_store.Goals as goal
 

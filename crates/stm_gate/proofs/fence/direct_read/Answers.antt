@@ -2,8 +2,8 @@ use Rattle.std.proofs.Common.{ℕ, ap, refl}
 use Rattle.rule_base.specs.FenceSteps.{fence_load, FenceLoads}
 use Rattle.stm_rule.specs.Attempts.{own_of}
 use Rattle.stm_rule.proofs.StandLemmas.{tells-of}
-use Rattle.tx_answers.specs.Fences.{ReadsDirect}
-use Rattle.tx_answers.specs.CallerState.{CallerState, caller_of}
+use Rattle.stm_answers.specs.Fences.{ReadsDirect}
+use Rattle.stm_answers.specs.CallerState.{CallerState, caller_of}
 use Rattle.stm_gate.proofs.Standing.{shown-of}
 use Rattle.stm_gate.proofs.FenceLaws.{tells-direct_read}
 use Rattle.stm_gate.proofs.fence.direct_read.Goals as goal

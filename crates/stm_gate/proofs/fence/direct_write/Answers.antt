@@ -3,8 +3,8 @@ use Rattle.rule_base.specs.FenceSteps.{fence_store}
 use Rattle.rule_base.specs.StepKinds.{Nothing}
 use Rattle.stm_rule.specs.Attempts.{own_of}
 use Rattle.stm_rule.proofs.StandLemmas.{tells-of}
-use Rattle.tx_answers.specs.Fences.{WritesDirect}
-use Rattle.tx_answers.specs.CallerState.{CallerState, caller_of}
+use Rattle.stm_answers.specs.Fences.{WritesDirect}
+use Rattle.stm_answers.specs.CallerState.{CallerState, caller_of}
 use Rattle.stm_gate.proofs.Standing.{shown-of}
 use Rattle.stm_gate.proofs.FenceLaws.{tells-direct_write}
 use Rattle.stm_gate.proofs.fence.direct_write.Goals as goal

@@ -8,10 +8,10 @@ use Rattle.stm_rule.specs.Callers.{Handle}
 use Rattle.stm_rule.specs.FenceFindings.{FindsPast}
 use Rattle.stm_rule.specs.Kept.{good_of}
 use Rattle.stm_rule.proofs.StandLemmas.{tells-of, closing-of}
-use Rattle.tx_answers.specs.declared.answers.Fence.TheVariants.{Fenced}
-use Rattle.tx_answers.specs.Answers.{HoldsClosed}
-use Rattle.tx_answers.specs.Fences.{Fences}
-use Rattle.tx_answers.specs.CallerState.{CallerState, caller_of}
+use Rattle.stm_answers.specs.declared.answers.Fence.TheVariants.{Fenced}
+use Rattle.stm_answers.specs.Answers.{HoldsClosed}
+use Rattle.stm_answers.specs.Fences.{Fences}
+use Rattle.stm_answers.specs.CallerState.{CallerState, caller_of}
 use Rattle.stm_gate.specs.Knowing.{known}
 use Rattle.stm_gate.proofs.Standing.{shown-of}
 use Rattle.stm_gate.proofs.FenceLaws.{tells-fenced}

@@ -12,10 +12,10 @@ use Rattle.stm_rule.specs.Callers.{Handle, handle_of}
 use Rattle.stm_rule.specs.FenceFindings.{FindsEven}
 use Rattle.stm_rule.specs.Kept.{good_of}
 use Rattle.stm_rule.proofs.StandLemmas.{tells-of, closing-of}
-use Rattle.tx_answers.specs.declared.answers.Give.TheVariants.{Committed, Unchanged, ClockFull}
-use Rattle.tx_answers.specs.Answers.{HoldsClosed, SeesQuiet}
-use Rattle.tx_answers.specs.Fences.{KeepsFenced, Gives}
-use Rattle.tx_answers.specs.CallerState.{CallerState, caller_of}
+use Rattle.stm_answers.specs.declared.answers.Give.TheVariants.{Committed, Unchanged, ClockFull}
+use Rattle.stm_answers.specs.Answers.{HoldsClosed, SeesQuiet}
+use Rattle.stm_answers.specs.Fences.{KeepsFenced, Gives}
+use Rattle.stm_answers.specs.CallerState.{CallerState, caller_of}
 use Rattle.stm_gate.specs.Knowing.{known, number}
 use Rattle.stm_gate.proofs.Standing.{shown-of}
 use Rattle.stm_gate.specs.Logging.{wrote-some}

@@ -7,9 +7,9 @@ use Rattle.stm_rule.specs.Attempts.{good_by, own_of}
 use Rattle.stm_rule.specs.Callers.{Handle, handle_of}
 use Rattle.stm_rule.specs.Findings.{FindsGate, FindsTaken}
 use Rattle.stm_rule.proofs.StandLemmas.{tells-of, outside-of}
-use Rattle.tx_answers.specs.declared.answers.CloseGate.TheVariants.{Closed, Taken}
-use Rattle.tx_answers.specs.Answers.{Closes}
-use Rattle.tx_answers.specs.CallerState.{CallerState, caller_of}
+use Rattle.stm_answers.specs.declared.answers.CloseGate.TheVariants.{Closed, Taken}
+use Rattle.stm_answers.specs.Answers.{Closes}
+use Rattle.stm_answers.specs.CallerState.{CallerState, caller_of}
 use Rattle.stm_gate.proofs.Standing.{shown-of}
 use Rattle.stm_gate.proofs.Closing.{tells-taken, tells-refused, tells-closed}
 use Rattle.stm_gate.proofs.gate.close_gate.Goals as goal

@@ -7,8 +7,8 @@ use Rattle.rule_base.specs.StepKinds.{Nothing}
 use Rattle.stm_rule.specs.Attempts.{good_by, own_of, Stands}
 use Rattle.stm_rule.specs.Callers.{Handle, handle_of}
 use Rattle.stm_rule.proofs.StandLemmas.{tells-of, closing-of}
-use Rattle.tx_answers.specs.Answers.{HoldsClosed, Installs, SeesQuiet}
-use Rattle.tx_answers.specs.CallerState.{CallerState, caller_of}
+use Rattle.stm_answers.specs.Answers.{HoldsClosed, Installs, SeesQuiet}
+use Rattle.stm_answers.specs.CallerState.{CallerState, caller_of}
 use Rattle.stm_gate.specs.Knowing.{known, number}
 use Rattle.stm_gate.proofs.Standing.{shown-of, who-of}
 use Rattle.stm_gate.proofs.InstallLaws.{tells-installed, closing-installed, closing-flags, stands-closing}

@@ -5,8 +5,8 @@ use Rattle.rule_base.specs.StepKinds.{Nothing}
 use Rattle.stm_rule.specs.Attempts.{own_of}
 use Rattle.stm_rule.specs.Callers.{Handle, handle_of}
 use Rattle.stm_rule.proofs.StandLemmas.{tells-of}
-use Rattle.tx_answers.specs.Answers.{HoldsClosed, Reopens}
-use Rattle.tx_answers.specs.CallerState.{CallerState, caller_of}
+use Rattle.stm_answers.specs.Answers.{HoldsClosed, Reopens}
+use Rattle.stm_answers.specs.CallerState.{CallerState, caller_of}
 use Rattle.stm_gate.specs.Knowing.{known}
 use Rattle.stm_gate.proofs.Standing.{shown-of}
 use Rattle.stm_gate.proofs.Closing.{tells-reopened}

@@ -4,7 +4,7 @@ use Rattle.rule_base.specs.StepKinds.{Nothing}
 use Rattle.stm_rule.specs.Attempts.{HasLooked}
 use Rattle.stm_rule.specs.Callers.{Handle}
 use Rattle.stm_rule.proofs.StandLemmas.{tells-of}
-use Rattle.tx_answers.specs.CallerState.{caller_of}
+use Rattle.stm_answers.specs.CallerState.{caller_of}
 use Rattle.stm_gate.specs.Knowing.{number}
 use Rattle.stm_gate.specs.Looking.{Finds, LooksOn}
 use Rattle.stm_gate.proofs.LookingLaws.{looks-none, looks-one, finds-one}

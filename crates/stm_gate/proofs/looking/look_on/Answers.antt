@@ -3,7 +3,7 @@ use Rattle.stm_rule.specs.Attempts.{HasLooked}
 use Rattle.stm_gate.specs.Knowing.{number}
 use Rattle.stm_gate.specs.Looking.{Finds}
 use Rattle.stm_gate.proofs.LookingLaws.{looks-none, looks-more, looks-busy}
-use Rattle.tx_answers.specs.CallerState.{caller_of}
+use Rattle.stm_answers.specs.CallerState.{caller_of}
 use Rattle.stm_gate.proofs.looking.look_on.Goals as goal
 
 pub look_at-status-requires-clause-stm : goal.look_at-status-requires-clause-stm

@@ -9,8 +9,8 @@ use Rattle.stm_rule.specs.Attempts.{own_of, good_by, Stands}
 use Rattle.stm_rule.specs.Callers.{Handle, handle_of}
 use Rattle.stm_rule.specs.Findings.{FindsGate, FindsTaken}
 use Rattle.stm_rule.proofs.StandLemmas.{tells-of}
-use Rattle.tx_answers.specs.Answers.{IsOpaque}
-use Rattle.tx_answers.specs.CallerState.{caller_of, is_irrevocable}
+use Rattle.stm_answers.specs.Answers.{IsOpaque}
+use Rattle.stm_answers.specs.CallerState.{caller_of, is_irrevocable}
 use Rattle.stm_gate.specs.Knowing.{known, number}
 use Rattle.stm_gate.specs.Opacity.{opaque-inside}
 use Rattle.stm_gate.specs.Promoting.{ClosesFor}

@@ -1,7 +1,7 @@
 use Rattle.std.proofs.Common.{ℕ, subst, ap, ◌∙◌}
 use Rattle.rule_base.specs.declared.seats.Who.{Who}
-use Rattle.tx_answers.specs.declared.answers.Look.TheVariants.{Quiet, Busy}
-use Rattle.tx_answers.specs.CallerState.{caller_of}
+use Rattle.stm_answers.specs.declared.answers.Look.TheVariants.{Quiet, Busy}
+use Rattle.stm_answers.specs.CallerState.{caller_of}
 use Rattle.stm_gate.specs.Knowing.{number}
 use Rattle.stm_gate.specs.Looking.{LooksUntil}
 use Rattle.stm_gate.proofs.PromotingLaws.{promotes-taken, promotes-alone, promotes-busy}

@@ -3,7 +3,7 @@ use Rattle.std.specs.Prelude.{◌&&◌}
 use Rattle.stm_rule.specs.Attempts.{good_by, own_of, StandsBy}
 use Rattle.stm_rule.specs.Callers.{Handle, handle_of}
 use Rattle.stm_gate.specs.Knowing.{known}
-use Rattle.tx_answers.specs.CallerState.{is_in, is_irrevocable}
+use Rattle.stm_answers.specs.CallerState.{is_in, is_irrevocable}
 use Rattle.stm_gate.proofs.Irrevocable.{irrevocable-of}
 use Rattle.stm_tx.proofs.calls.is_irrevocable.Goals as goal
 

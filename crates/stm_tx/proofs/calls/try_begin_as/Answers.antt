@@ -12,9 +12,9 @@ use Rattle.stm_rule.specs.Callers.{Handle, handle_of}
 use Rattle.stm_rule.specs.Findings.{FindsGate}
 use Rattle.stm_rule.proofs.StandLemmas.{tells-of, outside-of}
 use Rattle.stm_gate.proofs.Standing.{who-of, shown-of}
-use Rattle.tx_answers.specs.declared.answers.Begin.TheVariants.{Begun, Closed}
-use Rattle.tx_answers.specs.Answers.{Begins}
-use Rattle.tx_answers.specs.CallerState.{known_of, caller_of}
+use Rattle.stm_answers.specs.declared.answers.Begin.TheVariants.{Begun, Closed}
+use Rattle.stm_answers.specs.Answers.{Begins}
+use Rattle.stm_answers.specs.CallerState.{known_of, caller_of}
 use Rattle.stm_gate.specs.Starts.{CanBegin, Starts}
 use Rattle.stm_rule.specs.RecordsKept.{cells_of}
 use Rattle.stm_gate.proofs.Told.{stands-in}

@@ -8,7 +8,7 @@ use Rattle.rule_base.specs.Fence.{without_fence}
 use Rattle.stm_rule.proofs.KindLaws.FencedRest.{rest-of, at-rest-of}
 use Rattle.stm_rule.specs.Kept.{good_of}
 use Rattle.stm_rule.proofs.KindLaws.RestLaws.{quiet-rests, granted-rests}
-use Rattle.tx_answers.specs.CallerState.{granted_under}
+use Rattle.stm_answers.specs.CallerState.{granted_under}
 use Rattle.stm_tx.proofs.laws.rest_is_answered.Goals as goal
 
 pub returns : goal.returns

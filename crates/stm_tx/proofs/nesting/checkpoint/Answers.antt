@@ -2,9 +2,9 @@ use Rattle.std.proofs.Common.{◌≡◌, ◌<◌, ◌+◌, refl, sym, ap, subst,
 use Rattle.stm_rule.specs.Attempts.{HasRoom, IsInside, good_by, own_of}
 use Rattle.stm_rule.specs.Callers.{Handle}
 use Rattle.stm_rule.proofs.StandLemmas.{inside-of}
-use Rattle.tx_answers.specs.Answers.{IsMarked}
-use Rattle.tx_answers.specs.CallerState.{known_of, is_in}
-use Rattle.tx_logs.specs.LogStates.{LogState}
+use Rattle.stm_answers.specs.Answers.{IsMarked}
+use Rattle.stm_answers.specs.CallerState.{known_of, is_in}
+use Rattle.stm_logs.specs.LogStates.{LogState}
 use Rattle.stm_gate.proofs.Standing.{in-of}
 use Rattle.stm_gate.proofs.Told.{stands-on}
 use Rattle.stm_tx.specs.Descs.{known}

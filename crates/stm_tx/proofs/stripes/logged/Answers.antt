@@ -1,5 +1,5 @@
 use Rattle.std.proofs.Common.{ℕ, subst, arith}
-use Rattle.tx_bell.specs.Stripes.{Has}
+use Rattle.stm_bell.specs.Stripes.{Has}
 use Rattle.stm_tx.proofs.StripeLaws.{item-of, added}
 use Rattle.stm_tx.proofs.stripes.logged.Goals as goal
 

@@ -1,5 +1,5 @@
 use Rattle.std.proofs.Common.{ℕ, ◌<◌, slice_index_or}
-use Rattle.tx_bell.specs.Stripes.{Has}
+use Rattle.stm_bell.specs.Stripes.{Has}
 use Rattle.stm_tx.proofs.stripes.logged.Given as goal
 
 abbrev pub invariant-loop-i : goal.invariant-loop-i

@@ -1,7 +1,7 @@
 use Rattle.std.proofs.Common.{ℕ, ◌≡◌, ◌∙◌, true, sym, subst, arith}
 use Rattle.rule_base.specs.History.{touches}
 use Rattle.stm_rule.specs.Callers.{Handle}
-use Rattle.tx_bell.specs.Stripes.{Has}
+use Rattle.stm_bell.specs.Stripes.{Has}
 use Rattle.stm_tx.proofs.StripeLaws.{item-of, cells-member, added}
 use Rattle.stm_tx.proofs.stripes.written.Goals as goal
 

@@ -1,7 +1,7 @@
 use Rattle.std.proofs.Common.{◌≡◌, leb}
 use Rattle.std.specs.Prelude.{Some}
 use Rattle.stm_rule.specs.Callers.{IsSameCaller}
-use Rattle.tx_answers.specs.CallerState.{CallerState, IsIdle}
+use Rattle.stm_answers.specs.CallerState.{CallerState, IsIdle}
 use Rattle.stm_tx.specs.Descs.{known, number}
 use Rattle.tx_atomic.specs.Accounts.{Account, account}
 use Rattle.tx_atomic.specs.Extends.{Extends}

@@ -2,8 +2,8 @@ use Rattle.stm_tx.specs.Descs.{known, number}
 use Rattle.std.proofs.Common.{ℕ, ◌≡◌, ◌≢◌, List, Bool, true, false, sym, subst}
 use Rattle.std.specs.Prelude.{◌==◌, ◌&&◌, not, if◌then◌else◌, Option, Some, None, is_some}
 use Rattle.rule_base.specs.Encodings.{fence_from, fence_count}
-use Rattle.tx_answers.specs.CallerState.{CallerState}
-use Rattle.tx_answers.specs.CallerStateLaws.{carries-refl}
+use Rattle.stm_answers.specs.CallerState.{CallerState}
+use Rattle.stm_answers.specs.CallerStateLaws.{carries-refl}
 use Rattle.stm_tx.specs.Fencing.{fence_seen}
 use Rattle.tx_atomic.specs.Accounts.{Account, account, told}
 use Rattle.tx_atomic.specs.declared.tally.Ended.TheVariants as ends

@@ -2,11 +2,11 @@ use Rattle.std.proofs.Common.{ℕ, suc, ◌≡◌, ◌∙◌, List, rules, refl,
 use Rattle.std.specs.Prelude.{Option, Some, None}
 use Rattle.stm_model.specs.declared.config.Config.{Config}
 use Rattle.stm_model.specs.Logs.{Log, Keeps}
-use Rattle.tx_answers.specs.Answers.{Commits}
-use Rattle.tx_answers.specs.CallerStateLaws.{carries-refl}
+use Rattle.stm_answers.specs.Answers.{Commits}
+use Rattle.stm_answers.specs.CallerStateLaws.{carries-refl}
 use Rattle.stm_tx.specs.Descs.{known, number, serves-on}
 use Rattle.tx_atomic.specs.AttemptLaws.{commits-grow, same-number, took-by}
-use Rattle.tx_answers.specs.CallerState.{CallerState}
+use Rattle.stm_answers.specs.CallerState.{CallerState}
 use Rattle.tx_atomic.specs.declared.tally.Ended.{Ended}
 use Rattle.tx_atomic.specs.declared.tally.Ended.TheVariants as ends
 use Rattle.tx_atomic.specs.declared.tally.Ended.TheVariants.{Again}

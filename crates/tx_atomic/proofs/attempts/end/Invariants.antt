@@ -1,6 +1,6 @@
 use Rattle.std.proofs.Common.{ℕ, ◌≡◌, ◌≤◌, true}
 use Rattle.stm_rule.specs.Callers.{IsSameCaller}
-use Rattle.tx_answers.specs.CallerState.{Grows, is_irrevocable}
+use Rattle.stm_answers.specs.CallerState.{Grows, is_irrevocable}
 use Rattle.stm_tx.specs.Descs.{known, number}
 use Rattle.tx_atomic.specs.declared.tally.Ended.TheVariants.{Again}
 use Rattle.tx_atomic.specs.Accounts.{account, met_times}

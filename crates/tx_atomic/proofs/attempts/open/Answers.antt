@@ -1,4 +1,4 @@
-use Rattle.tx_answers.specs.CallerStateLaws.{grows-trans}
+use Rattle.stm_answers.specs.CallerStateLaws.{grows-trans}
 use Rattle.std.proofs.Common.{true, refl, subst}
 use Rattle.std.proofs.lemmas.Result.{err_from_is_err_and}
 use Rattle.std.specs.Prelude.{Some, None}

@@ -1,12 +1,12 @@
 use Rattle.std.proofs.Common.{ℕ, suc, ◌≡◌, ◌∙◌, List, rules, true, refl, ap, sym, subst}
 use Rattle.std.specs.Prelude.{Option, Some, None}
 use Rattle.stm_model.specs.declared.config.Config.{Config}
-use Rattle.tx_answers.specs.CallerStateLaws.{carries-refl}
+use Rattle.stm_answers.specs.CallerStateLaws.{carries-refl}
 use Rattle.stm_tx.specs.Descs.{known, number}
 use Rattle.tx_atomic.specs.AttemptLaws.{same-number, still-revocable, cancels-grow, cancels-idle, cancels-made, irrevs-grow}
-use Rattle.tx_answers.specs.declared.answers.Irrev.TheVariants as grants
-use Rattle.tx_answers.specs.Answers.{Irrevs}
-use Rattle.tx_answers.specs.CallerState.{CallerState}
+use Rattle.stm_answers.specs.declared.answers.Irrev.TheVariants as grants
+use Rattle.stm_answers.specs.Answers.{Irrevs}
+use Rattle.stm_answers.specs.CallerState.{CallerState}
 use Rattle.tx_atomic.specs.declared.tally.Ended.{Ended}
 use Rattle.tx_atomic.specs.declared.tally.Ended.TheVariants as ends
 use Rattle.tx_atomic.specs.declared.tally.Ended.TheVariants.{Busy}

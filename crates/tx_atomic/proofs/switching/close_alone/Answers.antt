@@ -1,6 +1,6 @@
 use Rattle.std.proofs.Common.{ℕ, suc, refl, rules, subst, ◌∙◌}
-use Rattle.tx_answers.specs.Answers.{Closes}
-use Rattle.tx_answers.specs.CallerStateLaws.{carries-refl, grows-trans}
+use Rattle.stm_answers.specs.Answers.{Closes}
+use Rattle.stm_answers.specs.CallerStateLaws.{carries-refl, grows-trans}
 use Rattle.stm_tx.specs.Descs.{known, number}
 use Rattle.tx_atomic.specs.AttemptLaws.{same-number}
 use Rattle.tx_atomic.specs.Switches.{FindsTaken, SeesLeave}

@@ -1,7 +1,7 @@
 use Rattle.std.proofs.Common.{ℕ, ◌≡◌, ◌-◌, ◌^◌, min}
 use Rattle.stm_rule.specs.Callers.{IsSameCaller}
-use Rattle.tx_answers.specs.Answers.{HoldsClosed}
-use Rattle.tx_answers.specs.CallerState.{Grows}
+use Rattle.stm_answers.specs.Answers.{HoldsClosed}
+use Rattle.stm_answers.specs.CallerState.{Grows}
 use Rattle.stm_tx.specs.Descs.{known, number}
 use Rattle.tx_atomic.specs.Switches.{FindsInside}
 use Rattle.tx_atomic.proofs.switching.see_others_leave.Given as goal

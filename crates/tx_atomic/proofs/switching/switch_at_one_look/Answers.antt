@@ -1,6 +1,6 @@
 use Rattle.std.proofs.Common.{subst}
-use Rattle.tx_answers.specs.Answers.{Looks}
-use Rattle.tx_answers.specs.CallerStateLaws.{grows-trans}
+use Rattle.stm_answers.specs.Answers.{Looks}
+use Rattle.stm_answers.specs.CallerStateLaws.{grows-trans}
 use Rattle.stm_tx.specs.Descs.{known, number}
 use Rattle.tx_atomic.specs.AttemptLaws.{same-number}
 use Rattle.tx_atomic.proofs.switching.switch_at_one_look.Goals as goal

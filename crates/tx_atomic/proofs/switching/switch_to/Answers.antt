@@ -1,6 +1,6 @@
 use Rattle.std.proofs.Common.{subst, ◌∙◌}
-use Rattle.tx_answers.specs.Answers.{Installs, Reopens}
-use Rattle.tx_answers.specs.CallerStateLaws.{grows-trans}
+use Rattle.stm_answers.specs.Answers.{Installs, Reopens}
+use Rattle.stm_answers.specs.CallerStateLaws.{grows-trans}
 use Rattle.stm_tx.specs.Descs.{known}
 use Rattle.tx_atomic.specs.AttemptLaws.{same-number}
 use Rattle.tx_atomic.proofs.switching.switch_to.Goals as goal

@@ -1,6 +1,6 @@
 use Rattle.std.proofs.Common.{ℕ, ◌≡◌}
 use Rattle.stm_rule.specs.Callers.{IsSameCaller}
-use Rattle.tx_answers.specs.CallerState.{IsIdle}
+use Rattle.stm_answers.specs.CallerState.{IsIdle}
 use Rattle.stm_tx.specs.Descs.{known, number}
 use Rattle.tx_atomic.specs.Accounts.{account}
 use Rattle.tx_atomic.specs.Extends.{Extends}

@@ -1,7 +1,7 @@
 use Rattle.std.proofs.Common.{ℕ, subst}
 use Rattle.stm_tx.specs.Descs.{known, number}
-use Rattle.tx_answers.specs.Answers.{Looks}
-use Rattle.tx_answers.specs.CallerStateLaws.{grows-trans}
+use Rattle.stm_answers.specs.Answers.{Looks}
+use Rattle.stm_answers.specs.CallerStateLaws.{grows-trans}
 use Rattle.tx_atomic.specs.AttemptLaws.{same-number}
 use Rattle.tx_checked.specs.Phases.{Any}
 use Rattle.tx_checked.proofs.alone.close_alone.Goals as goal

@@ -1,5 +1,5 @@
 use Rattle.stm_tx.specs.Descs.{known}
-use Rattle.tx_answers.specs.CallerStateLaws.{grows-trans}
+use Rattle.stm_answers.specs.CallerStateLaws.{grows-trans}
 use Rattle.tx_checked.proofs.alone_for_range.close_alone_for_range.Goals as goal
 
 pub returns-in-Quiet-clause-grew : goal.returns-in-Quiet-clause-grew

@@ -1,7 +1,7 @@
 use Rattle.std.proofs.Common.{ℕ, subst}
 use Rattle.std.proofs.lemmas.Result.{err_from_is_err_and}
 use Rattle.stm_tx.specs.Descs.{known, number}
-use Rattle.tx_answers.specs.CallerStateLaws.{grows-trans}
+use Rattle.stm_answers.specs.CallerStateLaws.{grows-trans}
 use Rattle.tx_atomic.specs.AttemptLaws.{same-number}
 use Rattle.tx_checked.specs.Alone.{HasClosedBy, IsHeldUp}
 use Rattle.tx_checked.proofs.GateLooks.{closed-after, held-up-after}

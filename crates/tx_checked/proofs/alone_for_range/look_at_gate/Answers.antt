@@ -8,7 +8,7 @@ use Rattle.stm_rule.specs.Callers.{Handle, handle_of}
 use Rattle.stm_rule.specs.Findings.{FindsGate}
 use Rattle.stm_rule.proofs.StandLemmas.{tells-of, outside-of}
 use Rattle.stm_gate.proofs.Standing.{shown-of}
-use Rattle.tx_answers.specs.CallerState.{caller_of}
+use Rattle.stm_answers.specs.CallerState.{caller_of}
 use Rattle.tx_checked.specs.Alone.{LooksAtGate}
 use Rattle.tx_checked.proofs.GateLooks.{can-depart, looks}
 use Rattle.tx_checked.proofs.alone_for_range.look_at_gate.Goals as goal

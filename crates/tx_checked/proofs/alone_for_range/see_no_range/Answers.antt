@@ -1,5 +1,5 @@
 use Rattle.stm_tx.specs.Descs.{known}
-use Rattle.tx_answers.specs.CallerStateLaws.{carries-refl}
+use Rattle.stm_answers.specs.CallerStateLaws.{carries-refl}
 use Rattle.tx_checked.proofs.alone_for_range.see_no_range.Goals as goal
 
 pub returns-then-closing-clause-grew : goal.returns-then-closing-clause-grew

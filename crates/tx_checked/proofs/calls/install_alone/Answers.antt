@@ -1,6 +1,6 @@
 use Rattle.std.proofs.Common.{rules, ◌∙◌}
 use Rattle.stm_tx.specs.Descs.{known}
-use Rattle.tx_answers.specs.CallerStateLaws.{grows-trans}
+use Rattle.stm_answers.specs.CallerStateLaws.{grows-trans}
 use Rattle.tx_checked.proofs.calls.install_alone.Goals as goal
 
 pub returns-clause-switched : goal.returns-clause-switched

@@ -3,7 +3,7 @@ use Rattle.std.specs.Prelude.{slice_index}
 use Rattle.stm_model.specs.Histories.{memory_after}
 use Rattle.stm_rule.specs.Callers.{IsSameCaller}
 use Rattle.stm_tx.specs.Descs.{known}
-use Rattle.tx_answers.specs.CallerState.{IsIdle, zeros}
+use Rattle.stm_answers.specs.CallerState.{IsIdle, zeros}
 use Rattle.tx_checked.specs.Ranges.{GrowsBeside}
 use Rattle.tx_checked.proofs.closing.copy_out.Given as goal
 

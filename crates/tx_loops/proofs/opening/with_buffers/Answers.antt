@@ -4,7 +4,7 @@ use Rattle.std.specs.Vec.Iter.{into_iter_items}
 use Rattle.std.proofs.lemmas.List.{map-append}
 use Rattle.std.proofs.lemmas.List.Elements.{All-push}
 use Rattle.tx_checked.specs.CheckedCallers.{config_of}
-use Rattle.tx_logs.specs.LogStates.{empty_at}
+use Rattle.stm_logs.specs.LogStates.{empty_at}
 use Rattle.tx_loops.specs.Openings.{IsFree, caller_in, callers_in}
 use Rattle.tx_loops.specs.declared.looping_caller.LoopingCaller.{LoopingCaller}
 use Rattle.tx_loops.specs.declared.stage.Stage.TheVariants.{Free}

@@ -1,5 +1,5 @@
 use Rattle.std.proofs.Common.{◌≡◌, ◌≤◌, true, take}
-use Rattle.tx_answers.specs.CallerState.{IsRunning, is_irrevocable}
+use Rattle.stm_answers.specs.CallerState.{IsRunning, is_irrevocable}
 use Rattle.tx_checked.specs.CheckedCallers.{known_to}
 use Rattle.tx_loops.specs.Loops.{MadeNothing}
 use Rattle.tx_parts.specs.Laying.{Lays}

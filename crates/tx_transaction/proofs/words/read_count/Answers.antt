@@ -1,7 +1,7 @@
 use Rattle.std.proofs.Common.{rules, ℕ, ◌≡◌, ◌≤◌, ◌+◌, ◌∙◌, Bool, true, false, List, [], ◌∷◌, ◌++◌, sym, ap, arith, subst}
 use Rattle.std.specs.Prelude.{count_by, cond}
 use Rattle.std.proofs.lemmas.List.Sums.{sum_by_push}
-use Rattle.tx_effects.specs.EffectLaws.{same-trans}
+use Rattle.data_effects.specs.EffectLaws.{same-trans}
 use Rattle.tx_transaction.specs.Words.{RangeRead}
 use Rattle.tx_transaction.specs.WordLaws.{range-found}
 use Rattle.tx_transaction.proofs.LoopLaws.{range-next}

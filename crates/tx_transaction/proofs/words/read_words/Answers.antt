@@ -1,6 +1,6 @@
 use Rattle.std.proofs.Common.{rules, ◌≡◌, ◌<◌, ◌∙◌, List, ℕ, length, take, get_or, sym, arith, subst, length-take-le, length-set, get_or-set_same}
 use Rattle.std.proofs.lemmas.List.{take_more, take_all}
-use Rattle.tx_effects.specs.EffectLaws.{same-trans}
+use Rattle.data_effects.specs.EffectLaws.{same-trans}
 use Rattle.tx_transaction.specs.Words.{AllRead, valued}
 use Rattle.tx_transaction.specs.WordLaws.{read-found}
 use Rattle.tx_transaction.proofs.LoopLaws.{below-at, read-next}

@@ -1,6 +1,6 @@
 use Rattle.std.proofs.Common.{rules, ◌≡◌, ◌∙◌, ℕ, length, map, get_or, arith}
 use Rattle.std.proofs.lemmas.List.{length-map, take_more, get_or-map}
-use Rattle.tx_effects.specs.EffectLaws.{same-trans}
+use Rattle.data_effects.specs.EffectLaws.{same-trans}
 use Rattle.tx_transaction.proofs.LoopLaws.{below-at, write-next}
 use Rattle.tx_transaction.proofs.words.write_words.Goals as goal
 

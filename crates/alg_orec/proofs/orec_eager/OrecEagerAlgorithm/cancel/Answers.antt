@@ -1,9 +1,9 @@
 use Rattle.std.proofs.Common.{ℕ, ◌≡◌, subst, sym, ap, refl, false, rules, length, arith}
 use Rattle.stm_rule.specs.declared.local.Local.{Local}
 use Rattle.stm_rule.specs.Attempts.{own_of}
-use Rattle.tx_answers.specs.declared.answers.Cancel.TheVariants.{Cancelled}
-use Rattle.tx_answers.specs.Answers.{Cancels}
-use Rattle.tx_answers.specs.CallerState.{CallerState, known_of}
+use Rattle.stm_answers.specs.declared.answers.Cancel.TheVariants.{Cancelled}
+use Rattle.stm_answers.specs.Answers.{Cancels}
+use Rattle.stm_answers.specs.CallerState.{CallerState, known_of}
 use Rattle.stm_gate.proofs.Opening.{Opened, opened, tells-of}
 use Rattle.alg_orec.proofs.CommitOpening.{Unpromoted, unpromoted, irrevocable-known}
 use Rattle.alg_orec.proofs.Eager.EagerCommitLaws as laws

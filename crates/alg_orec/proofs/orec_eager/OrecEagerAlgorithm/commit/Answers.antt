@@ -3,11 +3,11 @@ use Rattle.rule_base.specs.declared.seats.SeatView.{SeatView}
 use Rattle.stm_rule.specs.declared.local.Local.{Local}
 use Rattle.stm_rule.specs.Callers.{Handle}
 use Rattle.stm_rule.specs.RecordsKept.{cells_of}
-use Rattle.tx_logs.specs.LogStates.{LogState}
+use Rattle.stm_logs.specs.LogStates.{LogState}
 use Rattle.stm_rule.specs.Attempts.{own_of}
-use Rattle.tx_answers.specs.declared.answers.Commit.TheVariants.{ReadOnly}
-use Rattle.tx_answers.specs.Answers.{Commits, KeepsRule}
-use Rattle.tx_answers.specs.CallerState.{CallerState, known_of}
+use Rattle.stm_answers.specs.declared.answers.Commit.TheVariants.{ReadOnly}
+use Rattle.stm_answers.specs.Answers.{Commits, KeepsRule}
+use Rattle.stm_answers.specs.CallerState.{CallerState, known_of}
 use Rattle.stm_gate.proofs.Opening.{Opened, opened, of-view, shows, tells-of}
 use Rattle.stm_gate.proofs.Peeling.{no-items}
 use Rattle.alg_orec.proofs.CommitOpening.{Unpromoted, unpromoted, granted-known}

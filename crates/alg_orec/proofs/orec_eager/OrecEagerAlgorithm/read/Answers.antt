@@ -3,7 +3,7 @@ use Rattle.std.specs.Prelude.{None}
 use Rattle.stm_model.specs.Memories.{item_at}
 use Rattle.stm_rule.specs.Attempts.{own_of}
 use Rattle.stm_rule.specs.Callers.{handle_of}
-use Rattle.tx_answers.specs.CallerState.{CallerState}
+use Rattle.stm_answers.specs.CallerState.{CallerState}
 use Rattle.stm_gate.proofs.Opening.{is-known}
 use Rattle.alg_orec.proofs.Eager.EagerHolding.{unwritten}
 use Rattle.alg_orec.proofs.Eager.EagerLaws as laws

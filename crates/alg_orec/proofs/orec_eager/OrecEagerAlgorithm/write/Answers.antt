@@ -3,8 +3,8 @@ use Rattle.stm_model.specs.Memories.{item_at}
 use Rattle.rule_base.specs.History.{member}
 use Rattle.stm_rule.specs.Attempts.{own_of}
 use Rattle.stm_rule.specs.Callers.{handle_of}
-use Rattle.tx_answers.specs.Causes.{is_some}
-use Rattle.tx_answers.specs.CallerState.{CallerState}
+use Rattle.stm_answers.specs.Causes.{is_some}
+use Rattle.stm_answers.specs.CallerState.{CallerState}
 use Rattle.stm_gate.proofs.Opening.{is-known}
 use Rattle.alg_orec.proofs.Eager.EagerOpening.{EagerOpening, opens-eager}
 use Rattle.alg_orec.proofs.Eager.EagerWriteLaws as laws

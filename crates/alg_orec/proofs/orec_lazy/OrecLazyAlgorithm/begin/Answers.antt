@@ -2,7 +2,7 @@ use Rattle.std.proofs.Common.{refl, inl}
 use Rattle.rule_orec.specs.OrecSteps.{orec_begin}
 use Rattle.stm_rule.specs.Kept.{good_of}
 use Rattle.stm_rule.proofs.StandLemmas.{tells-of}
-use Rattle.steps_orec.specs.RecordFindings.{FindsStart}
+use Rattle.alg_orec.specs.RecordFindings.{FindsStart}
 use Rattle.alg_orec.proofs.Lazy.LazyLaws.{tells-started}
 use Rattle.alg_orec.proofs.RecordReads.{may-begin}
 use Rattle.alg_orec.proofs.orec_lazy.OrecLazyAlgorithm.begin.Goals as goal

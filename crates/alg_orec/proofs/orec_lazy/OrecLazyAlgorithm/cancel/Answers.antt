@@ -2,9 +2,9 @@ use Rattle.std.proofs.Common.{ℕ, ◌≡◌, subst, sym, ap, refl, false, rules
 use Rattle.stm_model.specs.declared.alg.Alg.TheVariants.{OrecLazy}
 use Rattle.stm_rule.specs.declared.local.Local.{Local}
 use Rattle.stm_rule.specs.Attempts.{IsInside, own_of}
-use Rattle.tx_answers.specs.declared.answers.Cancel.TheVariants.{Cancelled}
-use Rattle.tx_answers.specs.Answers.{Cancels}
-use Rattle.tx_answers.specs.CallerState.{CallerState, known_of, is_irrevocable}
+use Rattle.stm_answers.specs.declared.answers.Cancel.TheVariants.{Cancelled}
+use Rattle.stm_answers.specs.Answers.{Cancels}
+use Rattle.stm_answers.specs.CallerState.{CallerState, known_of, is_irrevocable}
 use Rattle.stm_gate.proofs.Opening.{Opened, opened, tells-of}
 use Rattle.alg_orec.proofs.CommitOpening as opening
 use Rattle.alg_orec.proofs.Lazy.LazyEndingLaws as laws

@@ -2,9 +2,9 @@ use Rattle.std.proofs.Common.{ℕ, ◌≤◌, refl, subst, rules, arith}
 use Rattle.std.specs.Prelude.{nat_lt}
 use Rattle.stm_model.specs.declared.alg.Alg.TheVariants.{OrecLazy}
 use Rattle.stm_rule.specs.Attempts.{own_of}
-use Rattle.tx_answers.specs.declared.answers.Roll.TheVariants.{Rolled}
-use Rattle.tx_answers.specs.Answers.{Rolls}
-use Rattle.tx_answers.specs.CallerState.{CallerState, known_of}
+use Rattle.stm_answers.specs.declared.answers.Roll.TheVariants.{Rolled}
+use Rattle.stm_answers.specs.Answers.{Rolls}
+use Rattle.stm_answers.specs.CallerState.{CallerState, known_of}
 use Rattle.stm_gate.proofs.MarkLaws.{some-by}
 use Rattle.stm_gate.proofs.Opening.{opened, tells-of}
 use Rattle.alg_orec.proofs.Lazy.LazyNestingLaws as laws

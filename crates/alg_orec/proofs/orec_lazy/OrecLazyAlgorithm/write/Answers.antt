@@ -5,10 +5,10 @@ use Rattle.rule_base.specs.declared.entries.Cell.{Cell}
 use Rattle.rule_base.specs.Encodings.{fenced}
 use Rattle.stm_rule.specs.Attempts.{own_of}
 use Rattle.stm_rule.specs.Callers.{handle_of}
-use Rattle.tx_answers.specs.declared.answers.Write.TheVariants as writes
-use Rattle.tx_answers.specs.Answers.{HasWritten}
-use Rattle.tx_answers.specs.CallerState.{CallerState, known_of}
-use Rattle.tx_logs.specs.LogStates.{LogState}
+use Rattle.stm_answers.specs.declared.answers.Write.TheVariants as writes
+use Rattle.stm_answers.specs.Answers.{HasWritten}
+use Rattle.stm_answers.specs.CallerState.{CallerState, known_of}
+use Rattle.stm_logs.specs.LogStates.{LogState}
 use Rattle.stm_gate.proofs.Opening.{of-view, shows, tells-of}
 use Rattle.alg_orec.proofs.Lazy.LazyLaws as laws
 use Rattle.alg_orec.proofs.Lazy.LazyOpening.{LazyOpening, opens-lazy}

@@ -1,5 +1,5 @@
 use Rattle.rule_ring.specs.RingSteps.{ring_begin}
-use Rattle.steps_ring.specs.RingFindings.{FindsStart}
+use Rattle.alg_ring.specs.RingFindings.{FindsStart}
 use Rattle.stm_rule.specs.Kept.{good_of}
 use Rattle.stm_rule.proofs.StandLemmas.{tells-of}
 use Rattle.alg_ring.proofs.Beginning.{tells-started, may-begin}

@@ -1,9 +1,9 @@
 use Rattle.std.proofs.Common.{ℕ, subst, sym, ap, refl, rules, ◌∙◌}
 use Rattle.stm_rule.specs.declared.local.Local.{Local}
 use Rattle.stm_rule.specs.Attempts.{own_of}
-use Rattle.tx_answers.specs.declared.answers.Cancel.TheVariants as cancels
-use Rattle.tx_answers.specs.Answers as answers
-use Rattle.tx_answers.specs.CallerState.{CallerState, known_of, is_irrevocable}
+use Rattle.stm_answers.specs.declared.answers.Cancel.TheVariants as cancels
+use Rattle.stm_answers.specs.Answers as answers
+use Rattle.stm_answers.specs.CallerState.{CallerState, known_of, is_irrevocable}
 use Rattle.alg_ring.proofs.Opening.{opened, has-attempt, tells-of}
 use Rattle.alg_ring.proofs.Ending as laws
 use Rattle.alg_ring.proofs.Running as attempt

@@ -5,10 +5,10 @@ use Rattle.stm_rule.specs.Attempts.{own_of}
 use Rattle.stm_rule.specs.Callers.{Handle}
 use Rattle.stm_rule.specs.RecordsKept.{cells_of}
 use Rattle.alg_calls.specs.Buffers.{keeps-buffered}
-use Rattle.tx_logs.specs.LogStates.{LogState}
-use Rattle.tx_answers.specs.declared.answers.Commit.TheVariants as commits
-use Rattle.tx_answers.specs.Answers as answers
-use Rattle.tx_answers.specs.CallerState.{CallerState, known_of}
+use Rattle.stm_logs.specs.LogStates.{LogState}
+use Rattle.stm_answers.specs.declared.answers.Commit.TheVariants as commits
+use Rattle.stm_answers.specs.Answers as answers
+use Rattle.stm_answers.specs.CallerState.{CallerState, known_of}
 use Rattle.alg_ring.proofs.Opening.{opened, of-view, has-attempt, tells-of, stands-after}
 use Rattle.alg_ring.proofs.Committing as laws
 use Rattle.alg_ring.proofs.Ending as ending

@@ -4,9 +4,9 @@ use Rattle.stm_model.specs.Memories.{item_at}
 use Rattle.stm_model.specs.declared.alg.Alg.TheVariants.{RingSw}
 use Rattle.stm_rule.specs.Attempts.{own_of}
 use Rattle.stm_rule.specs.Callers.{Handle, handle_of}
-use Rattle.tx_answers.specs.declared.answers.Read.TheVariants.{Value}
-use Rattle.tx_answers.specs.Answers.{HasRead}
-use Rattle.tx_answers.specs.CallerState.{caller_of}
+use Rattle.stm_answers.specs.declared.answers.Read.TheVariants.{Value}
+use Rattle.stm_answers.specs.Answers.{HasRead}
+use Rattle.stm_answers.specs.CallerState.{caller_of}
 use Rattle.stm_gate.specs.Knowing.{known}
 use Rattle.stm_gate.proofs.Standing.{runs-of}
 use Rattle.alg_ring.proofs.Ending.{plain-of, ring-of}

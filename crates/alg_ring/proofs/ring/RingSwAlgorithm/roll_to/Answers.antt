@@ -4,10 +4,10 @@ use Rattle.stm_model.specs.declared.alg.Alg.TheVariants.{RingSw}
 use Rattle.stm_model.specs.Memories.{is_empty}
 use Rattle.stm_rule.specs.Attempts.{HasRoom, good_by}
 use Rattle.stm_rule.specs.Callers.{Handle}
-use Rattle.tx_answers.specs.declared.answers.Roll.TheVariants as rolls
-use Rattle.tx_answers.specs.Answers.{Rolls}
-use Rattle.tx_answers.specs.CallerState.{is_irrevocable}
-use Rattle.tx_logs.specs.LogStates.{LogState}
+use Rattle.stm_answers.specs.declared.answers.Roll.TheVariants as rolls
+use Rattle.stm_answers.specs.Answers.{Rolls}
+use Rattle.stm_answers.specs.CallerState.{is_irrevocable}
+use Rattle.stm_logs.specs.LogStates.{LogState}
 use Rattle.stm_gate.specs.Knowing.{known}
 use Rattle.stm_gate.proofs.MarkLaws.{some-by}
 use Rattle.stm_gate.proofs.Standing.{runs-of}

@@ -1,8 +1,8 @@
 use Rattle.std.proofs.Common.{ℕ, ◌≡◌, subst, sym, ap, refl, rules, ◌∙◌}
 use Rattle.rule_base.specs.declared.seats.Who.{Who}
 use Rattle.stm_rule.specs.Attempts.{own_of}
-use Rattle.tx_answers.specs.Answers.{TriesIrrevocable}
-use Rattle.tx_answers.specs.CallerState.{CallerState, known_of, caller_of}
+use Rattle.stm_answers.specs.Answers.{TriesIrrevocable}
+use Rattle.stm_answers.specs.CallerState.{CallerState, known_of, caller_of}
 use Rattle.stm_gate.specs.Granting.{Grants, irrevs-after, irrevocable-already}
 use Rattle.stm_gate.specs.Knowing.{known, number}
 use Rattle.alg_ring.proofs.Opening.{opened, has-attempt}

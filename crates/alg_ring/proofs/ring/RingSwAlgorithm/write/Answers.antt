@@ -3,12 +3,12 @@ use Rattle.std.specs.Prelude.{Some}
 use Rattle.stm_model.specs.Memories.{put}
 use Rattle.rule_base.specs.Encodings.{fenced}
 use Rattle.stm_model.specs.declared.alg.Alg.TheVariants.{RingSw}
-use Rattle.tx_logs.specs.LogStates.{LogState}
+use Rattle.stm_logs.specs.LogStates.{LogState}
 use Rattle.stm_rule.specs.Attempts.{HasRoom, own_of}
 use Rattle.stm_rule.specs.Callers.{Handle, handle_of}
-use Rattle.tx_answers.specs.declared.answers.Write.TheVariants as writes
-use Rattle.tx_answers.specs.Answers.{HasWritten}
-use Rattle.tx_answers.specs.CallerState.{CallerState, caller_of}
+use Rattle.stm_answers.specs.declared.answers.Write.TheVariants as writes
+use Rattle.stm_answers.specs.Answers.{HasWritten}
+use Rattle.stm_answers.specs.CallerState.{CallerState, caller_of}
 use Rattle.stm_gate.specs.Knowing.{known}
 use Rattle.stm_gate.proofs.Standing.{stands-of, runs-of, shown-of}
 use Rattle.stm_gate.proofs.Told.{stands-on, stands-back}

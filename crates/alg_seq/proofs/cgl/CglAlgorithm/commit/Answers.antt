@@ -9,10 +9,10 @@ use Rattle.stm_rule.proofs.StandLemmas.{tells-of}
 use Rattle.stm_gate.specs.Knowing.{known}
 use Rattle.stm_gate.proofs.Standing.{runs-of, who-of}
 use Rattle.rule_seq.specs.CglSteps.{free_lock, store_clock, Commits}
-use Rattle.tx_answers.specs.declared.answers.Commit.TheVariants.{Committed, ReadOnly}
-use Rattle.tx_answers.specs.Answers.{KeepsRule}
-use Rattle.tx_answers.specs.Answers as answers
-use Rattle.tx_answers.specs.CallerState.{known_of}
+use Rattle.stm_answers.specs.declared.answers.Commit.TheVariants.{Committed, ReadOnly}
+use Rattle.stm_answers.specs.Answers.{KeepsRule}
+use Rattle.stm_answers.specs.Answers as answers
+use Rattle.stm_answers.specs.CallerState.{known_of}
 use Rattle.rule_base.specs.declared.seats.SeatView.{SeatView}
 use Rattle.rule_base.specs.declared.views.View.{View}
 use Rattle.alg_seq.proofs.CountingLaws.{takes-left}

@@ -7,8 +7,8 @@ use Rattle.stm_rule.proofs.StandLemmas.{tells-of}
 use Rattle.stm_gate.specs.Knowing.{known}
 use Rattle.stm_gate.proofs.Standing.{runs-of, who-of}
 use Rattle.rule_seq.specs.CglSteps.{load_heap, Loads}
-use Rattle.tx_answers.specs.declared.answers.Read.TheVariants.{Value}
-use Rattle.tx_answers.specs.Answers.{HasRead}
+use Rattle.stm_answers.specs.declared.answers.Read.TheVariants.{Value}
+use Rattle.stm_answers.specs.Answers.{HasRead}
 use Rattle.alg_seq.proofs.Locked.{tells-read}
 use Rattle.stm_gate.proofs.Told.{told}
 use Rattle.alg_seq.proofs.cgl.CglAlgorithm.read.Goals as goal

@@ -5,8 +5,8 @@ use Rattle.stm_rule.specs.Attempts.{own_of}
 use Rattle.stm_rule.specs.Callers.{Handle, handle_of}
 use Rattle.stm_gate.specs.Knowing.{known, number}
 use Rattle.stm_gate.proofs.Standing.{runs-of}
-use Rattle.tx_answers.specs.Answers.{TriesIrrevocable}
-use Rattle.tx_answers.specs.CallerState.{caller_of, is_irrevocable, wrote}
+use Rattle.stm_answers.specs.Answers.{TriesIrrevocable}
+use Rattle.stm_answers.specs.CallerState.{caller_of, is_irrevocable, wrote}
 use Rattle.alg_seq.proofs.Locked.{stays-irrevocable}
 use Rattle.alg_seq.proofs.cgl.CglAlgorithm.try_irrevocable.Goals as goal
 

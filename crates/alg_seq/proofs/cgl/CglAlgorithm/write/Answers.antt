@@ -9,9 +9,9 @@ use Rattle.stm_gate.specs.Knowing.{known}
 use Rattle.stm_gate.proofs.Standing.{runs-of, who-of}
 use Rattle.rule_seq.specs.CglSteps.{store_heap}
 use Rattle.rule_base.specs.declared.views.View.{View}
-use Rattle.tx_answers.specs.declared.answers.Write.TheVariants.{Done}
-use Rattle.tx_answers.specs.Answers.{HasWritten}
-use Rattle.tx_answers.specs.CallerState.{known_of}
+use Rattle.stm_answers.specs.declared.answers.Write.TheVariants.{Done}
+use Rattle.stm_answers.specs.Answers.{HasWritten}
+use Rattle.stm_answers.specs.CallerState.{known_of}
 use Rattle.stm_gate.specs.InnerLaws.{no-log-full}
 use Rattle.stm_gate.proofs.KeptLaws.{kept-same, kept-unlogged}
 use Rattle.alg_seq.proofs.Locked.{tells-store, still-opaque, logged-refl}

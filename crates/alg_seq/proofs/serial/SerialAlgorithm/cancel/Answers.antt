@@ -8,10 +8,10 @@ use Rattle.stm_rule.specs.Attempts.{own_of}
 use Rattle.stm_rule.specs.Callers.{Handle, handle_of}
 use Rattle.stm_gate.specs.Knowing.{known}
 use Rattle.stm_gate.proofs.Standing.{runs-of}
-use Rattle.tx_answers.specs.CallerState.{known_of}
+use Rattle.stm_answers.specs.CallerState.{known_of}
 use Rattle.stm_gate.proofs.Told.{told}
-use Rattle.tx_answers.specs.declared.answers.Cancel.TheVariants.{Cancelled}
-use Rattle.tx_answers.specs.Answers.{Cancels}
+use Rattle.stm_answers.specs.declared.answers.Cancel.TheVariants.{Cancelled}
+use Rattle.stm_answers.specs.Answers.{Cancels}
 use Rattle.alg_seq.proofs.Locked.{locked}
 use Rattle.alg_seq.proofs.Keeping.{ended-back, irrevocable-by, revocable-by}
 use Rattle.alg_seq.proofs.serial.SerialAlgorithm.cancel.Goals as goal

@@ -8,15 +8,15 @@ use Rattle.stm_rule.specs.Callers.{Handle, handle_of}
 use Rattle.stm_rule.proofs.StandLemmas.{tells-of}
 use Rattle.stm_gate.specs.Knowing.{known, number}
 use Rattle.stm_gate.proofs.Standing.{runs-of}
-use Rattle.tx_answers.specs.CallerState.{known_of}
+use Rattle.stm_answers.specs.CallerState.{known_of}
 use Rattle.stm_gate.proofs.Told.{told}
 use Rattle.stm_model.specs.Algorithms.{asks_at_grant}
 use Rattle.stm_model.specs.declared.config.TheConstants.{CLOCK_LIMIT}
 use Rattle.rule_seq.specs.CglSteps.{load_limit, LoadsLimit}
-use Rattle.tx_logs.specs.LogStates.{LogState}
-use Rattle.tx_answers.specs.declared.answers.Irrev.TheVariants as grants
-use Rattle.tx_answers.specs.Answers.{Irrevs, TriesIrrevocable}
-use Rattle.tx_answers.specs.CallerState.{caller_of}
+use Rattle.stm_logs.specs.LogStates.{LogState}
+use Rattle.stm_answers.specs.declared.answers.Irrev.TheVariants as grants
+use Rattle.stm_answers.specs.Answers.{Irrevs, TriesIrrevocable}
+use Rattle.stm_answers.specs.CallerState.{caller_of}
 use Rattle.alg_seq.proofs.Locked.{stays-irrevocable}
 use Rattle.alg_seq.proofs.Keeping.{irrevocable-by, revocable-by, quits-back, full-after}
 use Rattle.alg_seq.proofs.Granting.{clocked-full, tells-granted}

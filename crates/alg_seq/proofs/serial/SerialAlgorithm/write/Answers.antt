@@ -12,12 +12,12 @@ use Rattle.stm_rule.specs.Callers.{Handle, handle_of}
 use Rattle.stm_rule.proofs.StandLemmas.{tells-of}
 use Rattle.stm_gate.specs.Knowing.{known}
 use Rattle.stm_gate.proofs.Standing.{runs-of}
-use Rattle.tx_answers.specs.CallerState.{CallerState, known_of}
+use Rattle.stm_answers.specs.CallerState.{CallerState, known_of}
 use Rattle.stm_gate.proofs.Told.{told, running-by, stands-in}
 use Rattle.alg_seq.proofs.Keeping.{known-kept}
 use Rattle.rule_seq.specs.CglSteps.{store_heap}
-use Rattle.tx_answers.specs.declared.answers.Write.TheVariants.{Done}
-use Rattle.tx_answers.specs.Answers.{HasWritten}
+use Rattle.stm_answers.specs.declared.answers.Write.TheVariants.{Done}
+use Rattle.stm_answers.specs.Answers.{HasWritten}
 use Rattle.alg_seq.proofs.serial.SerialAlgorithm.write.Goals as goal
 
 pub invariant_of-desc : goal.invariant_of-desc

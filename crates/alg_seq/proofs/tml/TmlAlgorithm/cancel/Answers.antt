@@ -1,8 +1,8 @@
 use Rattle.std.proofs.Common.{ℕ, ap, refl, rules, ◌∙◌}
 use Rattle.stm_rule.specs.Attempts.{own_of}
-use Rattle.tx_answers.specs.declared.answers.Cancel.TheVariants as cancels
-use Rattle.tx_answers.specs.Answers as answers
-use Rattle.tx_answers.specs.CallerState.{CallerState, is_irrevocable}
+use Rattle.stm_answers.specs.declared.answers.Cancel.TheVariants as cancels
+use Rattle.stm_answers.specs.Answers as answers
+use Rattle.stm_answers.specs.CallerState.{CallerState, is_irrevocable}
 use Rattle.stm_gate.proofs.Opening.{opened, shows}
 use Rattle.alg_seq.proofs.TmlLaws as laws
 use Rattle.alg_seq.proofs.TmlOpening.{plain, inside, named}

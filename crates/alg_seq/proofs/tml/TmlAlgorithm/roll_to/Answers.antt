@@ -3,11 +3,11 @@ use Rattle.stm_model.specs.Algorithms.{irrevocable_under}
 use Rattle.stm_model.specs.declared.alg.Alg.TheVariants.{Tml}
 use Rattle.stm_rule.specs.Attempts.{HasRoom, good_by, own_of}
 use Rattle.stm_rule.specs.Callers.{Handle}
-use Rattle.tx_answers.specs.declared.answers.Roll.TheVariants as rolls
-use Rattle.tx_answers.specs.Answers.{Rolls}
-use Rattle.tx_answers.specs.CallerState.{known_of, is_irrevocable}
-use Rattle.tx_logs.specs.LogStates.{LogState}
-use Rattle.tx_answers.specs.Counting.{AddsAtMost}
+use Rattle.stm_answers.specs.declared.answers.Roll.TheVariants as rolls
+use Rattle.stm_answers.specs.Answers.{Rolls}
+use Rattle.stm_answers.specs.CallerState.{known_of, is_irrevocable}
+use Rattle.stm_logs.specs.LogStates.{LogState}
+use Rattle.stm_answers.specs.Counting.{AddsAtMost}
 use Rattle.stm_gate.specs.Knowing.{known}
 use Rattle.stm_gate.proofs.Standing.{runs-of}
 use Rattle.stm_gate.proofs.Told.{told, stands-in, running-by}

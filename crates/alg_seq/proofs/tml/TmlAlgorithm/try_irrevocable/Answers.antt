@@ -1,7 +1,7 @@
 use Rattle.std.proofs.Common.{ℕ, subst, sym, ap, refl, rules, ◌∙◌}
 use Rattle.rule_base.specs.declared.seats.Who.{Who}
-use Rattle.tx_answers.specs.Answers as answers
-use Rattle.tx_answers.specs.CallerState.{CallerState, caller_of}
+use Rattle.stm_answers.specs.Answers as answers
+use Rattle.stm_answers.specs.CallerState.{CallerState, caller_of}
 use Rattle.stm_gate.specs.Knowing.{known, number}
 use Rattle.stm_gate.specs.Granting.{Grants, irrevs-after, irrevocable-already}
 use Rattle.stm_gate.proofs.Opening.{opened, is-known}

@@ -2,9 +2,9 @@ use Rattle.std.proofs.Common.{ℕ, refl, rules}
 use Rattle.rule_base.specs.StepKinds.{Nothing}
 use Rattle.rule_seq.specs.TmlSteps.{tml_store}
 use Rattle.stm_rule.proofs.StandLemmas.{tells-of}
-use Rattle.tx_answers.specs.declared.answers.Write.TheVariants as writes
-use Rattle.tx_answers.specs.Answers as answers
-use Rattle.tx_answers.specs.CallerState.{CallerState}
+use Rattle.stm_answers.specs.declared.answers.Write.TheVariants as writes
+use Rattle.stm_answers.specs.Answers as answers
+use Rattle.stm_answers.specs.CallerState.{CallerState}
 use Rattle.stm_gate.proofs.Opening.{opened, shows}
 use Rattle.alg_seq.proofs.TmlLaws as laws
 use Rattle.alg_seq.proofs.TmlOpening.{plain-of}

@@ -1,6 +1,5 @@
-use Rattle.draw_core.specs.Shapes.{line_boxes}
-use Rattle.draw_core.proofs.Paging.{none-by}
-use Rattle.draw_core.proofs.WalkLaws.{unfit-all, walked-all, walked-by}
+use Rattle.draw_pictures.specs.Shapes.{line_boxes}
+use Rattle.draw_core.proofs.WalkLaws.{none-by, unfit-all, walked-all, walked-by}
 use Rattle.draw_core.proofs.walk.Walk.into_page.Goals as goal
 
 pub returns-in-Some-clause-fault : goal.returns-in-Some-clause-fault

@@ -1,10 +1,10 @@
 use Rattle.std.proofs.Common.{◌≡◌, ◌+◌, List, [], ◌∷◌, ◌++◌, length, sym, ap, subst, false, ◌∙◌, arith}
 use Rattle.std.specs.Prelude.{is_some}
-use Rattle.stm_trace.specs.declared.line.Line.{Line}
+use Rattle.work_trace.specs.declared.line.Line.{Line}
 use Rattle.draw_core.specs.declared.walk.Walk.{Walk}
-use Rattle.draw_core.specs.declared.page.Page.{Page}
-use Rattle.draw_core.specs.Parts.{IsPageOf}
-use Rattle.draw_core.specs.Shapes.{Box, line_box}
+use Rattle.draw_pictures.specs.declared.page.Page.{Page}
+use Rattle.draw_pictures.specs.Parts.{IsPageOf}
+use Rattle.draw_pictures.specs.Shapes.{Box, line_box}
 use Rattle.draw_core.specs.Walks.{IsWalk}
 use Rattle.draw_core.proofs.ReadLaws.{ok-then}
 use Rattle.draw_core.proofs.WalkLaws.{length-line-boxes, walk-by, walk-more, walk-stops, walked-so-far}

@@ -1,9 +1,9 @@
 use Rattle.std.proofs.Common.{rules, arith, sym, subst}
-use Rattle.tx_effects.specs.Effects.{DoesOver}
-use Rattle.tx_effects.specs.FreshLaws.{nothing}
+use Rattle.data_effects.specs.Effects.{DoesOver}
+use Rattle.data_effects.specs.FreshLaws.{nothing}
 use Rattle.tx_transaction.specs.WordLaws.{read-then, does-write}
-use Rattle.tx_regions.specs.declared.region.Region.{Region}
-use Rattle.tx_regions.specs.Regions.{WellFormed}
+use Rattle.data_regions.specs.declared.region.Region.{Region}
+use Rattle.data_regions.specs.Regions.{WellFormed}
 use Rattle.perf_core.specs.Jobs.{IsScanned, scanned_in}
 use Rattle.perf_core.proofs.jobs.ScanRowTransactionWorkRegion.run.Goals as goal
 

@@ -1,4 +1,4 @@
-use Rattle.tx_cells.specs.Structures.{list_of, hash_of}
+use Rattle.data_cells.specs.Structures.{list_of, hash_of}
 use Rattle.perf_core.proofs.work_region.WorkRegion.of.Goals as goal
 
 pub returns-in-Hash-clause-opening : goal.returns-in-Hash-clause-opening

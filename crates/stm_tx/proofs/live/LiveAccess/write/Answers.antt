@@ -1,6 +1,6 @@
 use Rattle.std.proofs.Common.{◌≡◌, ◌∙◌, true, false, refl, sym, ap}
 use Rattle.std.specs.Prelude.{is_none, Some}
-use Rattle.tx_answers.specs.CallerStateLaws.{in-attempt, carries-wrote}
+use Rattle.stm_answers.specs.CallerStateLaws.{in-attempt, carries-wrote}
 use Rattle.rule_base.specs.Lemmas.EncodingLemmas.{fenced-none}
 use Rattle.rule_base.specs.Encodings.{fenced}
 use Rattle.stm_tx.specs.Descs.{known, number, serves-on}

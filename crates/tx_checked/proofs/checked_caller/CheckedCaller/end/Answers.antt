@@ -7,7 +7,7 @@ use Rattle.stm_model.specs.declared.rule.AnyMem.{AnyMem}
 use Rattle.stm_model.specs.Histories.{Entry, memory_after, IsLegal}
 use Rattle.stm_rule.specs.declared.stm.Stm.{Stm}
 use Rattle.stm_tx.specs.Descs.{known}
-use Rattle.tx_answers.specs.CallerState.{CallerState, Fenced, caller_of, zeros}
+use Rattle.stm_answers.specs.CallerState.{CallerState, Fenced, caller_of, zeros}
 use Rattle.tx_checked.specs.OneHistory.{IsOfCallers}
 use Rattle.tx_checked.specs.Phases.{Any}
 use Rattle.tx_checked.proofs.Beside.{beside-stays, beside-trans}

@@ -1,6 +1,6 @@
 use Rattle.std.proofs.Common.{subst}
 use Rattle.std.specs.Prelude.{Result, Ok}
-use Rattle.tx_answers.specs.declared.answers.Irrev.{Irrev}
+use Rattle.stm_answers.specs.declared.answers.Irrev.{Irrev}
 use Rattle.tx_checked.specs.declared.misuse.Misuse.{Misuse}
 use Rattle.tx_checked.specs.Misuses.{running}
 use Rattle.tx_checked.specs.Tells.{IsIrrevocable, Tells}

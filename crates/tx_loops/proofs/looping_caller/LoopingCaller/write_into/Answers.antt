@@ -1,6 +1,6 @@
 use Rattle.std.proofs.Common.{ap}
 use Rattle.tx_checked.specs.CheckedCallers.{config_of, known_to}
-use Rattle.tx_logs.specs.LogStates.{LogState}
+use Rattle.stm_logs.specs.LogStates.{LogState}
 use Rattle.tx_loops.proofs.WriteLaws.{wrote-into}
 use Rattle.tx_loops.proofs.looping_caller.LoopingCaller.write_into.Goals as goal
 

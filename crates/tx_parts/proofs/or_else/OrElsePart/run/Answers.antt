@@ -1,7 +1,7 @@
 use Rattle.std.proofs.Common.{ℕ, List, ◌≡◌, ◌+◌, ◌++◌, sym, ap, ◌∙◌, subst, inr, rules}
 use Rattle.std.specs.Prelude.{None}
 use Rattle.stm_model.specs.Logs.{Log}
-use Rattle.tx_effects.specs.Effects.{Under}
+use Rattle.data_effects.specs.Effects.{Under}
 use Rattle.tx_parts.specs.Laying.{ReadsMore, OnlyReads, EitherTells, back_to}
 use Rattle.tx_parts.specs.LayingLaws.{keeps-more, answer-then, ok-then, room-second}
 use Rattle.tx_parts.proofs.or_else.OrElsePart.run.Goals as goal

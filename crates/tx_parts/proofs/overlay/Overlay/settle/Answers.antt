@@ -1,6 +1,6 @@
 use Rattle.std.proofs.Common.{ℕ, ◌≡◌, refl, sym, ap, ◌∙◌, subst}
 use Rattle.std.specs.Prelude.{Some, None}
-use Rattle.tx_logs.specs.LogStates.{firsts}
+use Rattle.stm_logs.specs.LogStates.{firsts}
 use Rattle.tx_parts.specs.Laying.{Top, Within}
 use Rattle.tx_parts.specs.LayingLaws.{no-stop, not-crowded}
 use Rattle.tx_parts.proofs.overlay.Overlay.settle.Goals as goal

@@ -2,7 +2,7 @@ use Rattle.std.proofs.Common.{ℕ, ◌≡◌, ◌<◌, ◌≤◌, sym, ap, ◌�
 use Rattle.std.specs.Prelude.{None}
 use Rattle.stm_model.specs.declared.config.TheConstants.{MOST_MARKS}
 use Rattle.stm_model.specs.Logs.{Writes}
-use Rattle.tx_logs.specs.LogStates.{LogState, firsts}
+use Rattle.stm_logs.specs.LogStates.{LogState, firsts}
 use Rattle.tx_parts.specs.Laying.{over, Top, IsFull, Overflows, Within}
 use Rattle.tx_parts.specs.LayingLaws.{writes-top, within-put, not-crowded}
 use Rattle.tx_parts.proofs.overlay.OverlayAccess.write.Goals as goal

@@ -1,7 +1,7 @@
 use Rattle.std.proofs.Common.{ℕ, ◌≡◌, ◌≤◌, length, sym, ap, ◌∙◌, subst}
 use Rattle.std.specs.Prelude.{None}
 use Rattle.stm_model.specs.declared.config.TheConstants.{MOST_MARKS}
-use Rattle.tx_logs.specs.LogStates.{LogState, firsts}
+use Rattle.stm_logs.specs.LogStates.{LogState, firsts}
 use Rattle.tx_parts.specs.Laying.{IsFull, Top, Within}
 use Rattle.tx_parts.specs.LayingLaws.{within-take, not-crowded}
 use Rattle.tx_parts.proofs.overlay.OverlayNesting.roll_back.Goals as goal

@@ -1,6 +1,6 @@
 use Rattle.std.proofs.Common.{ℕ, ◌≡◌, subst, inl, inr, rules}
 use Rattle.std.specs.Prelude.{Some, None}
-use Rattle.tx_effects.specs.Effects.{Under}
+use Rattle.data_effects.specs.Effects.{Under}
 use Rattle.tx_parts.proofs.then.ThenPart.run.Goals as goal
 
 pub returns-in_default-clause-postcondition : goal.returns-in_default-clause-postcondition

@@ -1,5 +1,5 @@
 use Rattle.std.proofs.Common.{◌≡◌, ap}
-use Rattle.tx_logs.specs.LogStates.{LogState}
+use Rattle.stm_logs.specs.LogStates.{LogState}
 use Rattle.tx_parts.proofs.FirstLaws.{first-read, comes-first}
 use Rattle.tx_parts.proofs.whole.WholeTransaction.run.Goals as goal
 

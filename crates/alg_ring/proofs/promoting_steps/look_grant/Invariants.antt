@@ -1,0 +1,7 @@
+use Rattle.stm_rule.specs.Runs.CoreRuns.CoreStep.{look_grants}
+use Rattle.alg_ring.specs.RingFindings.{FindsLook}
+use Rattle.stm_rule.specs.Kept.{good_of}
+use Rattle.alg_ring.proofs.promoting_steps.look_grant.Given as goal
+
+abbrev pub ghosts-load_as : goal.ghosts-load_as
+ghosts-load_as g a = record { step = look_grants; shows = FindsLook (good_of g.K.MemRule.good a.self.now.config a.self.now.rule) a.self.now.config; caller = a.said.now }

@@ -1,0 +1,8 @@
+use Rattle.rule_ring.specs.RingRuns.RingStep.{ring_agains}
+use Rattle.stm_rule.specs.Runs.CoreRuns.CoreStep.{of_ring}
+use Rattle.alg_ring.specs.RingFindings.{FindsAgain}
+use Rattle.stm_rule.specs.Kept.{good_of}
+use Rattle.alg_ring.proofs.reading_steps.again.Given as goal
+
+abbrev pub ghosts-load_as : goal.ghosts-load_as
+ghosts-load_as g a = record { step = of_ring (ring_agains a.self.now.config.ring); shows = FindsAgain (good_of g.K.MemRule.good a.self.now.config a.self.now.rule) a.self.now.config; caller = a.said.now }

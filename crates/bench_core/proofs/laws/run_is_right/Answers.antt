@@ -1,5 +1,0 @@
-use Rattle.bench_core.proofs.HeadlineLaws.{headline}
-use Rattle.bench_core.proofs.laws.run_is_right.Goals as goal
-
-pub returns : goal.returns
-returns g c = headline g.S.Source.left g.S.Source.faults g.K.Sink.held g.K.Sink.faults

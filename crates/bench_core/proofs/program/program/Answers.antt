@@ -1,5 +1,0 @@
-use Rattle.std.proofs.Common.{[]}
-use Rattle.bench_core.proofs.program.program.Goals as goal
-
-pub returns-in-Err : goal.returns-in-Err
-returns-in-Err g c = ([], c.refused.ensures [])

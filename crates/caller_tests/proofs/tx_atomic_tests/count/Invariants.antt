@@ -1,7 +1,0 @@
-use Rattle.stm_rule.specs.Callers.{IsSameCaller}
-use Rattle.tx_answers.specs.CallerState.{IsIdle}
-use Rattle.stm_tx.specs.Descs.{known}
-use Rattle.caller_tests.proofs.tx_atomic_tests.count.Given as goal
-
-abbrev pub invariant-loop : goal.invariant-loop
-invariant-loop g l = IsSameCaller l.fn.desc l.desc × IsIdle (known l.desc)

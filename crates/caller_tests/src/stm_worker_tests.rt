@@ -1,8 +1,0 @@
-//! The law of rises, at a rule.
-use stm_model::rule::AnyMem;
-use stm_worker::laws::turns_cover;
-
-#[test]
-fn holds_for_any_memory() {
-    turns_cover(&AnyMem);
-}

@@ -1,4 +1,0 @@
-use Rattle.check_tests.proofs.verdict_tests.verdict.Goals as goal
-
-pub replay-requires : goal.replay-requires
-replay-requires c = record { items = c.parsed_workloads_fit.ensures _ _ c.in_ok-workload.ensures.is_parsed }

@@ -1,5 +1,0 @@
-use Rattle.draw_core.proofs.PageLaws.{whole-has-all}
-use Rattle.draw_core.proofs.laws.whole_has_all.Goals as goal
-
-pub returns : goal.returns
-returns c = whole-has-all

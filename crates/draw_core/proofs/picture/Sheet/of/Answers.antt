@@ -1,7 +1,0 @@
-use Rattle.std.proofs.Common.{◌≡◌, length}
-use Rattle.draw_core.specs.Shapes.{boxes_of}
-use Rattle.draw_core.proofs.Boxes.{length-boxes}
-use Rattle.draw_core.proofs.picture.Sheet.of.Goals as goal
-
-pub returns-clause-is : goal.returns-clause-is
-returns-clause-is c = let same : length (boxes_of c.args.lines.now) ≡ length c.args.lines.now = length-boxes c.args.lines.now in cc

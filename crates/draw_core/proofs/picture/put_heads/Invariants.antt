@@ -1,6 +1,0 @@
-use Rattle.std.proofs.Common.{◌≡◌, ◌++◌, string_bytes}
-use Rattle.draw_core.specs.Texts.{heads_bytes}
-use Rattle.draw_core.proofs.picture.put_heads.Given as goal
-
-abbrev pub invariant-loop-block : goal.invariant-loop-block
-invariant-loop-block l = string_bytes l.text ≡ string_bytes l.initial.text ++ heads_bytes l.sheet l.lane l.block

@@ -1,7 +1,0 @@
-use Rattle.std.proofs.Common.{◌≡◌, length}
-use Rattle.draw_core.specs.Shapes.{boxes_of}
-use Rattle.draw_core.proofs.Boxes.{length-boxes}
-use Rattle.draw_core.proofs.shape.is_over.Goals as goal
-
-pub returns : goal.returns
-returns c = let same : length (boxes_of c.args.rest.now) ≡ length c.args.rest.now = length-boxes c.args.rest.now in cc

@@ -1,7 +1,0 @@
-use Rattle.std.proofs.Common.{◌≡◌, ◌++◌, map, drop}
-use Rattle.draw_core.specs.Shapes.{boxes_of}
-use Rattle.draw_core.specs.Standing.{standing_of, standing_rows}
-use Rattle.draw_core.proofs.standing.standing_rows.Given as goal
-
-abbrev pub invariant-loop-slot : goal.invariant-loop-slot
-invariant-loop-slot l = boxes_of l.rows.items ++ standing_rows (map standing_of (drop l.slot-index l.slots)) ≡ standing_rows (map standing_of l.slots)

@@ -1,0 +1,10 @@
+pub mod Boxes
+pub mod Drawing
+pub mod Marking
+pub mod Labelling
+pub mod Pictured
+pub mod Slots
+pub mod Paging
+pub mod PageLaws
+pub mod Parting
+pub mod Meeting

@@ -1,0 +1,7 @@
+use Rattle.std.proofs.Common.{◌≡◌, ◌++◌, drop, string_bytes}
+use Rattle.draw_pictures.specs.Shapes.{boxes_of}
+use Rattle.draw_pictures.specs.Texts.{boxes_bytes}
+use Rattle.draw_pictures.proofs.picture.put_boxes.Given as goal
+
+abbrev pub invariant-loop-row : goal.invariant-loop-row
+invariant-loop-row l = string_bytes l.text ++ boxes_bytes l.sheet l.row (boxes_of (drop l.row l.lines)) ≡ string_bytes l.initial.text ++ boxes_bytes l.sheet 0 (boxes_of l.lines)

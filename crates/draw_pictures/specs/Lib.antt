@@ -1,0 +1,10 @@
+pub mod Kinds
+pub mod Steps
+pub mod Labels
+pub mod Shapes
+pub mod Rows
+pub mod Standing
+pub mod Parts
+pub mod Shown
+pub mod Texts
+pub mod Markup

@@ -1,9 +1,0 @@
-//! Tests of the crates that say what a memory is, of the logs, and of the one rule: stm_model, tx_logs, stm_rule.
-#![tactic(auto)]
-
-#[cfg(test)]
-mod stm_model_tests;
-#[cfg(test)]
-mod stm_rule_tests;
-#[cfg(test)]
-mod tx_logs_tests;

@@ -1,3 +1,0 @@
-mod Picking
-mod RecordFindingLaws
-pub mod OthersLaws

@@ -1,8 +1,0 @@
-use Rattle.rule_orec.specs.OrecRuns.OrecStep.{orec_places}
-use Rattle.stm_rule.specs.Runs.CoreRuns.CoreStep.{of_orec}
-use Rattle.rule_base.specs.StepKinds.{Nothing}
-use Rattle.stm_rule.specs.Kept.{address_of}
-use Rattle.steps_orec.proofs.eager.place.Given as goal
-
-abbrev pub ghosts-store_as : goal.ghosts-store_as
-ghosts-store_as g a = record { step = of_orec (orec_places (address_of a.at) a.new); shows = Nothing; caller = a.said.now }

@@ -1,7 +1,0 @@
-use Rattle.stm_rule.specs.Runs.CoreRuns.CoreStep.{direct_ups}
-use Rattle.rule_base.specs.StepKinds.{Nothing}
-use Rattle.steps_orec.proofs.Picking.{record_of}
-use Rattle.steps_orec.proofs.promoting.direct_release_above.Given as goal
-
-abbrev pub ghosts-store_as : goal.ghosts-store_as
-ghosts-store_as g a = record { step = direct_ups (record_of a.at) a.said.now.1; shows = Nothing; caller = a.said.now.0 }

@@ -1,7 +1,0 @@
-use Rattle.stm_rule.specs.Runs.CoreRuns.CoreStep.{orec_grants_all}
-use Rattle.steps_orec.specs.RecordFindings.{FindsAll}
-use Rattle.stm_rule.specs.Kept.{good_of}
-use Rattle.steps_orec.proofs.promoting.grant_all.Given as goal
-
-abbrev pub ghosts-load_as : goal.ghosts-load_as
-ghosts-load_as g a = record { step = orec_grants_all; shows = FindsAll (good_of g.K.MemRule.good a.self.now.config a.self.now.rule) a.self.now.config; caller = a.said.now }

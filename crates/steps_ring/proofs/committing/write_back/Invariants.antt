@@ -1,8 +1,0 @@
-use Rattle.rule_ring.specs.RingRuns.RingStep.{ring_writes}
-use Rattle.stm_rule.specs.Runs.CoreRuns.CoreStep.{of_ring}
-use Rattle.rule_base.specs.StepKinds.{Nothing}
-use Rattle.stm_rule.specs.Kept.{address_of}
-use Rattle.steps_ring.proofs.committing.write_back.Given as goal
-
-abbrev pub ghosts-store_as : goal.ghosts-store_as
-ghosts-store_as g a = record { step = of_ring (ring_writes (address_of a.at) a.new); shows = Nothing; caller = a.said.now }

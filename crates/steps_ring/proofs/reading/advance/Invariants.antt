@@ -1,8 +1,0 @@
-use Rattle.rule_ring.specs.RingRuns.RingStep.{ring_moves}
-use Rattle.stm_rule.specs.Runs.CoreRuns.CoreStep.{of_ring}
-use Rattle.steps_ring.specs.RingFindings.{FindsMove}
-use Rattle.stm_rule.specs.Kept.{good_of}
-use Rattle.steps_ring.proofs.reading.advance.Given as goal
-
-abbrev pub ghosts-load_as : goal.ghosts-load_as
-ghosts-load_as g a = record { step = of_ring ring_moves; shows = FindsMove (good_of g.K.MemRule.good a.self.now.config a.self.now.rule) a.self.now.config; caller = a.said.now }

@@ -1,5 +1,0 @@
-use Rattle.stm_check.proofs.ConfirmedLaws.{replayed-readable}
-use Rattle.stm_check.proofs.laws.replayed_is_readable.Goals as goal
-
-pub returns : goal.returns
-returns c = replayed-readable

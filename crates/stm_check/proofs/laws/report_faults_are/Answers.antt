@@ -1,5 +1,0 @@
-use Rattle.stm_check.proofs.FaultLaws.{report-faults}
-use Rattle.stm_check.proofs.laws.report_faults_are.Goals as goal
-
-pub returns : goal.returns
-returns c = report-faults

@@ -1,5 +1,0 @@
-use Rattle.stm_check.proofs.TextLaws.{report-read}
-use Rattle.stm_check.proofs.laws.report_is_read.Goals as goal
-
-pub returns : goal.returns
-returns c = report-read

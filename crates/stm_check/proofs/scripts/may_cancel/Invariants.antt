@@ -1,9 +1,0 @@
-use Rattle.std.proofs.Common.{◌≡◌, drop}
-use Rattle.stm_script.specs.Scripts.{has_cancel, has_irrev, before_cancel}
-use Rattle.stm_check.proofs.scripts.may_cancel.Given as goal
-
-abbrev pub invariant-loop-op : goal.invariant-loop-op
-invariant-loop-op l = record {
-  cancel : has_cancel (drop l.op-index l.ops) ≡ has_cancel l.ops;
-  irrev : has_irrev (before_cancel (drop l.op-index l.ops)) ≡ has_irrev (before_cancel l.ops);
-}

@@ -1,5 +1,0 @@
-use Rattle.stm_cli.proofs.AskingLaws.{ask-once}
-use Rattle.stm_cli.proofs.laws.words_ask_once.Goals as goal
-
-pub returns : goal.returns
-returns c = ask-once

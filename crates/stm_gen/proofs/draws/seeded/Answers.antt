@@ -1,6 +1,0 @@
-use Rattle.std.proofs.Common.{◌∙◌}
-use Rattle.stm_gen.proofs.DrawLaws.{at-start}
-use Rattle.stm_gen.proofs.draws.seeded.Goals as goal
-
-pub returns : goal.returns
-returns c = c.seed_from_u64.ensures ∙ at-start c.args.seed

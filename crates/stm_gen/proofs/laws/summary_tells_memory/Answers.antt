@@ -1,5 +1,0 @@
-use Rattle.stm_gen.proofs.SummaryLaws.{summary-tells}
-use Rattle.stm_gen.proofs.laws.summary_tells_memory.Goals as goal
-
-pub returns : goal.returns
-returns c = summary-tells

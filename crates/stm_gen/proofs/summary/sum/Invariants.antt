@@ -1,6 +1,0 @@
-use Rattle.std.proofs.Common.{◌≡◌, ◌%◌, ◌^◌}
-use Rattle.stm_gen.specs.Summaries.{sum_in}
-use Rattle.stm_gen.proofs.summary.sum.Given as goal
-
-abbrev pub invariant-loop-i : goal.invariant-loop-i
-invariant-loop-i l = l.sum ≡ sum_in l.memory l.address l.i % 2 ^ 64

@@ -1,0 +1,5 @@
+use Rattle.std.proofs.Common.{◌≡◌, [], take}
+use Rattle.stm_logs.proofs.short_log.ShortLog.reserve.Given as goal
+
+abbrev pub invariant-loop-a : goal.invariant-loop-a
+invariant-loop-a l = l.grown ≡ record { items = take l.a-index l.a-items; len = l.len; generation = l.fn.self.generation; marks = []; marks_limit = 0 }

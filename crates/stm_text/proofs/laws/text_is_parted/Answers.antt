@@ -1,5 +1,0 @@
-use Rattle.stm_text.proofs.PartingLaws.{text-parted}
-use Rattle.stm_text.proofs.laws.text_is_parted.Goals as goal
-
-pub returns : goal.returns
-returns c = text-parted

@@ -1,5 +1,0 @@
-use Rattle.stm_text.proofs.TextLaws.{text-read}
-use Rattle.stm_text.proofs.laws.text_is_read.Goals as goal
-
-pub returns : goal.returns
-returns c = text-read

@@ -1,6 +1,0 @@
-use Rattle.std.proofs.Common.{◌≡◌, drop}
-use Rattle.stm_text.specs.Grammar.{algorithm_of}
-use Rattle.stm_text.proofs.table.algorithm_of.Given as goal
-
-abbrev pub invariant-loop-alg : goal.invariant-loop-alg
-invariant-loop-alg l = algorithm_of l.algs l.word ≡ algorithm_of (drop l.alg-index l.algs) l.word

@@ -1,6 +1,0 @@
-use Rattle.std.proofs.Common.{◌≡◌, drop}
-use Rattle.stm_text.specs.Grammar.{is_plain}
-use Rattle.stm_text.proofs.table.is_plain.Given as goal
-
-abbrev pub invariant-loop-region : goal.invariant-loop-region
-invariant-loop-region l = is_plain l.regions l.a ≡ is_plain (drop l.region-index l.regions) l.a

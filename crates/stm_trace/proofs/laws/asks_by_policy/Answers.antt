@@ -1,5 +1,0 @@
-use Rattle.stm_trace.proofs.AskingLaws.{asks-by-policy}
-use Rattle.stm_trace.proofs.laws.asks_by_policy.Goals as goal
-
-pub returns : goal.returns
-returns c = asks-by-policy

@@ -1,5 +1,0 @@
-use Rattle.stm_trace.proofs.Standing.{scripts-items}
-use Rattle.stm_trace.proofs.laws.items_have_scripts.Goals as goal
-
-pub returns : goal.returns
-returns c = scripts-items

@@ -1,5 +1,0 @@
-use Rattle.stm_trace.proofs.OneWriter.{writer-fits}
-use Rattle.stm_trace.proofs.laws.one_writer_fits.Goals as goal
-
-pub returns : goal.returns
-returns c = writer-fits

@@ -1,5 +1,0 @@
-use Rattle.stm_worker.proofs.InstallLaws.{courses-install}
-use Rattle.stm_worker.proofs.laws.courses_install.Goals as goal
-
-pub returns : goal.returns
-returns c = courses-install

@@ -1,0 +1,7 @@
+use Rattle.stm_rule.specs.Callers.{IsSameCaller}
+use Rattle.stm_answers.specs.CallerState.{IsIdle}
+use Rattle.stm_tx.specs.Descs.{known}
+use Rattle.test_callers.proofs.sleeping_tests.put_all.Given as goal
+
+abbrev pub invariant-loop-at : goal.invariant-loop-at
+invariant-loop-at g l = IsSameCaller l.fn.desc l.desc × IsIdle (known l.desc)

@@ -1,5 +1,0 @@
-use Rattle.std.proofs.Common.{refl}
-use Rattle.tx_answers.proofs.laws.limits_are.Goals as goal
-
-pub returns : goal.returns
-returns c = record { slot_words = refl }

@@ -1,7 +1,0 @@
-//! A law of the definitions, as the contract of a function.
-ghost use Rattle.tx_answers.specs.Limits.{LimitsAre};
-
-/// A slot of the ring has sixteen words.
-pub fn limits_are()
-    ensures { LimitsAre }
-{}

@@ -1,5 +1,0 @@
-use Rattle.tx_layout.proofs.LayoutLaws.{hands-out-apart}
-use Rattle.tx_layout.proofs.laws.layouts_hand_out_apart.Goals as goal
-
-pub returns : goal.returns
-returns c = hands-out-apart

@@ -1,5 +1,0 @@
-use Rattle.std.proofs.Common.{◌≡◌, [], take}
-use Rattle.tx_logs.proofs.short_log.ShortLog.reserve.Given as goal
-
-abbrev pub invariant-loop-a : goal.invariant-loop-a
-invariant-loop-a l = l.grown ≡ record { items = take l.a-index l.a-items; len = l.len; generation = l.fn.self.generation; marks = []; marks_limit = 0 }

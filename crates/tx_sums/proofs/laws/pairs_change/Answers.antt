@@ -1,9 +1,0 @@
-use Rattle.tx_sums.proofs.SumContents.{puts-pair}
-use Rattle.tx_sums.proofs.SumRegions.{sums-subtrees}
-use Rattle.tx_sums.proofs.laws.pairs_change.Goals as goal
-
-pub returns : goal.returns
-returns c = record {
-  puts = puts-pair;
-  sums = sums-subtrees;
-}

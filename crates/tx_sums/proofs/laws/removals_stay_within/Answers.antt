@@ -1,8 +1,0 @@
-use Rattle.tx_sums.proofs.SumWithin.{removes-within, words-stay}
-use Rattle.tx_sums.proofs.laws.removals_stay_within.Goals as goal
-
-pub returns : goal.returns
-returns c = record {
-  removes = removes-within;
-  words = words-stay;
-}

@@ -1,5 +1,0 @@
-use Rattle.tx_sums.proofs.SumGone.{removes-key}
-use Rattle.tx_sums.proofs.laws.removals_take_the_key.Goals as goal
-
-pub returns : goal.returns
-returns c = removes-key

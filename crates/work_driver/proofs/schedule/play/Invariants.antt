@@ -1,0 +1,14 @@
+use Rattle.std.proofs.Common.{take}
+use Rattle.std.specs.Prelude.{true, Ok}
+use Rattle.work_trace.specs.Turns.{MaySay}
+use Rattle.work_trace.specs.Fits.{turns}
+use Rattle.work_driver.specs.Schedules.{AreSound, AreSame, Plays}
+use Rattle.work_driver.specs.AllWorkers.{workers_in}
+use Rattle.work_driver.proofs.schedule.play.Given as goal
+
+abbrev pub invariant-loop-go : goal.invariant-loop-go
+invariant-loop-go g l = record {
+  sound : AreSound (g.K.MemRule.good l.stm.rule) l.stm (workers_in l.runners);
+  same : AreSame true (workers_in l.fn.runners) (workers_in l.runners);
+  plays : Plays l.stm.config MaySay (workers_in l.fn.runners) (workers_in l.runners) l.fn.trace.items l.trace.items (turns (take l.go-index l.schedule)) (Ok tt);
+}
