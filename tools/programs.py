@@ -1,4 +1,4 @@
-"""The programs that a script runs, and what it says where it can run none.
+"""The programs that a script runs, the crates that it reads of, and what it says where it can do nothing.
 
 A script that tried nothing says in one sentence what it needs, and ends with status 2.
 """
@@ -22,6 +22,24 @@ def program_of(name, given=None):
     if not os.access(given, os.X_OK):
         raise Lacking(f"it needs the program {given or name}")
     return os.path.abspath(given)
+
+
+def uses():
+    """The crates of the repository, each with those that it uses, of the kit too."""
+    with open(os.path.join(os.path.dirname(TOOLS), "crates.txt"), encoding="utf8") as file:
+        lines = [line.split("#")[0].partition(":") for line in file if line.split("#")[0].strip()]
+    return {head.split()[0]: rest.split() for head, _, rest in lines}
+
+
+def below(crates, every):
+    """These crates, and those of the repository that they stand on."""
+    found, todo = set(), list(crates)
+    while todo:
+        crate = todo.pop()
+        if crate in every and crate not in found:
+            found.add(crate)
+            todo += every[crate]
+    return found
 
 
 def run(path, words, text, seconds=60):

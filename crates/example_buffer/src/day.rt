@@ -37,7 +37,10 @@ pub fn run<R: Wait>(rt: &R, alloc: Global) -> Option<Day>
     let Ok((stm, mut descs)) = Stm::new(alloc, CONFIG, Buffer) else {
         return None;
     };
-    let (Some(mut reader), Some(mut worker)) = (descs.pop(), descs.pop()) else {
+    let Some(mut reader) = descs.pop() else {
+        unreachable!()
+    };
+    let Some(mut worker) = descs.pop() else {
         unreachable!()
     };
     let mut pace = Pace::new();

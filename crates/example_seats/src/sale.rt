@@ -44,7 +44,10 @@ pub fn sell<R: Wait>(rt: &R, alloc: Global) -> Result<Sale, NewError>
     // a memory of zeros has an empty tree
     trees_are_apart();
     let (stm, mut descs) = Stm::new(alloc, CONFIG, Seats { taken: HALL })?;
-    let (Some(mut second), Some(mut first)) = (descs.pop(), descs.pop()) else {
+    let Some(mut second) = descs.pop() else {
+        unreachable!()
+    };
+    let Some(mut first) = descs.pop() else {
         unreachable!()
     };
     let mut pace = Pace::new();

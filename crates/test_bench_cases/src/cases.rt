@@ -7,6 +7,7 @@ use std::thread::Threads;
 use work_bench::bench::bench;
 use work_bench::status::Status;
 use work_bench::telling::told;
+use work_bench::why::Why;
 use work_bench::{MemSink, MemSource, Open, Turnstile};
 use work_cli::reading::Files;
 
@@ -112,6 +113,45 @@ pub fn lines(alloc: Global, line: &str) -> Result<String, Fail> {
     Ok(text)
 }
 
+/// What `bench` is asked.
+#[derive(Clone, Copy, Drop)]
+pub struct Asked<'a> {
+    /// The words of the command line.
+    pub words: &'a [&'a str],
+    pub text: &'a [u8],
+    /// The report beside the text.
+    pub report: &'a [u8],
+    /// The calls at which the source of the text fails.
+    pub takes: &'a [u64],
+    /// How many bytes the sink has room for.
+    pub room: usize,
+}
+
+/// What `bench` answers and writes through this turnstile, and what it leaves in `why`.
+pub fn ask(
+    rt: &(impl Threads + Wait + Sync),
+    alloc: Global,
+    asked: Asked,
+    turnstile: &(impl Turnstile + Sync),
+    why: &mut Option<Why>,
+) -> Result<(Status, String), Fail> {
+    let mut source = MemSource::new(asked.text.to_vec(alloc)?, asked.takes.to_vec(alloc)?);
+    let mut report = MemSource::new(asked.report.to_vec(alloc)?, Vec::new(alloc));
+    let mut sink = MemSink::new(alloc, asked.room, Vec::new(alloc))?;
+    let status = bench(
+        rt,
+        alloc,
+        asked.words,
+        &mut source,
+        &mut report,
+        &mut sink,
+        turnstile,
+        &mut None,
+        why,
+    );
+    Ok((status, String::from_utf8(sink.held().to_vec(alloc)?)?))
+}
+
 /// What `bench` answers and writes over this text, where the source fails at the calls `takes` and the sink
 /// has room for `room` bytes.
 pub fn outcome(
@@ -125,6 +165,26 @@ pub fn outcome(
     outcome_through(rt, alloc, words, text, takes, room, &Open)
 }
 
+/// The same through this turnstile.
+pub fn outcome_through(
+    rt: &(impl Threads + Wait + Sync),
+    alloc: Global,
+    words: &[&str],
+    text: &str,
+    takes: &[u64],
+    room: usize,
+    turnstile: &(impl Turnstile + Sync),
+) -> Result<(Status, String), Fail> {
+    let asked = Asked {
+        words,
+        text: text.as_bytes(),
+        report: &[],
+        takes,
+        room,
+    };
+    ask(rt, alloc, asked, turnstile, &mut None)
+}
+
 /// What is told on standard error of such a call.
 pub fn told_of(
     rt: &(impl Threads + Wait + Sync),
@@ -134,21 +194,15 @@ pub fn told_of(
     takes: &[u64],
     room: usize,
 ) -> Result<Option<String>, Fail> {
-    let mut source = MemSource::new(text.as_bytes().to_vec(alloc)?, takes.to_vec(alloc)?);
-    let mut report = MemSource::new(Vec::new(alloc), Vec::new(alloc));
-    let mut sink = MemSink::new(alloc, room, Vec::new(alloc))?;
-    let mut why = None;
-    let status = bench(
-        rt,
-        alloc,
+    let asked = Asked {
         words,
-        &mut source,
-        &mut report,
-        &mut sink,
-        &Open,
-        &mut None,
-        &mut why,
-    );
+        text: text.as_bytes(),
+        report: &[],
+        takes,
+        room,
+    };
+    let mut why = None;
+    let (status, _) = ask(rt, alloc, asked, &Open, &mut why)?;
     Ok(told(alloc, status, why, &NO_FILES)?)
 }
 
@@ -160,48 +214,12 @@ pub fn outcome_apart(
     text: &str,
     told: &str,
 ) -> Result<(Status, String), Fail> {
-    let mut source = MemSource::new(text.as_bytes().to_vec(alloc)?, Vec::new(alloc));
-    let mut report = MemSource::new(told.as_bytes().to_vec(alloc)?, Vec::new(alloc));
-    let mut sink = MemSink::new(alloc, 4096, Vec::new(alloc))?;
-    let status = bench(
-        rt,
-        alloc,
+    let asked = Asked {
         words,
-        &mut source,
-        &mut report,
-        &mut sink,
-        &Open,
-        &mut None,
-        &mut None,
-    );
-    Ok((status, String::from_utf8(sink.held().to_vec(alloc)?)?))
-}
-
-/// What [`outcome`] gives, through this turnstile.
-pub fn outcome_through(
-    rt: &(impl Threads + Wait + Sync),
-    alloc: Global,
-    words: &[&str],
-    text: &str,
-    takes: &[u64],
-    room: usize,
-    turnstile: &(impl Turnstile + Sync),
-) -> Result<(Status, String), Fail> {
-    let mut source = MemSource::new(text.as_bytes().to_vec(alloc)?, takes.to_vec(alloc)?);
-    let mut report = MemSource::new(Vec::new(alloc), Vec::new(alloc));
-    let mut sink = MemSink::new(alloc, room, Vec::new(alloc))?;
-    let mut last = None;
-    let status = bench(
-        rt,
-        alloc,
-        words,
-        &mut source,
-        &mut report,
-        &mut sink,
-        turnstile,
-        &mut last,
-        &mut None,
-    );
-    let held = String::from_utf8(sink.held().to_vec(alloc)?)?;
-    Ok((status, held))
+        text: text.as_bytes(),
+        report: told.as_bytes(),
+        takes: &[],
+        room: 4096,
+    };
+    ask(rt, alloc, asked, &Open, &mut None)
 }

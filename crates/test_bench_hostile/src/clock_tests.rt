@@ -45,8 +45,8 @@ fn a_second_write_finds_the_clock_full(rt: HostRuntime) -> Result<(), Fail> {
         )?;
         let text = workload(alloc, changes.as_str(), body.as_str())?;
         let (status, held) = outcome(&rt, alloc, &["stm_bench", "step"], text.as_str(), &[], ROOM)?;
-        assert_eq!(rt; held, lines(alloc, said.as_str())?, "{name}");
-        assert_eq!(rt; status, FULL, "{name}");
+        assert_eq!(rt; (name, held), (name, lines(alloc, said.as_str())?));
+        assert_eq!(rt; (name, status), (name, FULL));
     }
     Ok(())
 }
@@ -100,7 +100,7 @@ fn check_trace(rt: &impl Abort, held: &str, room: usize) -> Result<(), Fail> {
     let mut latest = 0u64;
     let mut full = 0usize;
     for line in held.lines() {
-        assert_eq!(rt; full > 0, line.starts_with("clock full"), "{held}");
+        assert_eq!(rt; (held, full > 0), (held, line.starts_with("clock full")));
         if let Some((_, time)) = line.split_once(" commit committed ") {
             let time = time.parse::<u64>()?;
             assert!(rt; latest < time && time <= LIMIT, "{held}");
@@ -111,7 +111,7 @@ fn check_trace(rt: &impl Abort, held: &str, room: usize) -> Result<(), Fail> {
             full = full.saturating_add(1);
         }
     }
-    assert_eq!(rt; (commits, full), (room, 1), "{held}");
+    assert_eq!(rt; (held, (commits, full)), (held, (room, 1)));
     assert!(rt;
         held.ends_with("\nclock full 4611686018427387904\n"),
         "{held}"
@@ -135,12 +135,12 @@ fn check_openings(
         let text = workload(alloc, changes.as_str(), body.as_str())?;
         let (status, held) = outcome(rt, alloc, &["stm_bench", "step"], text.as_str(), &[], ROOM)?;
         check_trace(rt, held.as_str(), room(name, clock))?;
-        assert_eq!(rt; status, FULL, "{name} {clock}");
+        assert_eq!(rt; (name, clock, status), (name, clock, FULL));
 
         let text = workload(alloc, changes.as_str(), items.as_str())?;
         let (status, held) = outcome(rt, alloc, &["stm_bench", "run"], text.as_str(), &[], ROOM)?;
         assert_eq!(rt; held.as_str(), "clock full 4611686018427387904\n");
-        assert_eq!(rt; status, FULL, "{name} {clock}");
+        assert_eq!(rt; (name, clock, status), (name, clock, FULL));
     }
     Ok(())
 }

@@ -51,7 +51,7 @@ fn a_cut_schedule_leaves_the_same_memory(rt: HostRuntime) -> Result<(), Fail> {
                 let text = workload(alloc, changes.as_str(), body.as_str())?;
                 let words = ["stm_bench", "step"];
                 let (status, held) = outcome(&rt, alloc, &words, text.as_str(), &[], ROOM)?;
-                assert_eq!(rt; status, Status::Ok, "{name} cut after {count}");
+                assert_eq!(rt; (name, count, status), (name, count, Status::Ok));
                 let is_whole = held.ends_with("\nmem 0 5\nmem 1 6\nend\n");
                 assert!(rt; is_whole, "{name} cut after {count}: {held}");
             }

@@ -109,11 +109,11 @@ fn try_taking(
         (true, false) => (talk.status, talk.said, takes),
         (true, true) => (Status::ReadFault, "read fault\n", failing.saturating_add(1)),
     };
-    assert_eq!(rt; status, wanted, "take {failing}");
-    assert_eq!(rt; sink.held(), said.as_bytes(), "take {failing}");
-    assert_eq!(rt; closed, closes(talk.words, wanted), "take {failing}");
-    assert_eq!(rt; source.into_inner().calls, calls, "take {failing}");
-    assert_eq!(rt; report.into_inner().calls, 0, "take {failing}");
+    assert_eq!(rt; (failing, status), (failing, wanted));
+    assert_eq!(rt; (failing, sink.held()), (failing, said.as_bytes()));
+    assert_eq!(rt; (failing, closed), (failing, closes(talk.words, wanted)));
+    assert_eq!(rt; (failing, source.into_inner().calls), (failing, calls));
+    assert_eq!(rt; (failing, report.into_inner().calls), (failing, 0));
     Ok(())
 }
 
@@ -151,17 +151,20 @@ fn try_putting(
             &mut report,
             &mut sink,
         );
-        assert_eq!(rt; status, wanted, "put {failing}");
-        assert_eq!(rt; closed, closes(talk.words, wanted), "put {failing}");
-        assert_eq!(rt; sink.into_inner().held.as_slice(), said, "put {failing}");
+        assert_eq!(rt; (failing, status), (failing, wanted));
+        assert_eq!(rt; (failing, closed), (failing, closes(talk.words, wanted)));
+        assert_eq!(rt;
+            (failing, sink.into_inner().held.as_slice()),
+            (failing, said)
+        );
     }
     let mut source = MemSource::new(text.to_vec(alloc)?, Vec::new(alloc));
     let mut sink = MemSink::new(alloc, failing, Vec::new(alloc))?;
     let mut report = nothing(alloc);
     let (status, closed) = status_over(rt, alloc, talk.words, &mut source, &mut report, &mut sink);
-    assert_eq!(rt; status, wanted, "room {failing}");
-    assert_eq!(rt; closed, closes(talk.words, wanted), "room {failing}");
-    assert_eq!(rt; sink.held(), said, "room {failing}");
+    assert_eq!(rt; (failing, status), (failing, wanted));
+    assert_eq!(rt; (failing, closed), (failing, closes(talk.words, wanted)));
+    assert_eq!(rt; (failing, sink.held()), (failing, said));
     Ok(())
 }
 

@@ -69,8 +69,8 @@ fn judges_reports(rt: HostRuntime) -> Result<(), Fail> {
         let text = both(rt.alloc(), "", THREE, report)?;
         let words = ["stm_bench", "check"];
         let (ended, held) = outcome(&rt, rt.alloc(), &words, text.as_str(), &[], 64)?;
-        assert_eq!(rt; ended, *status, "{report}");
-        assert_eq!(rt; held.as_str(), *said, "{report}");
+        assert_eq!(rt; (report, ended), (report, *status));
+        assert_eq!(rt; (report, held.as_str()), (report, *said));
     }
     Ok(())
 }
@@ -100,12 +100,12 @@ fn is_confirmed(
     if let Status::ClockFull { .. } = ended {
         return Ok(false);
     }
-    assert_eq!(rt; ended, Status::Ok, "{text}");
+    assert_eq!(rt; (text.as_str(), ended), (text.as_str(), Status::Ok));
     text.push_str(report.as_str())?;
     let words = ["stm_bench", "check"];
     let (ended, held) = outcome(rt, alloc, &words, text.as_str(), &[], 64)?;
-    assert_eq!(rt; held.as_str(), "yes\n", "{text}");
-    assert_eq!(rt; ended, Status::Ok, "{text}");
+    let text = text.as_str();
+    assert_eq!(rt; (text, ended, held.as_str()), (text, Status::Ok, "yes\n"));
     Ok(true)
 }
 
@@ -235,7 +235,7 @@ fn two_texts_are_checked(rt: HostRuntime) -> Result<(), Fail> {
     for (report, status, said) in APART {
         let told = lines(alloc, report)?;
         let (ended, held) = outcome_apart(&rt, alloc, &words, text.as_str(), told.as_str())?;
-        assert_eq!(rt; (ended, held.as_str()), (status, said), "{report}");
+        assert_eq!(rt; (report, (ended, held.as_str())), (report, (status, said)));
     }
     let wrong = workload(alloc, "", "tx 1 {add 3 1}")?;
     let (ended, _) = outcome_apart(&rt, alloc, &words, wrong.as_str(), "")?;

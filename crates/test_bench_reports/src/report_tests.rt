@@ -311,7 +311,7 @@ fn other_words_are_misused(rt: HostRuntime) -> Result<(), Fail> {
     for line in lines {
         let words = command_line(rt.alloc(), line)?;
         let (status, held) = outcome(&rt, rt.alloc(), words.as_slice(), "", &[0], 4096)?;
-        assert_eq!(rt; status, Status::Usage, "{line}");
+        assert_eq!(rt; (line, status), (line, Status::Usage));
         assert_eq!(rt;
             held.as_str(),
             "usage: stm_bench run [--policy P] / step / gen N T SEED / check\n"

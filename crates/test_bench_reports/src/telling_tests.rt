@@ -111,7 +111,10 @@ fn each_end_is_told(rt: HostRuntime) -> Result<(), Fail> {
         let mut text = workload(alloc, changes, body)?;
         text.push_str(report)?;
         let said = told_of(&rt, alloc, words, text.as_str(), takes, room)?;
-        assert_eq!(rt; said.as_ref().map(|said| said.as_str()), why, "{body}");
+        assert_eq!(rt;
+            (body, said.as_ref().map(|said| said.as_str())),
+            (body, why)
+        );
     }
     let memory = told(alloc, Status::Memory, None, &NO_FILES)?;
     assert_eq!(rt;

@@ -56,8 +56,8 @@ fn writes_reports(rt: HostRuntime) -> Result<(), Fail> {
         let rest = format!(in alloc; "{SIZES} / {regions}")?;
         let text = workload_two(alloc, 1_048_576, rest.as_str(), body)?;
         let (status, held) = outcome(&rt, alloc, &["stm_bench", "run"], text.as_str(), &[], 4096)?;
-        assert_eq!(rt; held, lines(alloc, said)?, "{body}");
-        assert_eq!(rt; status, Status::Ok, "{body}");
+        assert_eq!(rt; (body, held), (body, lines(alloc, said)?));
+        assert_eq!(rt; (body, status), (body, Status::Ok));
     }
     Ok(())
 }
@@ -85,7 +85,7 @@ fn refuses_texts(rt: HostRuntime) -> Result<(), Fail> {
         let rest = format!(in alloc; "{SIZES} / {regions}")?;
         let text = workload_two(alloc, 1_048_576, rest.as_str(), body)?;
         let (_, held) = outcome(&rt, alloc, &["stm_bench", "run"], text.as_str(), &[], 4096)?;
-        assert_eq!(rt; held, lines(alloc, said)?, "{regions}: {body}");
+        assert_eq!(rt; (regions, body, held), (regions, body, lines(alloc, said)?));
     }
     Ok(())
 }

@@ -6,10 +6,9 @@ use std::str;
 use std::sync::Wait;
 use std::test::Fail;
 use std::thread::Threads;
-use test_bench_cases::cases::lines;
-use work_bench::bench::bench;
+use test_bench_cases::cases::{Asked, ask, lines};
 use work_bench::status::Status;
-use work_bench::{Fault, MemSink, MemSource, Open};
+use work_bench::{Fault, Open};
 
 /// Two transactions that add, and one that reads.
 const ADDS: &str =
@@ -78,21 +77,14 @@ fn outcome(
     command: &str,
     text: &[u8],
 ) -> Result<(Status, String), Fail> {
-    let mut source = MemSource::new(text.to_vec(alloc)?, Vec::new(alloc));
-    let mut report = MemSource::new(Vec::new(alloc), Vec::new(alloc));
-    let mut sink = MemSink::new(alloc, 8192, Vec::new(alloc))?;
-    let status = bench(
-        rt,
-        alloc,
-        &["stm_bench", command],
-        &mut source,
-        &mut report,
-        &mut sink,
-        &Open,
-        &mut None,
-        &mut None,
-    );
-    Ok((status, String::from_utf8(sink.held().to_vec(alloc)?)?))
+    let asked = Asked {
+        words: &["stm_bench", command],
+        text,
+        report: &[],
+        takes: &[],
+        room: 8192,
+    };
+    ask(rt, alloc, asked, &Open, &mut None)
 }
 
 /// Compares what `bench` says of a text with its first fault, by the slow reading. Answers whether it has one.
@@ -188,7 +180,7 @@ fn a_wrong_byte_is_found(rt: HostRuntime) -> Result<(), Fail> {
                 counts.1 = counts.1.saturating_add(usize::from(is_refused));
             }
         }
-        assert_eq!(rt; counts, (tried, refused), "{command}");
+        assert_eq!(rt; (command, counts), (command, (tried, refused)));
     }
     Ok(())
 }

@@ -153,7 +153,8 @@ fn a_random_text_has_its_first_fault(rt: HostRuntime) -> Result<(), Fail> {
     for _ in 0..TEXTS {
         let text = random_text(rt.alloc(), &mut draws)?;
         let fault = first_fault(rt.alloc(), text.as_bytes(), true)?;
-        assert_eq!(rt; parsed_fault(rt.alloc(), text.as_bytes())?, fault, "{text}");
+        let found = parsed_fault(rt.alloc(), text.as_bytes())?;
+        assert_eq!(rt; (text.as_str(), found), (text.as_str(), fault));
         let code = match fault {
             Some((_, code)) => code,
             None => 0,
@@ -164,7 +165,7 @@ fn a_random_text_has_its_first_fault(rt: HostRuntime) -> Result<(), Fail> {
     }
     // no text is too long, and each other code comes, and texts without a fault
     for (code, count) in counts.iter().enumerate() {
-        assert_eq!(rt; *count > 0, code != 1, "{code} of {counts:?}");
+        assert_eq!(rt; (code, counts, *count > 0), (code, counts, code != 1));
     }
     Ok(())
 }

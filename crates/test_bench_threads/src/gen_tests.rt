@@ -32,8 +32,8 @@ fn summaries_are_written(rt: HostRuntime) -> Result<(), Fail> {
     for (line, said) in SUMMARIES {
         let words = command_line(rt.alloc(), line)?;
         let (status, held) = outcome(&rt, rt.alloc(), words.as_slice(), "", &[0], 4096)?;
-        assert_eq!(rt; held, lines(rt.alloc(), said)?, "{line}");
-        assert_eq!(rt; status, Status::Ok, "{line}");
+        assert_eq!(rt; (line, held), (line, lines(rt.alloc(), said)?));
+        assert_eq!(rt; (line, status), (line, Status::Ok));
     }
     Ok(())
 }

@@ -64,7 +64,7 @@ fn replay(rt: &impl Abort, alloc: Global, report: &str, sets: &mut Sets) -> Resu
             let told = format!(in alloc; " {reply}")?;
             said.push_str(told.as_str())?;
         }
-        assert_eq!(rt; replies, said.as_str(), "{row}");
+        assert_eq!(rt; (row, replies), (row, said.as_str()));
         rows = rows.wrapping_add(1);
     }
     Ok(rows)

@@ -27,8 +27,8 @@ fn places_tell_the_switches(rt: HostRuntime) -> Result<(), Fail> {
     for (policy, said) in REPORTS {
         let words = ["stm_bench", "run", "--policy", *policy];
         let (status, held) = outcome(&rt, rt.alloc(), &words, text.as_str(), &[], 4096)?;
-        assert_eq!(rt; held, lines(rt.alloc(), said)?, "{policy}");
-        assert_eq!(rt; status, Status::Ok, "{policy}");
+        assert_eq!(rt; (policy, held), (policy, lines(rt.alloc(), said)?));
+        assert_eq!(rt; (policy, status), (policy, Status::Ok));
     }
     Ok(())
 }
@@ -53,7 +53,7 @@ fn sums_the_adds_under_each_policy(rt: HostRuntime) -> Result<(), Fail> {
     ] {
         let words = ["stm_bench", "run", "--policy", policy];
         let (status, held) = outcome(&rt, rt.alloc(), &words, text.as_str(), &[], 200000)?;
-        assert_eq!(rt; status, Status::Ok, "{policy}");
+        assert_eq!(rt; (policy, status), (policy, Status::Ok));
         assert!(rt; held.starts_with("report 1\nW "), "{policy}");
         assert!(rt; held.ends_with("\nmem 3 800\nmem 4 800\nend\n"), "{policy}");
     }

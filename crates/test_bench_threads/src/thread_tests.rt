@@ -109,7 +109,7 @@ fn keeps_the_sum_of_64_accounts(rt: HostRuntime) -> Result<(), Fail> {
         let text = moves(rt.alloc(), alg)?;
         let (status, held) = outcome(&rt, rt.alloc(), RUN, text.as_str(), &[], 2000000)?;
         assert_eq!(rt; status, Status::Ok);
-        assert_eq!(rt; sum_of(held.as_str()), 64000, "{alg}");
+        assert_eq!(rt; (alg, sum_of(held.as_str())), (alg, 64000));
     }
     Ok(())
 }

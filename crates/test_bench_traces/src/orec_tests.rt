@@ -226,8 +226,9 @@ fn ends_what_a_cut_schedule_left(rt: HostRuntime) -> Result<(), Fail> {
             let text = workload(rt.alloc(), changes, body.as_str())?;
             let step = &["stm_bench", "step"];
             let (status, held) = outcome(&rt, rt.alloc(), step, text.as_str(), &[], 4096)?;
-            assert_eq!(rt; status, Status::Ok, "{body}");
-            assert!(rt; held.ends_with("\nmem 0 5\nmem 1 6\nend\n"), "{body}");
+            let body = body.as_str();
+            let is_whole = held.ends_with("\nmem 0 5\nmem 1 6\nend\n");
+            assert_eq!(rt; (body, status, is_whole), (body, Status::Ok, true));
         }
     }
     Ok(())

@@ -157,9 +157,8 @@ fn what_scans_leave(rt: HostRuntime) -> Result<(), Fail> {
         let mut counts = WorkCounts::new();
         counts.see(seen);
         assert_eq!(rt;
-            is_right(words.as_slice(), &plan, 5, &counts),
-            is,
-            "{left:?} {seen}"
+            (left, seen, is_right(words.as_slice(), &plan, 5, &counts)),
+            (left, seen, is)
         );
         assert!(rt; !is_right(words.as_slice(), &plan, 4, &counts));
     }
@@ -331,7 +330,7 @@ const LINES: &[(&[&str], Option<Plan>)] = &[
 #[test]
 fn words_are_read(rt: HostRuntime) -> Result<(), Fail> {
     for &(words, plan) in LINES {
-        assert_eq!(rt; plan_of(words), plan, "{words:?}");
+        assert_eq!(rt; (words, plan_of(words)), (words, plan));
     }
     Ok(())
 }

@@ -70,9 +70,8 @@ fn compare(
         return Err(Fail::new("a text that is too long"));
     }
     assert_eq!(rt;
-        check(alloc, whole.as_slice())?.finding,
-        finding,
-        "{report:?}"
+        (report, check(alloc, whole.as_slice())?.finding),
+        (report, finding)
     );
     Ok(match finding {
         Finding::Yes => 0,
@@ -127,10 +126,11 @@ fn a_damaged_report_is_judged_as_by_a_plain_replay(rt: HostRuntime) -> Result<()
         text.push_str(lines(alloc, body)?.as_str())?;
         let report = lines(alloc, report)?;
         let scripts = scripts(alloc, text.as_str())?;
+        let report = report.as_str();
         let right = compare(&rt, alloc, &text, &scripts, report.as_bytes())?;
-        assert_eq!(rt; right, 0, "{report}");
+        assert_eq!(rt; (report, right), (report, 0));
         let counts = count_findings(&rt, alloc, &text, &scripts, report.as_bytes())?;
-        assert_eq!(rt; counts, found, "{report}");
+        assert_eq!(rt; (report, counts), (report, found));
     }
     Ok(())
 }

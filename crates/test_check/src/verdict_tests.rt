@@ -140,9 +140,8 @@ fn finds_the_first_fault(rt: HostRuntime) -> Result<(), Fail> {
     for (report, finding) in FINDINGS {
         let text = with_report(rt.alloc(), report)?;
         assert_eq!(rt;
-            check_short(rt.alloc(), text.as_bytes())?,
-            *finding,
-            "{report}"
+            (report, check_short(rt.alloc(), text.as_bytes())?),
+            (report, *finding)
         );
     }
     Ok(())
@@ -164,9 +163,8 @@ fn finds_what_stands_in_no_line_of_a_report(rt: HostRuntime) -> Result<(), Fail>
     ];
     for (text, finding) in table {
         assert_eq!(rt;
-            check(rt.alloc(), text.as_bytes())?.finding,
-            finding,
-            "{text}"
+            (text, check(rt.alloc(), text.as_bytes())?.finding),
+            (text, finding)
         );
     }
     let alone = Finding::Faulty { line: 21, code: 3 };
@@ -198,7 +196,7 @@ fn takes_no_wrong_byte(rt: HostRuntime) -> Result<(), Fail> {
         let mut text = WORKLOAD.as_bytes().to_vec(rt.alloc())?;
         text.extend_from_slice(report)?;
         let finding = check_short(rt.alloc(), text.as_slice())?;
-        assert_eq!(rt; finding, Finding::Faulty { line, code }, "{report:?}");
+        assert_eq!(rt; (report, finding), (report, Finding::Faulty { line, code }));
     }
     Ok(())
 }
@@ -248,7 +246,7 @@ fn judges_a_report(rt: HostRuntime) -> Result<(), Fail> {
     ];
     for (text, expected) in table {
         let verdict = verdict(rt.alloc(), WORKLOAD, text.as_bytes())?;
-        assert_eq!(rt; verdict, expected, "{text}");
+        assert_eq!(rt; (text, verdict), (text, expected));
     }
     let fault = match read_report(rt.alloc(), b"report 1\n") {
         Err(ParseError::Fault { line, code }) => Some((line, code)),
@@ -283,9 +281,8 @@ fn runs_every_kind_of_row(rt: HostRuntime) -> Result<(), Fail> {
         text.push_str(workload)?;
         text.push_str(report)?;
         assert_eq!(rt;
-            check(rt.alloc(), text.as_bytes())?.finding,
-            finding,
-            "{report}"
+            (report, check(rt.alloc(), text.as_bytes())?.finding),
+            (report, finding)
         );
     }
     Ok(())

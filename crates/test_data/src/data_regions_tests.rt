@@ -253,7 +253,7 @@ fn words_of_regions(rt: HostRuntime) -> Result<(), Fail> {
             region.has(9 + words),
             region.has(10 + words),
         );
-        assert_eq!(rt; has, (false, true, true, false), "{structure:?}");
+        assert_eq!(rt; (structure, has), (structure, (false, true, true, false)));
         assert!(rt; region.ends_by(10 + words) && !region.ends_by(9 + words));
         regions.push(region)?;
     }

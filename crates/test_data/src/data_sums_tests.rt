@@ -204,7 +204,7 @@ fn calls_reply_as_on_a_plain_map(rt: HostRuntime) -> Result<(), Fail> {
             calls,
             removes,
         )?;
-        assert_eq!(rt; agrees, true, "{at} {cells} {order:?}");
+        assert_eq!(rt; (at, cells, order, agrees), (at, cells, order, true));
     }
     Ok(())
 }

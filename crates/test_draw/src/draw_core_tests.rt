@@ -106,7 +106,7 @@ fn refuses_by_line(rt: HostRuntime) -> Result<(), Fail> {
     ];
     for (text, line) in &table {
         let read = read_page(rt.alloc(), text.as_bytes(), WHOLE);
-        assert_eq!(rt; fault(read), *line, "{text}");
+        assert_eq!(rt; (text, fault(read)), (text, *line));
     }
     Ok(())
 }
@@ -238,9 +238,8 @@ fn traces_follow_their_scripts(rt: HostRuntime) -> Result<(), Fail> {
         text.push_str(trace)?;
         text.push_str("report 1\nend\n")?;
         assert_eq!(rt;
-            unfit(read_page(rt.alloc(), text.as_bytes(), WHOLE)),
-            *line,
-            "{trace}"
+            (trace, unfit(read_page(rt.alloc(), text.as_bytes(), WHOLE))),
+            (trace, *line)
         );
     }
     Ok(())
@@ -329,7 +328,7 @@ fn lines_follow_those_of_their_callers(rt: HostRuntime) -> Result<(), Fail> {
         } else {
             Status::Refused { line: *line }
         };
-        assert_eq!(rt; said.status, status, "{trace}");
+        assert_eq!(rt; (trace, said.status), (trace, status));
         let why = said.why.unwrap_or(String::new(alloc));
         assert!(rt; why.contains(wanted), "{why}");
     }
@@ -485,7 +484,7 @@ fn each_end_has_its_status(rt: HostRuntime) -> Result<(), Fail> {
             draw(alloc, words, &mut source, &mut sink, &mut None),
             *status
         );
-        assert_eq!(rt; sink.held(), said.as_bytes(), "{said}");
+        assert_eq!(rt; (said, sink.held()), (said, said.as_bytes()));
     }
     Ok(())
 }
@@ -541,7 +540,7 @@ fn parts_begin_with_what_stands(rt: HostRuntime) -> Result<(), Fail> {
             let number = row.number;
             write!(told, "{number} ")?;
         }
-        assert_eq!(rt; told.as_str(), numbers, "{first}");
+        assert_eq!(rt; (first, told.as_str()), (first, numbers));
     }
     let drawn = drawn(
         rt.alloc(),
@@ -552,11 +551,21 @@ fn parts_begin_with_what_stands(rt: HostRuntime) -> Result<(), Fail> {
         },
     )?;
     let text = String::from_utf8(drawn.text)?;
-    assert!(rt; text.contains("<title>A trace</title>"));
     // the first lane is caller 1's
-    assert!(rt; text.contains("<text class='head words' x='246' y='28'>caller 1</text>"));
-    assert!(rt; text.contains("<text class='head words' x='462' y='28'>caller 2</text>"));
-    assert!(rt; !text.contains("caller 0"));
+    for (words, is_there) in [
+        ("<title>A trace</title>", true),
+        (
+            "<text class='head words' x='246' y='28'>caller 1</text>",
+            true,
+        ),
+        (
+            "<text class='head words' x='462' y='28'>caller 2</text>",
+            true,
+        ),
+        ("caller 0", false),
+    ] {
+        assert_eq!(rt; (words, text.contains(words)), (words, is_there));
+    }
     Ok(())
 }
 
@@ -585,47 +594,85 @@ fn long_numbers_are_shortened(rt: HostRuntime) -> Result<(), Fail> {
     Ok(())
 }
 
-/// More than 2,000 boxes are drawn only where lines are named.
-#[test]
-fn long_traces_are_drawn_by_parts(rt: HostRuntime) -> Result<(), Fail> {
-    let alloc = rt.alloc();
+/// A trace of an attempt that reads 1,999 times, and of what follows.
+fn long_trace(alloc: Global, rest: &str) -> Result<String, Fail> {
     let mut text = String::new(alloc);
     text.push_str("0 begin TML\n")?;
     for _ in 0..1999 {
         text.push_str("0 read 18446744073709551615\n")?;
     }
-    let mut short = text.clone()?;
-    short.push_str("report 1\nend\n")?;
-    let short = drawn(alloc, short.as_bytes(), WHOLE)?;
-    assert_eq!(rt; short.status, Status::Ok);
-    let short = String::from_utf8(short.text)?;
-    assert_eq!(rt; short.matches("<rect class='box ").count(), 2001);
-    assert_eq!(rt; short.matches(">caller 0</text>").count(), 50);
-    assert!(rt; !short.contains("class='turn "));
-    text.push_str("1 begin TML\nreport 1\nend\n")?;
-    let whole = drawn(alloc, text.as_bytes(), WHOLE)?;
-    assert_eq!(rt; whole.status, Status::NoPicture { boxes: 2001 });
-    assert_eq!(rt; whole.text.as_slice(), "boxes 2001\n".as_bytes());
-    let why = whole.why.unwrap_or(String::new(alloc));
+    text.push_str(rest)?;
+    Ok(text)
+}
+
+/// How many boxes a picture has, how often it names caller 0, and whether a line lies under rows of before its part.
+fn counted(picture: &str) -> (usize, usize, bool) {
+    (
+        picture.matches("<rect class='box ").count(),
+        picture.matches(">caller 0</text>").count(),
+        picture.contains("class='turn "),
+    )
+}
+
+#[test]
+fn boxes_are_drawn_up_to_2000(rt: HostRuntime) -> Result<(), Fail> {
+    let text = long_trace(rt.alloc(), "report 1\nend\n")?;
+    let said = drawn(rt.alloc(), text.as_bytes(), WHOLE)?;
+    let picture = String::from_utf8(said.text)?;
+    assert_eq!(rt;
+        (said.status, counted(picture.as_str())),
+        (Status::Ok, (2001, 50, false))
+    );
+    Ok(())
+}
+
+/// The last line of a trace that has more.
+const ONE_MORE: &str = "1 begin TML\nreport 1\nend\n";
+
+#[test]
+fn more_boxes_want_lines(rt: HostRuntime) -> Result<(), Fail> {
+    let text = long_trace(rt.alloc(), ONE_MORE)?;
+    let said = drawn(rt.alloc(), text.as_bytes(), WHOLE)?;
+    assert_eq!(rt;
+        (said.status, said.text.as_slice()),
+        (Status::NoPicture { boxes: 2001 }, "boxes 2001\n".as_bytes())
+    );
+    let why = said.why.unwrap_or(String::new(rt.alloc()));
     assert!(rt;
         why.contains("here stands `--lines A..B`, of lines 1 to 2001"),
         "{why}"
     );
-    let all = drawn(alloc, text.as_bytes(), lines(1, 3000))?;
-    assert_eq!(rt; all.status, Status::Ok);
-    let last = drawn(alloc, text.as_bytes(), lines(1500, 2001))?;
-    assert_eq!(rt; last.status, Status::Ok);
-    let last = String::from_utf8(last.text)?;
-    assert_eq!(rt; last.matches("<rect class='box ").count(), 504);
-    assert!(rt; last.contains("<title>Lines 1500 to 2001 of a trace</title>"));
-    assert!(rt; last.contains("class='turn "));
-    assert!(rt; last.contains("<title> read 18446744073709551615</title> read 184..615</text>"));
-    assert!(rt; last.contains("> begin TML</text>"));
+    Ok(())
+}
+
+#[test]
+fn named_lines_or_callers_are_drawn(rt: HostRuntime) -> Result<(), Fail> {
+    let text = long_trace(rt.alloc(), ONE_MORE)?;
     let second = Part {
         lines: None,
         callers: Some(Callers::none().with(1)),
     };
-    assert_eq!(rt; drawn(alloc, text.as_bytes(), second)?.status, Status::Ok);
+    for part in [lines(1, 3000), second] {
+        let said = drawn(rt.alloc(), text.as_bytes(), part)?;
+        assert_eq!(rt; said.status, Status::Ok);
+    }
+    Ok(())
+}
+
+#[test]
+fn the_last_lines_lie_under_what_stands(rt: HostRuntime) -> Result<(), Fail> {
+    let text = long_trace(rt.alloc(), ONE_MORE)?;
+    let said = drawn(rt.alloc(), text.as_bytes(), lines(1500, 2001))?;
+    let picture = String::from_utf8(said.text)?;
+    let (boxes, _, is_under) = counted(picture.as_str());
+    assert_eq!(rt; (said.status, boxes, is_under), (Status::Ok, 504, true));
+    for words in [
+        "<title>Lines 1500 to 2001 of a trace</title>",
+        "<title> read 18446744073709551615</title> read 184..615</text>",
+        "> begin TML</text>",
+    ] {
+        assert_eq!(rt; (words, picture.contains(words)), (words, true));
+    }
     Ok(())
 }
 

@@ -73,7 +73,7 @@ fn stored_pictures_are_drawn(rt: HostRuntime) -> Result<(), Fail> {
         let saying = drawn(alloc, text.as_bytes(), whole)?;
         assert_eq!(rt; saying.status, Status::Ok);
         let sum = hex::encode(alloc, Sha256::digest(saying.text.as_slice()))?;
-        assert_eq!(rt; sum.as_str(), picture.sum, "{}", picture.trace);
+        assert_eq!(rt; (picture.trace, sum.as_str()), (picture.trace, picture.sum));
     }
     Ok(())
 }

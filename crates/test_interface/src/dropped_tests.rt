@@ -50,20 +50,37 @@ fn finds(
     Some((taken, try_begin(second, stm)))
 }
 
-/// The same under an algorithm.
+/// The same under an algorithm, in a new memory.
 fn found_under(
     alloc: Global,
     alg: Alg,
     looks: bool,
 ) -> Result<Option<(CloseGate, Begin)>, NewError> {
     let (stm, mut descs) = Stm::new(alloc, PAIR, AnyMem)?;
-    let (Some(mut second), Some(first)) = (descs.pop(), descs.pop()) else {
+    let Some(mut second) = descs.pop() else {
         unreachable!()
     };
-    if !switch(&stm, &mut second, alg) {
-        return Ok(None);
+    let Some(first) = descs.pop() else {
+        unreachable!()
+    };
+    Ok(switches_and_finds(&stm, first, &mut second, alg, looks))
+}
+
+fn switches_and_finds(
+    stm: &Stm<AnyMem>,
+    first: Desc<AnyMem>,
+    second: &mut Desc<AnyMem>,
+    alg: Alg,
+    looks: bool,
+) -> Option<(CloseGate, Begin)>
+    requires first { IsOf first stm.now }
+    requires second { IsOf second.old stm.now }
+    requires idle { IsIdle (known first) × IsIdle (known second.old) }
+{
+    if !switch(stm, second, alg) {
+        return None;
     }
-    Ok(finds(&stm, first, &mut second, looks))
+    finds(stm, first, second, looks)
 }
 
 #[test]

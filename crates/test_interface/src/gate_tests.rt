@@ -210,7 +210,10 @@ fn callers(alloc: Global, count: usize) -> Result<Option<bool>, NewError> {
 
 fn one_dropped(alloc: Global) -> Result<Option<bool>, NewError> {
     let (stm, mut descs) = Stm::new(alloc, memory(2), AnyMem)?;
-    let (Some(mut second), Some(first)) = (descs.pop(), descs.pop()) else {
+    let Some(mut second) = descs.pop() else {
+        unreachable!()
+    };
+    let Some(first) = descs.pop() else {
         unreachable!()
     };
     Ok(waits_for_a_dropped_attempt(&stm, first, &mut second))

@@ -128,7 +128,10 @@ fn fill(alloc: Global) -> Result<([Option<bool>; 4], Vec<u64>), NewError> {
         marks: 0,
     };
     let (stm, mut descs) = Stm::new(alloc, config, Shelf { room: 3 })?;
-    let (Some(mut second), Some(mut first)) = (descs.pop(), descs.pop()) else {
+    let Some(mut second) = descs.pop() else {
+        unreachable!()
+    };
+    let Some(mut first) = descs.pop() else {
         unreachable!()
     };
     let one = put(&mut first, &stm, 0, 8);

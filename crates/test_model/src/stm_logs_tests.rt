@@ -15,7 +15,7 @@ fn a_find_looks_at_the_addresses_in_its_way(rt: HostRuntime) -> Result<(), Fail>
     }
     assert_eq!(rt; log.len(), 256);
     for (a, probes) in [(255, 1), (256, 1), (512, 257)] {
-        assert_eq!(rt; log.probes(a), probes, "at {a}");
+        assert_eq!(rt; (a, log.probes(a)), (a, probes));
     }
     Ok(())
 }
@@ -29,7 +29,7 @@ fn a_log_finds_its_addresses_below_and_above_eight_items(rt: HostRuntime) -> Res
     }
     assert_eq!(rt; log.len(), 16);
     for (a, probes) in [(3, 1), (35, 2), (67, 3), (99, 4), (4, 3), (6, 1)] {
-        assert_eq!(rt; log.probes(a), probes, "at {a}");
+        assert_eq!(rt; (a, log.probes(a)), (a, probes));
     }
     log.clear();
     for i in 0..12 {
@@ -53,15 +53,15 @@ fn a_log_finds_its_addresses_in_strides(rt: HostRuntime) -> Result<(), Fail> {
         writes.clear();
         for i in 0..1024 {
             let a = strided(i, stride);
-            assert_eq!(rt; reads.find(a), None, "{stride}: {a}");
-            assert_eq!(rt; writes.find(a), None, "{stride}: {a}");
+            assert_eq!(rt; (stride, a, reads.find(a)), (stride, a, None));
+            assert_eq!(rt; (stride, a, writes.find(a)), (stride, a, None));
             reads.push(a, i as u64);
             writes.push(a, i as u64);
         }
         for i in 0..1024 {
             let a = strided(i, stride);
-            assert_eq!(rt; reads.find(a), Some(i as u64), "{stride}: {a}");
-            assert_eq!(rt; writes.find(a), Some(i as u64), "{stride}: {a}");
+            assert_eq!(rt; (stride, a, reads.find(a)), (stride, a, Some(i as u64)));
+            assert_eq!(rt; (stride, a, writes.find(a)), (stride, a, Some(i as u64)));
         }
     }
     Ok(())
@@ -207,7 +207,7 @@ const PAIRS: &[(usize, usize, bool, u64)] = &[
 fn filters_meet_where_all_parts_do(rt: HostRuntime) {
     for (a, b, meets, common) in PAIRS {
         let found = compare(&filter_of(*a), &filter_of(*b));
-        assert_eq!(rt; found, (*meets, *common), "{a} and {b}");
+        assert_eq!(rt; (a, b, found), (a, b, (*meets, *common)));
     }
     let low = filled(5);
     let mut high = filled(6);

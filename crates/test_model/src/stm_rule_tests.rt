@@ -79,7 +79,10 @@ fn tell_and_learn(alloc: Global) -> Result<Option<(usize, usize)>, NewError> {
         ..SMALL
     };
     let (stm, mut descs) = Stm::new(alloc, config, AnyMem)?;
-    let (Some(mut second), Some(mut first)) = (descs.pop(), descs.pop()) else {
+    let Some(mut second) = descs.pop() else {
+        return Ok(None);
+    };
+    let Some(mut first) = descs.pop() else {
         return Ok(None);
     };
     Ok(Some(tells(&stm, &mut first, &mut second)))

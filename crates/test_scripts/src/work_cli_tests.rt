@@ -126,9 +126,8 @@ fn commands_are_read(rt: HostRuntime) -> Result<(), Fail> {
     for (line, wanted) in COMMANDS {
         let words = words(rt.alloc(), line)?;
         assert_eq!(rt;
-            read_words(rt.alloc(), words.as_slice())?,
-            Some(*wanted),
-            "{line}"
+            (line, read_words(rt.alloc(), words.as_slice())?),
+            (line, Some(*wanted))
         );
     }
     Ok(())
@@ -138,7 +137,10 @@ fn commands_are_read(rt: HostRuntime) -> Result<(), Fail> {
 fn other_lines_are_refused(rt: HostRuntime) -> Result<(), Fail> {
     for line in REFUSED {
         let words = words(rt.alloc(), line)?;
-        assert_eq!(rt; read_words(rt.alloc(), words.as_slice())?, None, "{line}");
+        assert_eq!(rt;
+            (line, read_words(rt.alloc(), words.as_slice())?),
+            (line, None)
+        );
     }
     assert_eq!(rt; read_words(rt.alloc(), &[])?, None);
     Ok(())
@@ -158,7 +160,10 @@ fn files_are_read(rt: HostRuntime) -> Result<(), Fail> {
     for (line, first, report) in FILES {
         let words = words(rt.alloc(), line)?;
         let files = read_files(rt.alloc(), words.as_slice())?;
-        assert_eq!(rt; (files.first, files.report), (first, report), "{line}");
+        assert_eq!(rt;
+            (line, (files.first, files.report)),
+            (line, (first, report))
+        );
     }
     Ok(())
 }
@@ -179,7 +184,7 @@ const HELPED: [(&str, Option<Topic>); 8] = [
 fn help_is_asked_for(rt: HostRuntime) -> Result<(), Fail> {
     for (line, topic) in HELPED {
         let words = words(rt.alloc(), line)?;
-        assert_eq!(rt; help_of(words.as_slice()), topic, "{line}");
+        assert_eq!(rt; (line, help_of(words.as_slice())), (line, topic));
     }
     Ok(())
 }

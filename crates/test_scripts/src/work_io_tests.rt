@@ -85,7 +85,7 @@ fn check_takes(rt: &impl Abort, source: &mut MemSource) {
     ];
     let mut buf = [0u8; 4];
     for (wanted, left) in takes {
-        assert_eq!(rt; source.take(&mut buf), wanted, "with {left:?} left then");
+        assert_eq!(rt; (left, source.take(&mut buf)), (left, wanted));
         assert_eq!(rt; source.left(), left);
     }
     assert_eq!(rt; buf, *b"efcd");
@@ -103,7 +103,7 @@ fn check_puts(rt: &impl Abort, sink: &mut MemSink) {
         (b"", Ok(0), b"abcxy"),
     ];
     for (piece, wanted, held) in puts {
-        assert_eq!(rt; sink.put(piece), wanted, "at {piece:?}");
+        assert_eq!(rt; (piece, sink.put(piece)), (piece, wanted));
         assert_eq!(rt; sink.held(), held);
     }
     assert_eq!(rt; sink.faults(), 3);
@@ -134,7 +134,7 @@ fn whole_texts_are_read_from_memory(rt: HostRuntime) -> Result<(), Fail> {
     for (limit, wanted) in PREFIXES {
         let mut source = source_of(rt.alloc(), b"abcdef", &[])?;
         let text = read_all(rt.alloc(), &mut source, *limit)?;
-        assert_eq!(rt; text.as_slice(), *wanted, "up to {limit}");
+        assert_eq!(rt; (limit, text.as_slice()), (limit, *wanted));
     }
     let mut source = source_of(rt.alloc(), b"abc", &[0])?;
     assert!(rt; fails(rt.alloc(), &mut source, 3));

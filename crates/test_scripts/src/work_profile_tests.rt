@@ -68,7 +68,7 @@ const EXPERT: &[([usize; 4], Alg)] = &[
 fn the_expert_goes_by_the_first_line_that_holds(rt: HostRuntime) -> Result<(), Fail> {
     for (counts, wanted) in EXPERT {
         let choice = chosen(rt.alloc(), Policy::Expert, *counts, Alg::OrecLazy)?;
-        assert_eq!(rt; choice, *wanted, "{counts:?}");
+        assert_eq!(rt; (counts, choice), (counts, *wanted));
     }
     Ok(())
 }
@@ -135,7 +135,7 @@ const NAMED: &[(&str, Policy)] = &[
 #[test]
 fn words_name_policies(rt: HostRuntime) {
     for (word, wanted) in NAMED {
-        assert_eq!(rt; word.parse(), Ok(*wanted), "{word}");
+        assert_eq!(rt; (word, word.parse()), (word, Ok(*wanted)));
     }
 }
 

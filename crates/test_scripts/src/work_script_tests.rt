@@ -48,7 +48,7 @@ fn check_outputs(
     let script = Script::new(SmallVec::from_slice(alloc, ops)?);
     let (replied, emitted) = outputs(alloc, &script, kind)?;
     let both = (replied.as_slice(), emitted.as_slice());
-    assert_eq!(rt; both, (replies, emits), "as {kind:?}");
+    assert_eq!(rt; (kind, both), (kind, (replies, emits)));
     Ok(())
 }
 

@@ -160,9 +160,8 @@ fn refuses_lines(rt: HostRuntime) -> Result<(), Fail> {
     for (line, other, code) in LINES_REFUSED {
         let text = with_line(rt.alloc(), *line, other)?;
         assert_eq!(rt;
-            fault(rt.alloc(), text.as_bytes(), Mode::Run),
-            Some((*line, *code)),
-            "{other}"
+            (other, fault(rt.alloc(), text.as_bytes(), Mode::Run)),
+            (other, Some((*line, *code)))
         );
     }
     Ok(())
@@ -206,9 +205,8 @@ fn keeps_plain_addresses_out_of_structures(rt: HostRuntime) -> Result<(), Fail> 
     for (operations, found) in ADDRESSES {
         let text = with_structures(rt.alloc(), operations)?;
         assert_eq!(rt;
-            fault(rt.alloc(), text.as_bytes(), Mode::Run),
-            *found,
-            "{operations}"
+            (operations, fault(rt.alloc(), text.as_bytes(), Mode::Run)),
+            (operations, *found)
         );
     }
     Ok(())
@@ -263,9 +261,8 @@ fn takes_each_algorithm(rt: HostRuntime) -> Result<(), Fail> {
     for alg in ALGORITHMS {
         let text = under(rt.alloc(), alg.name())?;
         assert_eq!(rt;
-            header_algorithm(rt.alloc(), text.as_bytes()),
-            Ok(alg),
-            "{alg:?}"
+            (alg, header_algorithm(rt.alloc(), text.as_bytes())),
+            (alg, Ok(alg))
         );
     }
     Ok(())
@@ -284,9 +281,8 @@ fn refuses_emits_that_come_too_early(rt: HostRuntime) -> Result<(), Fail> {
     for (body, line, code) in EMITS {
         let text = with_body(rt.alloc(), body)?;
         assert_eq!(rt;
-            fault(rt.alloc(), text.as_bytes(), Mode::Run),
-            Some((*line, *code)),
-            "{body}"
+            (body, fault(rt.alloc(), text.as_bytes(), Mode::Run)),
+            (body, Some((*line, *code)))
         );
     }
     Ok(())
@@ -306,9 +302,8 @@ fn refuses_ends(rt: HostRuntime) -> Result<(), Fail> {
     for (body, line, code) in ENDS {
         let text = with_body(rt.alloc(), body)?;
         assert_eq!(rt;
-            fault(rt.alloc(), text.as_bytes(), Mode::Run),
-            Some((*line, *code)),
-            "{body}"
+            (body, fault(rt.alloc(), text.as_bytes(), Mode::Run)),
+            (body, Some((*line, *code)))
         );
     }
     assert_eq!(rt; fault(rt.alloc(), b"", Mode::Run), Some((1, 3)));
@@ -338,14 +333,12 @@ fn refuses_schedules(rt: HostRuntime) -> Result<(), Fail> {
     for (body, line, code) in SCHEDULES {
         let text = with_body(rt.alloc(), body)?;
         assert_eq!(rt;
-            fault(rt.alloc(), text.as_bytes(), Mode::Step),
-            Some((*line, *code)),
-            "{body}"
+            (body, fault(rt.alloc(), text.as_bytes(), Mode::Step)),
+            (body, Some((*line, *code)))
         );
         assert_eq!(rt;
-            fault(rt.alloc(), text.as_bytes(), Mode::Run),
-            Some((11, 4)),
-            "{body}"
+            (body, fault(rt.alloc(), text.as_bytes(), Mode::Run)),
+            (body, Some((11, 4)))
         );
     }
     Ok(())
@@ -362,9 +355,8 @@ fn counts_callers_by_mode(rt: HostRuntime) -> Result<(), Fail> {
     for (line, found) in CALLERS {
         let text = with_line(rt.alloc(), 3, line)?;
         assert_eq!(rt;
-            fault(rt.alloc(), text.as_bytes(), Mode::Step),
-            *found,
-            "{line}"
+            (line, fault(rt.alloc(), text.as_bytes(), Mode::Step)),
+            (line, *found)
         );
     }
     Ok(())
@@ -391,9 +383,8 @@ fn takes_the_least_and_the_greatest(rt: HostRuntime) -> Result<(), Fail> {
     for (line, other) in LINES_TAKEN {
         let text = with_line(rt.alloc(), *line, other)?;
         assert_eq!(rt;
-            fault(rt.alloc(), text.as_bytes(), Mode::Run),
-            None,
-            "{other}"
+            (other, fault(rt.alloc(), text.as_bytes(), Mode::Run)),
+            (other, None)
         );
     }
     Ok(())
@@ -459,9 +450,13 @@ fn refuses_too_many(rt: HostRuntime) -> Result<(), Fail> {
     for (first, line, times, last, found) in MANY {
         let text = repeated(rt.alloc(), first, line, *times, last)?;
         assert_eq!(rt;
-            fault(rt.alloc(), text.as_bytes(), Mode::Run),
-            *found,
-            "{first}{line}{last}"
+            (
+                first,
+                line,
+                last,
+                fault(rt.alloc(), text.as_bytes(), Mode::Run)
+            ),
+            (first, line, last, *found)
         );
     }
     Ok(())
@@ -681,9 +676,9 @@ const PARTED: &[(&str, &str, usize, usize)] = &[
 fn parts_a_text(rt: HostRuntime) {
     for (text, wanted, above, below) in PARTED {
         let (head, rest) = part_at_done(text.as_bytes());
-        assert_eq!(rt; head, wanted.as_bytes(), "{text}");
-        assert_eq!(rt; count_lines(head), *above, "{text}");
-        assert_eq!(rt; count_lines(rest), *below, "{text}");
-        assert_eq!(rt; head.len() + rest.len(), text.len(), "{text}");
+        assert_eq!(rt; (text, head), (text, wanted.as_bytes()));
+        assert_eq!(rt; (text, count_lines(head)), (text, *above));
+        assert_eq!(rt; (text, count_lines(rest)), (text, *below));
+        assert_eq!(rt; (text, head.len() + rest.len()), (text, text.len()));
     }
 }

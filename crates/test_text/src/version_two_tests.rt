@@ -268,7 +268,10 @@ const SIZES: &[(&str, Option<(usize, u32)>)] = &[
 fn bounds_the_size_of_a_region(rt: HostRuntime) -> Result<(), Fail> {
     for (region, found) in SIZES {
         let text = with_regions(rt.alloc(), 1, region)?;
-        assert_eq!(rt; fault(rt.alloc(), text.as_bytes()), *found, "{region}");
+        assert_eq!(rt;
+            (region, fault(rt.alloc(), text.as_bytes())),
+            (region, *found)
+        );
     }
     Ok(())
 }
@@ -281,7 +284,7 @@ fn takes_sixteen_regions(rt: HostRuntime) -> Result<(), Fail> {
             regions.push_str(format!(in rt.alloc(); "region counter {i} 1\n")?.as_str())?;
         }
         let text = with_regions(rt.alloc(), count, regions.as_str())?;
-        assert_eq!(rt; fault(rt.alloc(), text.as_bytes()), found, "{text}");
+        assert_eq!(rt; (count, fault(rt.alloc(), text.as_bytes())), (count, found));
     }
     Ok(())
 }
@@ -388,9 +391,8 @@ fn keeps_version_one_to_its_limits(rt: HostRuntime) -> Result<(), Fail> {
         text.push_str(head)?;
         text.push_str(body)?;
         assert_eq!(rt;
-            fault(rt.alloc(), text.as_bytes()),
-            Some((*line, *code)),
-            "{body}"
+            (body, fault(rt.alloc(), text.as_bytes())),
+            (body, Some((*line, *code)))
         );
     }
     Ok(())

@@ -21,7 +21,7 @@ returns-in-Ok-close g c =
     let rest = c.pop-2.new.self.items in
     let told = subst (AllTold e 0) (c.push_reserved-2.ensures.items ∙ ap (λ l. l ++ reader ∷ []) c.push_reserved.ensures.items) h.told in
     let begun = closed-seen e 0 (rest ++ worker ∷ []) [] reader told in
-    let r0 = known c.in-Some-Some.reader in
+    let r0 = known c.in-Some.reader in
     let r1 = known c.atomically-one.new.desc in
     let r2 = known reader in
     let legal = subst (λ (k : Config). IsLegal IsFilling (replicate k.words 0) k.clock e.history) of h.legal in
@@ -33,6 +33,6 @@ returns-in-Ok-close g c =
       always = legal.good_always;
       words = subst (λ (k : Config). c.in-Ok-close.words.items ≡ memory_at e.clock e.history (replicate k.words 0)) of h.words;
       turn = r1.front;
-      one = seen (λ at. at ≤ r1.front) stm.config (number c.in-Some-Some.reader) c.atomically-one.result r0 r1 r2 e.history of (λ at _ le. le) c.atomically-one.ensures.took c.atomically-two.ensures.grew begun;
+      one = seen (λ at. at ≤ r1.front) stm.config (number c.in-Some.reader) c.atomically-one.result r0 r1 r2 e.history of (λ at _ le. le) c.atomically-one.ensures.took c.atomically-two.ensures.grew begun;
       two = seen (λ at. r1.front ≤ at) stm.config (number c.atomically-one.new.desc) c.atomically-two.result r1 r2 r2 e.history of (λ at ge _. ge) c.atomically-two.ensures.took (extends-refl r2) begun;
     }
